@@ -4,8 +4,10 @@ ghost use Rattle.std.specs.Prelude.{◌≤◌};
 
 use crate::check::{BareLines, CheckLines, Tally};
 use crate::draw::DrawLines;
+use crate::elf::ElfLine;
 use crate::fault::Fault;
 use crate::play::{Listener, each_line};
+use crate::reference::AnswerLines;
 use crate::repl::ReplLines;
 use crate::run::RunLines;
 use crate::screen::Screen;
@@ -17,6 +19,34 @@ use std::fs;
 use std::io::Read;
 use std::rt::Files;
 
+/// What is done with a file that is read from its beginning to its end.
+pub trait Reading {
+    /// Reads the file.
+    fn read<R: Read + Drop, S: Screen>(
+        &mut self,
+        alloc: Global,
+        reader: R,
+        screen: &mut S,
+    ) -> Result<(), Fault>;
+}
+
+/// The lines of a script are given to a listener.
+#[derive(Drop)]
+struct Played<'a, L> {
+    listener: &'a mut L,
+}
+
+impl<L: Listener> Reading for Played<'_, L> {
+    fn read<R: Read + Drop, S: Screen>(
+        &mut self,
+        alloc: Global,
+        reader: R,
+        screen: &mut S,
+    ) -> Result<(), Fault> {
+        each_line(alloc, reader, screen, self.listener)
+    }
+}
+
 /// Where scripts come from.
 #[derive(Drop)]
 pub struct Host<'a, F: Files, I: Read + Drop> {
@@ -27,46 +57,44 @@ pub struct Host<'a, F: Files, I: Read + Drop> {
 }
 
 impl<F: Files, I: Read + Drop> Host<'_, F, I> {
+    /// Gives a file to what reads it; `-` is standard input.
+    ///
+    /// # Errors
+    /// `File`: the file cannot be opened or read. Those of the reading.
+    fn give<S: Screen, T: Reading>(
+        &mut self,
+        screen: &mut S,
+        name: &str,
+        reading: &mut T,
+    ) -> Result<(), Fault> {
+        let alloc = self.alloc;
+        if name == "-" {
+            return match self.input.take() {
+                Some(input) => reading.read(alloc, input, screen),
+                None => reading.read(alloc, b"".as_slice(), screen),
+            };
+        }
+        let read = match fs::open(self.files, name) {
+            Ok(file) => reading.read(alloc, file, screen),
+            Err(error) => Err(Fault::Read(error)),
+        };
+        match read {
+            Err(Fault::Read(error)) => Err(Fault::File(String::from_str(alloc, name)?, error)),
+            read => read,
+        }
+    }
+
     /// Gives the lines of a script to a listener; `-` is standard input.
     ///
     /// # Errors
-    /// `File`: the script cannot be opened or read. Those of the listener.
+    /// Those of `give`.
     fn play<S: Screen, L: Listener>(
         &mut self,
         screen: &mut S,
         name: &str,
         listener: &mut L,
     ) -> Result<(), Fault> {
-        let alloc = self.alloc;
-        if name == "-" {
-            return match self.input.take() {
-                Some(input) => each_line(alloc, input, screen, listener),
-                None => each_line(alloc, b"".as_slice(), screen, listener),
-            };
-        }
-        let played = match fs::open(self.files, name) {
-            Ok(file) => each_line(alloc, file, screen, listener),
-            Err(error) => Err(Fault::Read(error)),
-        };
-        match played {
-            Err(Fault::Read(error)) => Err(Fault::File(String::from_str(alloc, name)?, error)),
-            played => played,
-        }
-    }
-
-    /// Does a task with one script.
-    fn do_one<S: Screen>(&mut self, screen: &mut S, task: Task, file: &str) -> Result<(), Fault> {
-        let alloc = self.alloc;
-        match task {
-            Task::Run => self.play(screen, file, &mut RunLines { alloc, file }),
-            Task::Bare => self.play(screen, file, &mut BareLines { alloc }),
-            Task::Show => self.play(screen, file, &mut ShowLines { alloc, file }),
-            Task::Trace(json) => self.play(screen, file, &mut TraceLines { alloc, file, json }),
-            Task::Check | Task::Draw(_) | Task::Repl => {
-                let mut listener = ReplLines::new(alloc, screen)?;
-                self.play(screen, "-", &mut listener)
-            }
-        }
+        self.give(screen, name, &mut Played { listener })
     }
 
     /// Compares the answers of scripts with those that their lines expect, and prints how many differ.
@@ -98,6 +126,15 @@ impl<F: Files, I: Read + Drop> Host<'_, F, I> {
         Ok(())
     }
 
+    /// Prints scripts without the answers that their lines expect.
+    fn bare<S: Screen>(&mut self, screen: &mut S, files: &[String]) -> Result<(), Fault> {
+        let alloc = self.alloc;
+        for file in files {
+            self.play(screen, file.as_str(), &mut BareLines { alloc })?;
+        }
+        Ok(())
+    }
+
     /// Writes what was drawn to a file, or to standard output for `-`.
     fn write<S: Screen>(&self, screen: &mut S, out: &str, text: &str) -> Result<(), Fault> {
         if out == "-" {
@@ -124,21 +161,20 @@ impl<F: Files, I: Read + Drop> Host<'_, F, I> {
 
     /// Does what a command line says.
     fn do_all<S: Screen>(&mut self, screen: &mut S, words: &Words) -> Result<(), Fault> {
+        let (alloc, file) = (self.alloc, words.file());
         match words.task {
+            Task::Run => self.play(screen, file, &mut RunLines { alloc, file }),
             Task::Check => self.check(screen, words.files.as_slice()),
-            Task::Repl => self.do_one(screen, Task::Repl, "-"),
-            Task::Draw(steps) => {
-                for file in words.files.as_slice() {
-                    self.draw(screen, steps, file.as_str(), words.out.as_str())?;
-                }
-                Ok(())
+            Task::Bare => self.bare(screen, words.files.as_slice()),
+            Task::Trace(json) => self.play(screen, file, &mut TraceLines { alloc, file, json }),
+            Task::Draw(steps) => self.draw(screen, steps, file, words.out.as_str()),
+            Task::Show => self.play(screen, file, &mut ShowLines { alloc, file }),
+            Task::Repl => {
+                let mut listener = ReplLines::new(alloc, screen)?;
+                self.play(screen, "-", &mut listener)
             }
-            task => {
-                for file in words.files.as_slice() {
-                    self.do_one(screen, task, file.as_str())?;
-                }
-                Ok(())
-            }
+            Task::Mmu(json) => self.give(screen, file, &mut AnswerLines { json }),
+            Task::Elf => self.give(screen, file, &mut ElfLine { file }),
         }
     }
 }

@@ -35,7 +35,7 @@ pub trait Listener {
 }
 
 /// Returns a line without its line feed.
-fn without_feed(line: &[u8]) -> &[u8] {
+pub fn without_feed(line: &[u8]) -> &[u8] {
     match line {
         [front @ .., b'\n'] => front,
         _ => line,
@@ -46,7 +46,7 @@ fn without_feed(line: &[u8]) -> &[u8] {
 ///
 /// # Errors
 /// `Read`: the reader failed. `Memory`: the host is out of memory.
-fn read_line<R: Read + Drop>(
+pub fn read_line<R: Read + Drop>(
     reader: &mut BufReader<R>,
     line: &mut Vec<u8>,
 ) -> Result<usize, Fault> {

@@ -21,6 +21,10 @@ pub enum Task {
     Show,
     /// Plays the lines of standard input one by one.
     Repl,
+    /// Answers lines that ask a reference MMU; by JSON objects, if so.
+    Mmu(bool),
+    /// Prints the line of a script that declares an ELF file.
+    Elf,
 }
 
 /// A parsed command line.
@@ -90,6 +94,33 @@ fn draw<'a>(alloc: Global) -> Result<Command<'a>, AllocError> {
         .arg(steps)
 }
 
+/// Returns the word `mmu`.
+fn mmu<'a>(alloc: Global) -> Result<Command<'a>, AllocError> {
+    let json = Arg::new(alloc, "json")
+        .long("json")
+        .action(ArgAction::SetTrue)
+        .help("Answer by JSON objects");
+    let file = Arg::new(alloc, "FILE")
+        .required(true)
+        .action(ArgAction::Set)
+        .help("The lines; - is standard input");
+    Command::new(alloc, "mmu")
+        .about("Answer lines that ask a reference MMU: which outcomes may an access have")
+        .arg(file)?
+        .arg(json)
+}
+
+/// Returns the word `elf`.
+fn elf<'a>(alloc: Global) -> Result<Command<'a>, AllocError> {
+    let file = Arg::new(alloc, "FILE")
+        .required(true)
+        .action(ArgAction::Set)
+        .help("The ELF file; - is standard input");
+    Command::new(alloc, "elf")
+        .about("Print the line of a script that declares an ELF file")
+        .arg(file)
+}
+
 /// Returns the form of the command line.
 fn command<'a>(alloc: Global) -> Result<Command<'a>, AllocError> {
     let run = Command::new(alloc, "run")
@@ -111,7 +142,9 @@ fn command<'a>(alloc: Global) -> Result<Command<'a>, AllocError> {
         .subcommand(trace(alloc)?)?
         .subcommand(draw(alloc)?)?
         .subcommand(show)?
-        .subcommand(repl)
+        .subcommand(repl)?
+        .subcommand(mmu(alloc)?)?
+        .subcommand(elf(alloc)?)
 }
 
 /// Returns the task of a word, with its flags.
@@ -123,11 +156,21 @@ fn task_of(name: &str, given: &ArgMatches<'_>) -> Task {
         "trace" => Task::Trace(given.get_flag("json")),
         "draw" => Task::Draw(given.get_flag("steps")),
         "show" => Task::Show,
+        "mmu" => Task::Mmu(given.get_flag("json")),
+        "elf" => Task::Elf,
         _ => Task::Repl,
     }
 }
 
 impl Words {
+    /// Returns the path of the only script, or of the first; `-` if there is none.
+    pub fn file(&self) -> &str {
+        match self.files.first() {
+            Some(file) => file.as_str(),
+            None => "-",
+        }
+    }
+
     /// Returns the parsed command line for its words, the program's name first.
     ///
     /// # Errors

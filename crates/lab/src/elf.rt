@@ -1,0 +1,52 @@
+// `ElfLine`: reads an ELF file and prints the line of a script that declares it.
+
+use crate::fault::Fault;
+use crate::lab::Reading;
+use crate::screen::Screen;
+use std::alloc::Global;
+use std::io;
+use std::io::Read;
+
+/// The most bytes of an image.
+const LONGEST_IMAGE: u64 = 1 << 20;
+
+/// Prints the line that declares an ELF file.
+#[derive(Drop)]
+pub struct ElfLine<'a> {
+    /// The path of the file, for what is wrong with it.
+    pub file: &'a str,
+}
+
+impl Reading for ElfLine<'_> {
+    /// Prints `elf HEX`, or `elf -` for a file without a byte.
+    ///
+    /// # Errors
+    /// `Told`: the file has more bytes than an image may have; that was told. `Read`: the reader failed. `Io`: printing failed. `Memory`:
+    /// the host is out of memory.
+    fn read<R: Read + Drop, S: Screen>(
+        &mut self,
+        alloc: Global,
+        reader: R,
+        screen: &mut S,
+    ) -> Result<(), Fault> {
+        let mut bytes = Vec::new(alloc);
+        let read = reader.take(LONGEST_IMAGE + 1).read_to_end(&mut bytes);
+        read.map_err(|error| match error.kind() {
+            io::ErrorKind::OutOfMemory => Fault::Memory,
+            _ => Fault::Read(error),
+        })?;
+        if bytes.len() as u64 > LONGEST_IMAGE {
+            let file = self.file;
+            screen.err(format!(in alloc;
+                "{file}: more than {LONGEST_IMAGE} bytes, which is the most that an image may have; strip the file\n"
+            )?.as_str())?;
+            return Err(Fault::Told);
+        }
+        let mut line = hex::encode(alloc, bytes.as_slice())?;
+        if line.is_empty() {
+            line.push('-')?;
+        }
+        let text = line.as_str();
+        screen.out(format!(in alloc; "elf {text}\n")?.as_str())
+    }
+}

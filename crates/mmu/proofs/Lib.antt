@@ -1,0 +1,3 @@
+pub mod More
+pub mod Filled
+pub mod Inside

@@ -1,0 +1,30 @@
+-- A sparse memory as contracts see it: the 64-bit word with each number, which is physical address / 8 (`Numbered`). What a
+-- new run adds (`added`), and how a walk reads it (`memory_of`, `extent_of`).
+use Rattle.std.specs.Prelude.{ℕ, ◌+◌, ◌*◌, ◌^◌, Bool, true, false, ◌&&◌, nat_le, nat_lt, Option, None, Some, is_some, if◌then◌else◌}
+use Rattle.table_walk.specs.Memory.{Extent, Memory}
+use Rattle.mmu.specs.declared.run.Run.{Run}
+
+-- the word with each number; None outside the memory
+abbrev pub Numbered : Type 0
+Numbered = ℕ → Option ℕ
+
+-- a number is in a run
+abbrev pub is_in : Run → ℕ → Bool
+is_in r n = nat_le r.first n && nat_lt n r.end
+
+-- a word that was written, or zero in a run
+abbrev pub or_zero : Bool → Option ℕ → Option ℕ
+or_zero in_run (Some w) = Some w
+or_zero true None = Some 0
+or_zero false None = None
+
+-- what a run of zeros adds: words that were there stay
+abbrev pub added : Numbered → ℕ → ℕ → Numbered
+added m first end n = or_zero (nat_le first n && nat_lt n end) (m n)
+
+-- the memory as a walk reads it. A physical address has 56 bits, so a physical page number 44 (the standard, 4.4.1 and 4.5.1)
+abbrev pub memory_of : Numbered → Memory
+memory_of m ppn index = if nat_lt ppn (2 ^ 44) then m (ppn * 512 + index) else None
+
+abbrev pub extent_of : Numbered → Extent
+extent_of m ppn index = is_some (memory_of m ppn index)

@@ -1,0 +1,20 @@
+// `Run`: a struct, the word numbers from one to another.
+
+ghost use Rattle.std.specs.Prelude.{◌≡◌};
+ghost use Rattle.mmu.specs.Words.{is_in};
+
+/// The numbers from `first` on that are below `end`. A word's number is its physical address / 8.
+#[derive(Clone, Copy, PartialEq, Eq, Debug)]
+pub(crate) struct Run {
+    pub first: u64,
+    pub end: u64,
+}
+
+impl Run {
+    /// Whether a number is in the run.
+    pub fn has(&self, number: u64) -> bool
+        ensures { result ≡ is_in self.now number }
+    {
+        self.first <= number && number < self.end
+    }
+}

@@ -1,0 +1,282 @@
+// `read_line`: what a line asks for, or what is wrong with it.
+
+ghost use Rattle.std.specs.Prelude.{◌≡◌, ◌+◌, ◌<◌, ◌≤◌, ◌%◌, ◌^◌, IfOk, IfSome, Some, length, slice_get};
+ghost use Rattle.mmu.specs.Outcomes.{bytes};
+ghost use Rattle.mmu_lines.specs.Lines.{Begins, IsRequest, NumberAt, PerhapsAt, access_word, counts, mode_text, word_text};
+ghost use Rattle.mmu_lines.specs.declared.words.Word.TheVariants as words;
+ghost use Rattle.process_model.specs.Lines.{fields_of};
+
+use crate::requests::Request;
+use crate::words::{ALL, Word};
+use fault_texts::{Mistake, Place, field_at, field_count, quoted, wrong_number};
+use mmu::Width;
+use script_reader::number;
+use std::alloc::{AllocError, Global};
+use sv39_entry::{Access, Mode, Satp, Va};
+
+/// The least number that is no physical address: they have 56 bits (RISC-V Privileged Architecture 20211203, 4.4.1 and 4.5.1).
+const PHYSICAL_LIMIT: u64 = 1 << 56;
+
+/// Why a line is no request.
+#[derive(Debug, Drop)]
+pub enum Refusal {
+    /// It is faulty.
+    Mistake(Mistake),
+    /// The host is out of memory.
+    Memory,
+}
+
+impl From<AllocError> for Refusal {
+    fn from(_e: AllocError) -> Refusal {
+        Refusal::Memory
+    }
+}
+
+/// A line that begins with a word.
+#[derive(Clone, Copy)]
+struct Fields<'a> {
+    alloc: Global,
+    line: &'a [u8],
+    word: Word,
+}
+
+impl<'a> Fields<'a> {
+    /// The mistake that there are too few fields, or too many.
+    fn wrong_count(&self, word: &[u8]) -> Refusal {
+        let Ok(quote) = quoted(self.alloc, word) else {
+            return Refusal::Memory;
+        };
+        let (fields, count) = (self.word.fields(), field_count(self.line).saturating_sub(1));
+        let plural = if count == 1 { "" } else { "s" };
+        match format!(in self.alloc; "{quote} takes {fields}, and has {count} field{plural}") {
+            Ok(text) => Refusal::Mistake(Mistake::of_line(text)),
+            Err(_) => Refusal::Memory,
+        }
+    }
+
+    /// Returns a field, the word being number 0.
+    fn field(&self, n: usize) -> Result<Place<'a>, Refusal>
+        ensures { IfOk result (λ place. slice_get (fields_of self.now.line.now) n ≡ Some place.bytes.now) }
+    {
+        match field_at(self.line, n) {
+            Some(place) => Ok(place),
+            None => Err(self.wrong_count(b"line")),
+        }
+    }
+
+    /// Returns the number in a field.
+    fn number(&self, n: usize) -> Result<u64, Refusal>
+        ensures { IfOk result (NumberAt (fields_of self.now.line.now) n) }
+    {
+        let place = self.field(n)?;
+        match number(place.bytes) {
+            Some(value) => Ok(value),
+            None => Err(Refusal::Mistake(Mistake::at(
+                place.column,
+                wrong_number(self.alloc, place.bytes)?,
+            ))),
+        }
+    }
+
+    /// Returns the number in a field, `None` for `-` or no field.
+    fn number_or_none(&self, n: usize) -> Result<Option<u64>, Refusal>
+        ensures { IfOk result (PerhapsAt (fields_of self.now.line.now) n) }
+    {
+        let Some(place) = field_at(self.line, n) else {
+            return Ok(None);
+        };
+        match place.bytes {
+            b"-" => Ok(None),
+            _ => Ok(Some(self.number(n)?)),
+        }
+    }
+
+    /// The mistake of a field of which a text says what it must be.
+    fn wrong(&self, n: usize, must: &str) -> Refusal {
+        let Some(place) = field_at(self.line, n) else {
+            return self.wrong_count(b"line");
+        };
+        let Ok(quote) = quoted(self.alloc, place.bytes) else {
+            return Refusal::Memory;
+        };
+        match format!(in self.alloc; "{must}, not {quote}") {
+            Ok(text) => Refusal::Mistake(Mistake::at(place.column, text)),
+            Err(_) => Refusal::Memory,
+        }
+    }
+
+    /// Returns the physical address in the first field.
+    fn physical(&self) -> Result<u64, Refusal>
+        ensures number { IfOk result (NumberAt (fields_of self.now.line.now) 1) }
+        ensures aligned { IfOk result (λ a. a % 8 ≡ 0) }
+        ensures low { IfOk result (λ a. a < 2 ^ 56) }
+    {
+        let address = self.number(1)?;
+        if address % 8 != 0 {
+            return Err(self.wrong(1, "PA is a multiple of 8"));
+        }
+        if address >= PHYSICAL_LIMIT {
+            return Err(self.wrong(1, "PA is below 2^56"));
+        }
+        Ok(address)
+    }
+
+    fn ram(&self) -> Result<Request, Refusal>
+        requires { Begins (fields_of self.now.line.now) words.Ram 3 }
+        ensures { IfOk result (IsRequest (fields_of self.now.line.now)) }
+    {
+        let address = self.physical()?;
+        let length = self.number(2)?;
+        if length % 8 != 0 {
+            return Err(self.wrong(2, "LENGTH is a multiple of 8"));
+        }
+        if length > PHYSICAL_LIMIT - address {
+            return Err(self.wrong(2, "LENGTH is at most 2^56 - PA"));
+        }
+        let end = address + length;
+        Ok(Request::Ram { address, end })
+    }
+
+    fn mem(&self) -> Result<Request, Refusal>
+        requires { Begins (fields_of self.now.line.now) words.Mem 3 }
+        ensures { IfOk result (IsRequest (fields_of self.now.line.now)) }
+    {
+        let address = self.physical()?;
+        let word = self.number(2)?;
+        Ok(Request::Mem { address, word })
+    }
+
+    fn satp(&self) -> Result<Request, Refusal>
+        requires { Begins (fields_of self.now.line.now) words.Satp 2 }
+        ensures { IfOk result (IsRequest (fields_of self.now.line.now)) }
+    {
+        let satp = Satp::from_word(self.number(1)?);
+        if satp.mode() == 0 && satp.to_word() != 0 {
+            return Err(self.wrong(1, "with MODE 0 (Bare) the WORD of satp is 0"));
+        }
+        Ok(Request::Satp(satp))
+    }
+
+    fn width(&self, access: Access) -> Result<Width, Refusal>
+        ensures { IfOk result (λ w. NumberAt (fields_of self.now.line.now) 2 (bytes w)) }
+    {
+        let is_fetch = access == Access::Fetch;
+        match self.number(2)? {
+            2 => Ok(Width::Two),
+            4 => Ok(Width::Four),
+            1 if !is_fetch => Ok(Width::One),
+            8 if !is_fetch => Ok(Width::Eight),
+            _ if is_fetch => Err(self.wrong(2, "WIDTH of a fetch is 2 or 4")),
+            _ => Err(self.wrong(2, "WIDTH is 1, 2, 4 or 8")),
+        }
+    }
+
+    fn mode(&self) -> Result<Mode, Refusal>
+        ensures { IfOk result (λ m. slice_get (fields_of self.now.line.now) 3 ≡ Some (mode_text m)) }
+    {
+        let place = self.field(3)?;
+        match place.bytes {
+            b"U" => Ok(Mode::User),
+            b"S" => Ok(Mode::Supervisor),
+            _ => Err(self.wrong(3, "MODE is U (user) or S (supervisor)")),
+        }
+    }
+
+    fn access(&self, access: Access) -> Result<Request, Refusal>
+        requires { Begins (fields_of self.now.line.now) (access_word access) 4 }
+        ensures { IfOk result (IsRequest (fields_of self.now.line.now)) }
+    {
+        let va = Va(self.number(1)?);
+        let width = self.width(access)?;
+        let mode = self.mode()?;
+        Ok(Request::Access {
+            access,
+            va,
+            width,
+            mode,
+        })
+    }
+
+    fn fill(&self) -> Result<Request, Refusal>
+        requires { Begins (fields_of self.now.line.now) words.Fill 2 }
+        ensures { IfOk result (IsRequest (fields_of self.now.line.now)) }
+    {
+        Ok(Request::Fill(Va(self.number(1)?)))
+    }
+
+    fn lookup(&self) -> Result<Request, Refusal>
+        requires { Begins (fields_of self.now.line.now) words.Lookup 2 }
+        ensures { IfOk result (IsRequest (fields_of self.now.line.now)) }
+    {
+        Ok(Request::Lookup(Va(self.number(1)?)))
+    }
+
+    fn sfence(&self) -> Result<Request, Refusal>
+        requires word { slice_get (fields_of self.now.line.now) 0 ≡ Some (word_text words.Sfence) }
+        requires count { length (fields_of self.now.line.now) ≤ 3 }
+        ensures { IfOk result (IsRequest (fields_of self.now.line.now)) }
+    {
+        let va = match self.number_or_none(1)? {
+            Some(address) => Some(Va(address)),
+            None => None,
+        };
+        let asid = match self.number_or_none(2)? {
+            None => None,
+            Some(asid) if asid < 1 << 16 => Some(asid as u16),
+            Some(_) => return Err(self.wrong(2, "ASID is below 65536")),
+        };
+        Ok(Request::Sfence { va, asid })
+    }
+
+    fn request(&self) -> Result<Request, Refusal>
+        requires word { slice_get (fields_of self.now.line.now) 0 ≡ Some (word_text self.now.word) }
+        requires least { (counts self.now.word).0 + 1 ≤ length (fields_of self.now.line.now) }
+        requires most { length (fields_of self.now.line.now) ≤ (counts self.now.word).1 + 1 }
+        ensures { IfOk result (IsRequest (fields_of self.now.line.now)) }
+    {
+        match self.word {
+            Word::Reset => Ok(Request::Reset),
+            Word::Ram => self.ram(),
+            Word::Mem => self.mem(),
+            Word::Satp => self.satp(),
+            Word::Fetch => self.access(Access::Fetch),
+            Word::Load => self.access(Access::Load),
+            Word::Store => self.access(Access::Store),
+            Word::Fill => self.fill(),
+            Word::Sfence => self.sfence(),
+            Word::Lookup => self.lookup(),
+        }
+    }
+}
+
+/// The mistake of a first field that is no word.
+fn unknown_word(alloc: Global, place: Place<'_>) -> Result<Mistake, AllocError> {
+    let quote = quoted(alloc, place.bytes)?;
+    let text = format!(in alloc; "no line begins with {quote}: the words are {ALL}")?;
+    Ok(Mistake::at(place.column, text))
+}
+
+/// Returns what a line asks for; `None` if it is empty or a comment, which begins with `#`.
+///
+/// # Errors
+/// `Mistake`: the line is faulty. `Memory`: the host is out of memory.
+pub fn read_line(alloc: Global, line: &[u8]) -> Result<Option<Request>, Refusal>
+    ensures { IfOk result (λ request. IfSome request (IsRequest (fields_of line.now))) }
+{
+    let Some(place) = field_at(line, 0) else {
+        return Ok(None);
+    };
+    if place.bytes.starts_with(b"#") {
+        return Ok(None);
+    }
+    let Some(word) = Word::of(place.bytes) else {
+        return Err(Refusal::Mistake(unknown_word(alloc, place)?));
+    };
+    let fields = Fields { alloc, line, word };
+    let count = field_count(line);
+    let (least, most) = word.counts();
+    if count < least + 1 || count > most + 1 {
+        return Err(fields.wrong_count(place.bytes));
+    }
+    Ok(Some(fields.request()?))
+}
