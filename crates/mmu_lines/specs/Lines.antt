@@ -1,5 +1,5 @@
 -- Which request the fields of a line make (`IsRequest`).
-use Rattle.std.specs.Prelude.{◌≡◌, ◌⊎◌, ℕ, ◌+◌, ◌<◌, ◌≤◌, ◌%◌, ◌^◌, codes, Option, None, Some, List, length, slice_get}
+use Rattle.std.specs.Prelude.{◌≡◌, ◌⊎◌, ℕ, ◌+◌, ◌<◌, ◌≤◌, ◌%◌, ◌^◌, codes, Option, None, Some, List, ◌++◌, length, slice_get}
 use Rattle.process_model.specs.Numbers.{number_of}
 use Rattle.sv39_entry.specs.declared.access.Access.{Access}
 use Rattle.sv39_entry.specs.declared.access.Access.TheVariants as access
@@ -73,3 +73,7 @@ IsRequest fs (request.Access a va w m) = Begins fs (access_word a) 4 × NumberAt
 IsRequest fs (request.Fill va) = Begins fs word.Fill 2 × NumberAt fs 1 va.0
 IsRequest fs (request.Sfence va asid) = (slice_get fs 0 ≡ Some (word_text word.Sfence)) × (length fs ≤ 3) × PerhapsAt fs 1 (address_of va) × PerhapsAt fs 2 asid
 IsRequest fs (request.Lookup va) = Begins fs word.Lookup 2 × NumberAt fs 1 va.0
+
+-- a line without a field, or a comment: its first field begins with a number sign
+abbrev pub IsNothing : List (List ℕ) → Type 0
+IsNothing fs = (slice_get fs 0 ≡ None) ⊎ ((f rest : List ℕ) × (slice_get fs 0 ≡ Some f) × (f ≡ codes "#" ++ rest))

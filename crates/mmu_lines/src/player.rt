@@ -1,6 +1,7 @@
 // `MmuPlayer`: a struct, a reference MMU that answers lines.
 
 ghost use Rattle.std.specs.Prelude.{◌≡◌, IfOk, MatchOption, map};
+ghost use Rattle.mmu_lines.specs.Lines.{IsNothing};
 ghost use Rattle.mmu_lines.specs.Outcomes.{outcome_line};
 ghost use Rattle.mmu_lines.specs.Requests.{IsAnswer, IsDone, numbered_line};
 ghost use Rattle.process_model.specs.Lines.{fields_of};
@@ -107,7 +108,7 @@ impl MmuPlayer {
     /// # Errors
     /// `AllocError`: the host is out of memory.
     pub fn line(&mut self, line: &[u8]) -> Result<Option<Answer>, AllocError>
-        ensures { IfOk result (λ answer. MatchOption answer (self.new.unit ≡ self.old.unit) (IsAnswer (fields_of line.now) self.old.unit self.new.unit)) }
+        ensures { IfOk result (λ answer. MatchOption answer (IsNothing (fields_of line.now) × (self.new.unit ≡ self.old.unit)) (IsAnswer (fields_of line.now) self.old.unit self.new.unit)) }
     {
         match read_line(self.alloc, line) {
             Ok(Some(request)) => Ok(Some(self.request(request)?)),

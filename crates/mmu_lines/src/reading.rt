@@ -1,8 +1,8 @@
 // `read_line`: what a line asks for, or what is wrong with it.
 
-ghost use Rattle.std.specs.Prelude.{◌≡◌, ◌+◌, ◌<◌, ◌≤◌, ◌%◌, ◌^◌, IfOk, IfSome, Some, length, slice_get};
+ghost use Rattle.std.specs.Prelude.{◌≡◌, ◌+◌, ◌<◌, ◌≤◌, ◌%◌, ◌^◌, IfNone, IfOk, IfSome, Some, length, slice_get};
 ghost use Rattle.mmu.specs.Outcomes.{bytes};
-ghost use Rattle.mmu_lines.specs.Lines.{Begins, IsRequest, NumberAt, PerhapsAt, access_word, counts, mode_text, word_text};
+ghost use Rattle.mmu_lines.specs.Lines.{Begins, IsNothing, IsRequest, NumberAt, PerhapsAt, access_word, counts, mode_text, word_text};
 ghost use Rattle.mmu_lines.specs.declared.words.Word.TheVariants as words;
 ghost use Rattle.process_model.specs.Lines.{fields_of};
 
@@ -261,12 +261,13 @@ fn unknown_word(alloc: Global, place: Place<'_>) -> Result<Mistake, AllocError> 
 /// # Errors
 /// `Mistake`: the line is faulty. `Memory`: the host is out of memory.
 pub fn read_line(alloc: Global, line: &[u8]) -> Result<Option<Request>, Refusal>
-    ensures { IfOk result (λ request. IfSome request (IsRequest (fields_of line.now))) }
+    ensures request { IfOk result (λ request. IfSome request (IsRequest (fields_of line.now))) }
+    ensures nothing { IfOk result (λ request. IfNone request (IsNothing (fields_of line.now))) }
 {
     let Some(place) = field_at(line, 0) else {
         return Ok(None);
     };
-    if place.bytes.starts_with(b"#") {
+    if let [b'#', ..] = place.bytes {
         return Ok(None);
     }
     let Some(word) = Word::of(place.bytes) else {

@@ -1,7 +1,8 @@
 // `Word`: an enum, the first field of a line, with its text, how many fields may follow it, and their names.
 
-ghost use Rattle.std.specs.Prelude.{◌≡◌, IfSome};
+ghost use Rattle.std.specs.Prelude.{◌≡◌, IfNone, IfSome};
 ghost use Rattle.mmu_lines.specs.Lines.{counts, word_text};
+ghost use Rattle.mmu_lines.specs.declared.words.Word.{Word};
 
 /// The first field of a line.
 #[derive(Clone, Copy, PartialEq, Eq, Debug)]
@@ -24,7 +25,8 @@ pub const ALL: &str = "ram, mem, satp, fetch, load, store, fill, sfence, lookup,
 impl Word {
     /// Returns the word with a text; `None` if there is none.
     pub fn of(text: &[u8]) -> Option<Word>
-        ensures { IfSome result (λ w. word_text w ≡ text.now) }
+        ensures text { IfSome result (λ w. word_text w ≡ text.now) }
+        ensures none { IfNone result ((w : Word) → word_text w ≡ text.now → ⊥) }
     {
         match text {
             b"load" => Some(Word::Load),
