@@ -1,11 +1,6 @@
 # A segment of variables with DATA bytes in the file and ZEROS bytes after them: it ends at the end of a page, just before it or
 # just past it. No byte in the file is zero.
-    .globl main
-    .text
-main:
-    li a0, 0
-    li a7, 2
-    ecall
+#include "code.S"
 
     .data
     .set number, 0
