@@ -1,6 +1,6 @@
 -- Lemmas for the reader's fast path: the command that it makes of a word and the fields after it is the model's
 -- (`SaysCommand`), and a line whose command it adds to a draft (what the lines so far declare and command) is added as the
--- model adds it.
+-- model adds it. `said` and `no_comment` serve files for threads too.
 use Rattle.std.proofs.Common.{◌≡◌, ℕ, suc, ◌≤◌, List, [], ◌∷◌, ◌++◌, length, Option, None, Some, Ok, false, true, eqb, refl, sym, ap, ◌∙◌, append_assoc, inl, inr, subst}
 use Rattle.std.specs.Prelude.{◌&&◌, Err, IfSome, OnOk, Result, codes, is_some, nat_le, nat_lt}
 use Rattle.std.proofs.lemmas.Bool.{and_parts, cases_Bool, eq-eqb, eqb-true, le-leb}
@@ -39,7 +39,7 @@ said_from line (k ∷ ks) (v ∷ vs) so_far r =
     let n : IsNext line r.0 k v = r.1 in
     rw (n.fields, n.value) (said_from r.0 ks vs (so_far ++ v ∷ []) r.2 ∙ ap (λ (xs : List FieldValue). Ok xs) (simp append_assoc))
 
-said : (r : Row) (line : List ℕ) (ks : List FieldKind) (vs : List FieldValue) → ReadsFields line ks vs → kinds_for r.kinds r.tail (length ks) ≡ ks → values_of r (fields_of line) ≡ Ok vs
+pub said : (r : Row) (line : List ℕ) (ks : List FieldKind) (vs : List FieldValue) → ReadsFields line ks vs → kinds_for r.kinds r.tail (length ks) ≡ ks → values_of r (fields_of line) ≡ Ok vs
 said r line ks vs reads kinds =
     let n = counted line ks vs reads in
     rw (n, kinds, eq-eqb (length ks) (length ks) refl) (said_from line ks vs [] reads)
@@ -85,12 +85,12 @@ says_copy_in line m n h a k short x y z =
 none_some : (r : Row) → None ≡ Some r → ⊥
 none_some r e = cc
 
--- a word is no comment
-no_comment : (text : List ℕ) (r : Row) → row_among command_table text ≡ Some r → is_comment text ≡ false
-no_comment [] r e = refl
-no_comment (b ∷ text) r e =
+-- a word of a table is no comment, if no word of the table begins with `#`
+pub no_comment : (table : List Row) → ((text : List ℕ) → row_among table (35 ∷ text) ≡ None) → (text : List ℕ) (r : Row) → row_among table text ≡ Some r → is_comment text ≡ false
+no_comment table clear [] r e = refl
+no_comment table clear (b ∷ text) r e =
     elim (cases_Bool (eqb b 35)) [
-      | inl is ↦ absurd (none_some r (subst (λ (n : ℕ). row_among command_table (n ∷ text) ≡ Some r) (eqb-true b 35 is) e))
+      | inl is ↦ absurd (none_some r (sym (clear text) ∙ subst (λ (n : ℕ). row_among table (n ∷ text) ≡ Some r) (eqb-true b 35 is) e))
       | inr isnt ↦ isnt
     ]
 
@@ -107,7 +107,7 @@ pub line_says : (s : Draft) (line text fields : List ℕ) (c : Command) → fiel
 unfolding line_of
 line_says s line text fields c cut says takes short ascii =
     let parts = and_parts (is_some s.config) (nat_lt (length s.commands) most_commands) takes in
-    rw (short, ascii, cut, no_comment text says.row says.found, item_says s text fields c says parts.0 parts.1) refl
+    rw (short, ascii, cut, no_comment command_table (λ t. refl) text says.row says.found, item_says s text fields c says parts.0 parts.1) refl
 
 -- a line whose word was added with the fields after it was added
 pub line_added : {E : Type 0} (s t : Draft) (line text fields : List ℕ) (done : Option (Result (Unit {0}) E)) → fields_of line ≡ text ∷ fields_of fields

@@ -17,3 +17,5 @@ pub mod Splitting
 pub mod ThreadExamples
 pub mod ThreadsKept
 pub mod Unpacking
+pub mod ListLines
+pub mod ThreadFastSteps

@@ -5,7 +5,7 @@ use Rattle.std.specs.Prelude.{IfOk, All, nat_le, ◌&&◌, if◌then◌else◌}
 use Rattle.std.proofs.lemmas.List.Elements.{All-nil}
 use Rattle.process_model.specs.Fields.{command_table}
 use Rattle.process_model.specs.Lines.{raw_lines}
-use Rattle.process_model.specs.Script.{Draft, Script, Read, with_item, in_order, item_of, has_room, has_file, most_files, item_line, line_of, read_lines, whole_with, whole, longest_script, script_of, no_lines}
+use Rattle.process_model.specs.Script.{Draft, Script, Read, with_item, in_order, item_of, has_room, has_file, item_line, line_of, read_lines, whole_with, whole, longest_script, script_of, no_lines}
 use Rattle.process_model.specs.declared.config.Config.{Config}
 use Rattle.process_model.specs.declared.file.FileText.{FileText}
 use Rattle.process_model.specs.declared.image.OwnedImage.{OwnedImage}

@@ -1,4 +1,5 @@
--- `letters`: how each of the twelve words of the reader's fast path (`FastWord`) is written in a script.
+-- `letters`: how each of the twelve words of the reader's fast path (`FastWord`) is written in a script or a file for
+-- threads.
 use Rattle.std.specs.Prelude.{ℕ, List, codes}
 use Rattle.script_reader.specs.declared.fast_path.FastWord.{FastWord}
 use Rattle.script_reader.specs.declared.fast_path.FastWord.TheVariants as quick

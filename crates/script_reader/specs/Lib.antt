@@ -14,3 +14,4 @@ pub mod Rows
 pub mod WordOf
 pub mod CallAlone
 pub mod ThreadsPlayable
+pub mod ThreadFastLines

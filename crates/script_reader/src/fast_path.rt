@@ -1,6 +1,7 @@
 // Fast path of the script reader: `FastWord`, an enum of twelve common words (`load`, `store`, `fetch`, `fix`, `enter`,
 // `leave`, `on`, `fill`, `next`, `trap`, `fork`, `copyin`), and parsers that make a command of such a word and the numbers
-// after it in one pass. `None` is no fault: the line, of another form or with a fault, is then read field by field.
+// after it in one pass. `None` is no fault: the line, of another form or with a fault, is then read field by field. The
+// words (`word_prefix`) and the ends of lines (`one`, `is_over`) serve files for threads too.
 
 ghost use Rattle.std.specs.Prelude.{◌≡◌, IfSome, codes, true, [], ◌∷◌, ◌++◌};
 ghost use Rattle.process_model.specs.Fields.{one_number, two_numbers};
@@ -14,7 +15,7 @@ use crate::number_prefixes::{next_address, next_entry, next_number};
 use process_model::{Command, LONGEST_COPY, Step, is_width};
 
 /// True only if no field is left in the line.
-fn is_over(line: &[u8]) -> bool
+pub fn is_over(line: &[u8]) -> bool
     ensures { result ≡ true → fields_of line.now ≡ [] }
 {
     line.is_empty() || first_field(line).is_none()
@@ -38,7 +39,7 @@ fn last_entry(line: &[u8]) -> Option<Option<usize>>
 }
 
 /// Parses one number, after which no field is left.
-fn one(line: &[u8]) -> Option<usize>
+pub fn one(line: &[u8]) -> Option<usize>
     ensures { IfSome result (λ n. ReadsFields line.now one_number (value.Number n ∷ [])) }
 {
     let (number, line) = next_number(line)?;
@@ -211,7 +212,8 @@ pub enum FastWord {
 }
 
 /// Returns the word of the fast path with whose letters the line begins, and what follows them. `None`:
-/// to be read field by field.
+/// to be read field by field. Inlined, so that the result need not go through memory.
+#[inline(always)]
 pub fn word_prefix(line: &[u8]) -> Option<(FastWord, &[u8])>
     ensures { IfSome result (λ found. line.now ≡ letters found.0 ++ found.1.now) }
 {

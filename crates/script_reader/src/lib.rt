@@ -29,6 +29,7 @@ mod steps;
 mod table;
 mod thread_calls;
 mod thread_draft;
+mod thread_fast_lines;
 mod thread_items;
 mod thread_lines;
 mod thread_named;

@@ -100,7 +100,9 @@ fn first_four(text: &[u8]) -> Option<(u8, u8, u8, u8, &[u8])>
     }
 }
 
-/// The number of the four hexadecimal digits that a text begins with, below 65,536, and what follows them.
+/// The number of the four hexadecimal digits that a text begins with, below 65,536, and what follows them. Inlined, so that
+/// the result need not go through memory.
+#[inline(always)]
 fn four_digits(text: &[u8]) -> Option<(u64, &[u8])>
     ensures more { IfSome result (λ found. (whole : List ℕ) (n : ℕ) → IsNumberPrefix 16 whole text.now n → IsNumberPrefix 16 whole found.1.now (n * 65536 + found.0)) }
     ensures small { IfSome result (λ found. found.0 < 65536) }
@@ -175,7 +177,9 @@ fn decimal_prefix(text: &[u8]) -> Option<(u64, &[u8])>
     Some((value, rest))
 }
 
-/// Parses a field of one decimal digit: returns its value and what follows it.
+/// Parses a field of one decimal digit: returns its value and what follows it. Inlined, so that the result need not go
+/// through memory.
+#[inline(always)]
 fn one_digit(text: &[u8]) -> Option<(u64, &[u8])>
     ensures { IfSome result (λ found. IsEndedPrefix 10 text.now found.1.now found.0) }
 {

@@ -1,6 +1,6 @@
 // `add_line`: parses one script line: checks its length and its bytes, looks up its word, reads its fields, and adds its
-// item (what it declares or commands) to the draft of the lines before it. `read_word` (the checks, and the word) and `test`
-// serve files for threads too.
+// item (what it declares or commands) to the draft of the lines before it. `read_word` (the checks, and the word), `is_ascii`
+// and `test` serve files for threads too.
 
 ghost use Rattle.std.specs.Prelude.{◌≡◌};
 ghost use Rattle.std.specs.Option.{option_map};

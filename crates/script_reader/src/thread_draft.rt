@@ -1,11 +1,12 @@
 // `ThreadDraft`, a struct: the files, images, pool (numbers of frames and slots), lists of calls and starts of the lines of
 // a file for threads read so far. Functions: whether the next line may have a word (order), room for an item (limits on the
-// numbers of files, images, calls and lines), adding one. Constant: the most lists. `Declared`, a struct: what all lines
-// declare.
+// numbers of files, images, calls and lines), both for a call (`takes_calls`), adding one. Constant: the most lists.
+// `Declared`, a struct: what all lines declare.
 
 ghost use Rattle.std.specs.Prelude.{◌≡◌, OnOk, true};
 ghost use Rattle.process_model.specs.declared.script.ThreadItem.TheVariants as item;
 ghost use Rattle.process_model.specs.ThreadScript as words;
+ghost use Rattle.script_reader.specs.ThreadFastLines.{takes_calls};
 
 use crate::draft::{MOST_COMMANDS, MOST_FILES, MOST_IMAGES};
 use process_model::{
@@ -50,7 +51,8 @@ pub struct Declared {
     pub starts: Vec<ListedStart>,
 }
 
-/// Appends a call to the last list.
+/// Appends a call to the last list. Inlined, as its caller `add_call` is.
+#[inline(always)]
 fn push_call(lists: &mut Vec<CallList>, call: ListedCall) -> Result<(), AllocError>
     ensures { OnOk result (lists.new.items ≡ words.with_call lists.old.items call) }
 {
@@ -139,6 +141,17 @@ impl ThreadDraft {
         }
     }
 
+    /// Whether the next line may be a call, and there is room for it: a list was begun, and no start was read; there are
+    /// fewer than 100,000 lines after the `pool`, skipped lines not counted, and fewer than 10,000 calls in the open list.
+    pub fn takes_calls(&self) -> bool
+        ensures { result ≡ takes_calls self.now }
+    {
+        !self.lists.is_empty()
+            && self.starts.is_empty()
+            && self.lines < MOST_COMMANDS
+            && self.open_calls() < MOST_CALLS
+    }
+
     /// Begins a list.
     fn add_list(&mut self, number: usize) -> Result<(), AllocError>
         requires { words.has_room self.old (item.List number) ≡ true }
@@ -150,8 +163,13 @@ impl ThreadDraft {
         Ok(())
     }
 
-    /// Appends a call to the open list.
-    fn add_call(&mut self, call: ListedCall) -> Result<(), AllocError>
+    /// Appends a call to the open list. The caller must know that there is room for it (`has_room`, `takes_calls`). Inlined, so
+    /// that a caller that asked `takes_calls` need not look for that list again.
+    ///
+    /// # Errors
+    /// `AllocError`: host memory was refused; the draft is lost.
+    #[inline(always)]
+    pub fn add_call(&mut self, call: ListedCall) -> Result<(), AllocError>
         requires { words.has_room self.old (item.Call call) ≡ true }
         ensures { OnOk result (self.new ≡ words.with_item self.old (item.Call call)) }
     {

@@ -1,18 +1,21 @@
-// `read_lines`: reads the lines of a file for threads into a draft (what they declare), up to the first fault.
-// `lists_named`: finds, before that, which lists of calls the file begins, since a fork may name a later list.
+// `read_lines`: reads the lines of a file for threads into a draft (what they declare), up to the first fault, each first by
+// the fast path (`thread_fast_lines`). `lists_named`: finds, before that, which lists of calls the file begins, since a fork
+// may name a later list.
 
 ghost use Rattle.std.specs.Prelude.{◌≡◌, ◌≤◌, Ok, IfOk, IfSome, length, replicate, ℕ, false, true};
 ghost use Rattle.process_model.specs.Lines.{fields_of, raw_lines};
-ghost use Rattle.process_model.specs.ReadLines.{with_said};
+ghost use Rattle.process_model.specs.ReadLines as reading;
 ghost use Rattle.process_model.specs.ThreadScript as words;
 ghost use Rattle.script_reader.specs.ReadResults.{GivesScript, GivesLine};
+ghost use Rattle.script_reader.specs.ThreadFastLines.{begins_with_list};
 
 use crate::fault::{LineFault, ScriptError};
-use crate::lines::{first_field, first_line, trim_return};
+use crate::lines::{first_field, first_line, is_blank, trim_return};
 use crate::numbers::number;
-use crate::read_line::{read_word, test};
+use crate::read_line::{is_ascii, read_word, test};
 use crate::table::Row;
 use crate::thread_draft::{MOST_LISTS, ThreadDraft};
+use crate::thread_fast_lines::add_fast;
 use crate::thread_items::make_item;
 use crate::values::read_values;
 use process_model::{Cause, ThreadItem};
@@ -51,14 +54,14 @@ fn read_line(
     Ok(Some(item))
 }
 
-/// Parses line `number` and adds its item to the draft; an empty line and a comment add nothing.
-fn add_line(
+/// Parses line `number` field by field and adds its item to the draft; an empty line and a comment add nothing.
+fn add_item(
     alloc: Global,
     draft: &mut ThreadDraft,
     number: u64,
     line: &[u8],
 ) -> Result<(), ScriptError>
-    ensures { GivesScript (λ u. (draft.new, number)) result (with_said words.with_item draft.old number (words.line_of draft.old line.now)) }
+    ensures { GivesScript (λ u. (draft.new, number)) result (reading.with_said words.with_item draft.old number (words.line_of draft.old line.now)) }
 {
     match read_line(alloc, draft, line) {
         Ok(None) => Ok(()),
@@ -71,6 +74,27 @@ fn add_line(
     }
 }
 
+/// Parses line `number` and adds its item to the draft. If the line is known to be ASCII (`ascii`), the fast path is tried
+/// first.
+fn add_line(
+    alloc: Global,
+    draft: &mut ThreadDraft,
+    number: u64,
+    line: &[u8],
+    ascii: bool,
+) -> Result<(), ScriptError>
+    requires { ascii ≡ true → reading.is_ascii line.now ≡ true }
+    ensures { GivesScript (λ u. (draft.new, number)) result (reading.with_said words.with_item draft.old number (words.line_of draft.old line.now)) }
+{
+    if ascii && let Some(done) = add_fast(draft, line) {
+        return match done {
+            Ok(()) => Ok(()),
+            Err(_) => Err(ScriptError::Memory),
+        };
+    }
+    add_item(alloc, draft, number, line)
+}
+
 /// Reads the lines of a text into a draft, and returns their number, skipped lines among them.
 ///
 /// # Errors
@@ -79,20 +103,37 @@ pub fn read_lines(alloc: Global, draft: &mut ThreadDraft, text: &[u8]) -> Result
     ensures read { GivesScript (λ lines. (draft.new, lines)) result (words.read_lines (Ok (draft.old, 0)) (raw_lines text.now)) }
     ensures few { IfOk result (λ lines. lines ≤ length text.now) }
 {
+    let ascii = is_ascii(text);
     let mut number = 0u64;
     let mut left = text;
     'lines: while !left.is_empty() {
         let (line, after) = first_line(left);
         number += 1;
-        add_line(alloc, draft, number, trim_return(line))?;
+        add_line(alloc, draft, number, trim_return(line), ascii)?;
         left = after;
     }
     Ok(number)
 }
 
-/// The number of the list that a line `list K` begins, whether or not the lines before it permit that.
-/// `None`: it is no such line.
-fn list_begun(line: &[u8]) -> Option<usize>
+/// Whether a line begins with the letters of `list`.
+fn begins_with_list(line: &[u8]) -> bool
+    ensures { result ≡ begins_with_list line.now }
+{
+    matches!(line, [b'l', b'i', b's', b't', ..])
+}
+
+/// Whether a line, by its first bytes, may begin a list: they are a blank, or the letters of `list`.
+fn may_begin_list(line: &[u8]) -> bool
+    ensures { result ≡ false → (k : ℕ) → words.begins k (fields_of line.now) ≡ false }
+{
+    match line {
+        [byte, ..] => is_blank(*byte) || begins_with_list(line),
+        [] => false,
+    }
+}
+
+/// The number of the list that a line `list K` begins, read field by field. `None`: it is no such line.
+fn list_of_fields(line: &[u8]) -> Option<usize>
     ensures { (k : ℕ) → words.is_number k result ≡ words.begins k (fields_of line.now) }
 {
     let (text, rest) = first_field(line)?;
@@ -104,6 +145,17 @@ fn list_begun(line: &[u8]) -> Option<usize>
         return None;
     }
     Some(number(field)? as usize)
+}
+
+/// The number of the list that a line `list K` begins, whether or not the lines before it permit that.
+/// `None`: it is no such line; of most lines the first bytes show that.
+fn list_begun(line: &[u8]) -> Option<usize>
+    ensures { (k : ℕ) → words.is_number k result ≡ words.begins k (fields_of line.now) }
+{
+    if !may_begin_list(line) {
+        return None;
+    }
+    list_of_fields(line)
 }
 
 fn none_named() -> [bool; 64]

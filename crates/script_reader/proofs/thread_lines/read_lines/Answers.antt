@@ -1,8 +1,13 @@
+use Rattle.std.proofs.Common.{◌∙◌, arith, refl, sym}
 use Rattle.std.proofs.lemmas.Result.{err_from_is_err_and}
 use Rattle.process_model.specs.Lines.{raw_lines}
 use Rattle.process_model.specs.ThreadScript.{line_of, with_item}
+use Rattle.script_reader.proofs.AsciiLines.{ascii_lines}
 use Rattle.script_reader.proofs.Faults.{refused}
 use Rattle.script_reader.proofs.thread_lines.read_lines.Goals as goal
+
+pub lines-init : goal.lines-init
+lines-init c = record { says = refl; few = omega arith; ascii = λ is. ascii_lines c.args.text.now (sym c.is_ascii-ascii.ensures ∙ is) }
 
 pub returns-in_err-add_line-clause-read : goal.returns-in_err-add_line-clause-read
 returns-in_err-add_line-clause-read c =

@@ -1,0 +1,44 @@
+-- Predicates on the fast path of the reader of files for threads: whether the next line may be a call (`takes_calls`); the
+-- call of a word and the fields after it (`SaysCall`); a draft (what the lines read so far declare) has one call more, that of
+-- a word and the fields after it (`AddsCall`). And whether a text begins with the letters of `list` (`begins_with_list`), by
+-- which a pass over a file finds the lines that begin no list.
+use Rattle.std.specs.Prelude.{◌≡◌, ℕ, Bool, false, not, List, ◌∷◌, Some, Ok, length, nat_lt, ◌==◌, ◌&&◌}
+use Rattle.process_model.specs.Fields.{Row, row_among, values_of}
+use Rattle.process_model.specs.Lines.{fields_of}
+use Rattle.process_model.specs.Script.{most_commands}
+use Rattle.process_model.specs.ThreadScript.{ThreadDraft, has_started, in_order, item_of, most_calls, open_calls, thread_table, with_item}
+use Rattle.process_model.specs.declared.call.ListedCall.{ListedCall}
+use Rattle.process_model.specs.declared.script.FieldValue.{FieldValue}
+use Rattle.process_model.specs.declared.script.ThreadItem.TheVariants as item
+
+-- a list was begun, and no start was read: the next line may have the word of a call
+abbrev pub is_open : ThreadDraft → Bool
+is_open s = nat_lt 0 (length s.lists) && not (has_started s)
+
+-- there is room for a line after the pool, and for a call in the open list
+abbrev pub has_call_room : ThreadDraft → Bool
+has_call_room s = nat_lt s.lines most_commands && nat_lt (open_calls s.lists) most_calls
+
+abbrev pub takes_calls : ThreadDraft → Bool
+takes_calls s = is_open s && has_call_room s
+
+-- in draft s, the word `text` with the fields of `line` after it is call c; a line with the word may be next exactly when a
+-- list was begun and no start was read
+pub record SaysCall (s : ThreadDraft) (text line : List ℕ) (c : ListedCall) : Type 0 where
+  pub row : Row
+  pub found : row_among thread_table text ≡ Some row
+  pub values : List FieldValue
+  pub said : values_of row (fields_of line) ≡ Ok values
+  pub item : item_of s row.word values ≡ Ok (item.Call c)
+  pub order : in_order s row.word ≡ is_open s
+
+-- `after` is `before` and one call more in its open list: that of the word `text` with the fields of `line` after it
+pub record AddsCall (before after : ThreadDraft) (text line : List ℕ) : Type 0 where
+  pub call : ListedCall
+  pub says : SaysCall before text line call
+  pub added : after ≡ with_item before (item.Call call)
+
+-- whether a text begins with the letters of `list`
+abbrev pub begins_with_list : List ℕ → Bool
+begins_with_list (a ∷ b ∷ c ∷ d ∷ text) = a == 108 && b == 105 && c == 115 && d == 116
+begins_with_list text = false
