@@ -177,5 +177,7 @@ pub fn play_threads_with<T: Threads + Wait + Sync, R: Source, W: Sink, G: Gate +
         Ok(script) => script,
         Err(error) => return Err(play_error_of(error)),
     };
+    // What the lists say is in the script now.
+    drop(bytes);
     run_threads(rt, alloc, &script, writer, harts, gate)
 }

@@ -292,6 +292,12 @@ module _ (files : List File) (p : Process) (a : AccessRequest) where
             no_moves None = refl
             no_moves (Some z) = refl
 
+    -- the process then
+    pub process_at_once : rule_for p a ≡ None → is_resident p a.access page ≡ true → (r : Reply) → r ≡ (user_access p a).reply → (user_access p a).process ≡ (call_outcome files (by_reply (address_of c) r) 0 p c).process
+    process_at_once none resident r told_r =
+        let calm : by_reply (address_of c) r ≡ nothing = ap (by_reply (address_of c)) told_r ∙ settled_answers p a (address_of c) (rule_for p a) none resident in
+        sym (ap (λ (w : Shortage). (call_outcome files w 0 p c).process) calm ∙ ap (λ (z : CallOutcome). z.process) (tells_by nothing (Ok (initial_progress p)) (at_once none resident)))
+
     -- made after its page was made resident
     pub made_later : rule_for p a ≡ None → is_resident p a.access page ≡ false → (r : Reply) → r ≡ (user_access q a).reply → ((u : Tables) × IsSpace y u (user_access q a).process) → Became (served_moves files p page (rule_for p a))
         → IsPlain r × IsModelResult x y files Became Refused Promised p c (by_reply (address_of c) r) r

@@ -8,7 +8,7 @@ use Rattle.frame_store.specs.View.{Tallies, View}
 use Rattle.hart_calls.specs.CallKinds.{IsPlainCall, moves_read}
 use Rattle.hart_calls.specs.CallResults.{at_stop, IsPlain}
 use Rattle.hart_calls.specs.ShortageReports.{ReportsShortage, WasDry}
-use Rattle.hart_calls.specs.Replay.{call_at, forked, forks, IsReplayStep, Replays}
+use Rattle.hart_calls.specs.Replay.{call_at, call_of, forked, forks, IsReplayStep, Replays}
 use Rattle.hart_calls.specs.CallOutcomes.{reads_of, call_outcome, writes_of}
 use Rattle.hart_calls.specs.TurnCases.{BySlot, LeavesRunning}
 use Rattle.hart_calls.specs.Shortages.{frames_at, nothing, Shortage}
@@ -25,12 +25,12 @@ use Rattle.sv39_entry.specs.Address.{page_of}
 use Rattle.sv39_entry.specs.declared.rule.Rule.{Rule}
 use Rattle.sv39_entry.specs.declared.rule.Rule.TheVariants as rule
 
-pub replays_longer : (p : Process) (n k : ℕ) (calls : List Call) (es : List JournalEntry) (e : JournalEntry) (q r : Process) → Replays p n k calls es q → e.call ≡ call_at calls (k + length es)
+pub replays_longer : (p : Process) (n k : ℕ) (calls : List Call) (es : List JournalEntry) (e : JournalEntry) (q r : Process) → Replays p n k calls es q → call_of e ≡ call_at calls (k + length es)
     → (files : List File) × IsReplayStep files (n + forks es) q e r → Replays p n k calls (es ++ e ∷ []) r
 replays_longer p n k calls [] e q r replays next (files, leads) =
     let none : n + 0 ≡ n = omega arith in
     let here : k + 0 ≡ k = omega arith in (
-      subst (λ (m : ℕ). e.call ≡ call_at calls m) here next,
+      subst (λ (m : ℕ). call_of e ≡ call_at calls m) here next,
       (files, r, subst (λ (z : Process). IsReplayStep files n z e r) replays (subst (λ (m : ℕ). IsReplayStep files m q e r) none leads), refl),
     )
 replays_longer p n k calls (x ∷ es) e q r (first, (fs, s, one, rest)) next (files, leads) =
@@ -41,18 +41,18 @@ replays_longer p n k calls (x ∷ es) e q r (first, (fs, s, one, rest)) next (fi
         fs,
         s,
         one,
-        replays_longer s (n + forked x.reply) (suc k) calls es e q r rest (subst (λ (m : ℕ). e.call ≡ call_at calls m) there next)
+        replays_longer s (n + forked x.reply) (suc k) calls es e q r rest (subst (λ (m : ℕ). call_of e ≡ call_at calls m) there next)
             (files, subst (λ (m : ℕ). IsReplayStep files m q e r) many leads),
       ),
     )
 
 -- from the beginning
-pub one_longer : (p : Process) (calls : List Call) (es : List JournalEntry) (e : JournalEntry) (q r : Process) → Replays p 0 0 calls es q → e.call ≡ call_at calls (length es)
+pub one_longer : (p : Process) (calls : List Call) (es : List JournalEntry) (e : JournalEntry) (q r : Process) → Replays p 0 0 calls es q → call_of e ≡ call_at calls (length es)
     → (files : List File) × IsReplayStep files (forks es) q e r → Replays p 0 0 calls (es ++ e ∷ []) r
 one_longer p calls es e q r replays next (files, leads) =
     let here : length es ≡ 0 + length es = omega arith in
     let many : forks es ≡ 0 + forks es = omega arith in
-    replays_longer p 0 0 calls es e q r replays (subst (λ (m : ℕ). e.call ≡ call_at calls m) here next) (files, subst (λ (m : ℕ). IsReplayStep files m q e r) many leads)
+    replays_longer p 0 0 calls es e q r replays (subst (λ (m : ℕ). call_of e ≡ call_at calls m) here next) (files, subst (λ (m : ℕ). IsReplayStep files m q e r) many leads)
 
 -- how many children were named is of account to a fork alone
 pub same_told : (files : List File) (shortage : Shortage) (n : ℕ) (p : Process) (c : Call) → IsPlainCall c → call_outcome files shortage n p c ≡ call_outcome files shortage 0 p c

@@ -1,6 +1,7 @@
 pub mod Accessed
 pub mod Alike
 pub mod Answered
+pub mod AtOnce
 pub mod Beside
 pub mod Bodies
 pub mod Copied

@@ -13,7 +13,7 @@ use Rattle.file_shelf.specs.ShelfStates.{HasMoves, CanRefuse, ShelfState, stays}
 use Rattle.frame_store.specs.View.{Tallies, View}
 use Rattle.hart_calls.specs.ProcessEnd.{Closes, IsClosed, outcome_of}
 use Rattle.hart_calls.specs.ShortageReports.{ReportsShortage}
-use Rattle.hart_calls.specs.Replay.{call_at, forked, forks, IsReplayStep, Replays}
+use Rattle.hart_calls.specs.Replay.{call_at, call_of, forked, forks, IsReplayStep, Replays}
 use Rattle.hart_calls.specs.CallOutcomes.{file_of, reads_of, call_outcome, writes_of}
 use Rattle.hart_calls.specs.Track.{AppendsEntry, calls_of, IsChild, next_of, Track}
 use Rattle.hart_calls.specs.TurnCases.{BySlot, KeepsFilesAtEnd, KeepsFilesOn, KeepsFilesByOutcome, ForkAnswer, ContinuesTurn, LeavesRunning, HasNoEnd, LacksJournalRoom, IsOver, IsLastEntry, most_entries, Unwritten}
@@ -41,7 +41,7 @@ use Rattle.shared_frames.specs.SeatsOfTable.{view_of}
 
 -- ---- exit
 
-module _ (t : Track) (status : ℤ) (e : JournalEntry) (called : e.call ≡ call.Exit status) (answer : e.reply ≡ reply.Exited status) (pages : e.pages.items ≡ []) (none : e.file ≡ None) (next : next_of t ≡ call.Exit status)
+module _ (t : Track) (status : ℤ) (e : JournalEntry) (called : call_of e ≡ call.Exit status) (answer : e.reply ≡ reply.Exited status) (pages : e.pages.items ≡ []) (none : e.file ≡ None) (next : next_of t ≡ call.Exit status)
     (replays : Replays t.opening 0 0 (calls_of t) t.journal t.state) (room : length t.journal < most_entries) (f : Finished) (name : f.name.items ≡ t.name) (bare : IsBare (view_of f.seat)) (a d : ShelfState) (closes : Closes t.state t.journal e (outcome.Exited status) f a d) where
   abbrev leads : IsReplayStep a.files (forks t.journal) t.state e t.state
   leads = record {
@@ -53,10 +53,10 @@ module _ (t : Track) (status : ℤ) (e : JournalEntry) (called : e.call ≡ call
     file = none ∙ ap (λ (k : Call). file_of a.files k) (sym called);
   }
 
-  calm : ReportsShortage t.seat (view_of f.seat) a.files t.state e.call nothing
+  calm : ReportsShortage t.seat (view_of f.seat) a.files t.state (call_of e) nothing
   calm = subst (λ (k : Call). ReportsShortage t.seat (view_of f.seat) a.files t.state k nothing) (sym called) tt
 
-  next_is : e.call ≡ call_at (calls_of t) (length t.journal)
+  next_is : call_of e ≡ call_at (calls_of t) (length t.journal)
   next_is = called ∙ sym next
 
   broken_last : (z : PromiseError) → f.journal.items ≡ t.journal → IsLastEntry t f (outcome_of z)
@@ -149,7 +149,7 @@ fork_files files n p k (frames_at m) = refl
 fork_files files n p k (refused done r) = refl
 
 module _ (t u : Track) (c : Option Track) (s : ForkSlot) (k : ℕ) (next : next_of t ≡ call.Fork k) (g : ContinuesTurn t u c s) (a : ShelfState) where
-  is_fork : g.entry.call ≡ call.Fork k
+  is_fork : call_of g.entry ≡ call.Fork k
   is_fork = g.adds.next ∙ next
 
   pub fork_filed : KeepsFilesOn t u a a
@@ -157,7 +157,7 @@ module _ (t u : Track) (c : Option Track) (s : ForkSlot) (k : ℕ) (next : next_
       let n = forks t.journal in
       let w = g.leads.shortage in
       let e = g.entry in
-      let back : call.Fork k ≡ e.call = sym is_fork in
+      let back : call.Fork k ≡ (call_of e) = sym is_fork in
       record {
         entry = e;
         adds = g.adds.journal;
@@ -171,7 +171,7 @@ module _ (t u : Track) (c : Option Track) (s : ForkSlot) (k : ℕ) (next : next_
         };
         files = fork_files a.files n t.state k w ∙ ap (λ (z : Call). (call_outcome a.files w n t.state z).files) back;
         becomes = subst (λ (ms : List PageMove). HasMoves a ms a)
-            (sym (ap (λ (ms : List PageMove). ms ++ writes_of a.files w t.state e.call) (g.leads.pages ∙ ap (λ (z : Call). reads_of g.files w t.state z) is_fork) ∙ ap (λ (z : Call). writes_of a.files w t.state z) is_fork))
+            (sym (ap (λ (ms : List PageMove). ms ++ writes_of a.files w t.state (call_of e)) (g.leads.pages ∙ ap (λ (z : Call). reads_of g.files w t.state z) is_fork) ∙ ap (λ (z : Call). writes_of a.files w t.state z) is_fork))
             (stays a);
         request = subst (λ (z : Call). WasAsked (RefusesPromise HasMoves CanRefuse a e.pages.items) (λ n. n ≤ a.room) t.state z w) back (fork_asks (RefusesPromise HasMoves CanRefuse a e.pages.items) (λ n. n ≤ a.room) t.state k w);
       }
@@ -179,7 +179,7 @@ module _ (t u : Track) (c : Option Track) (s : ForkSlot) (k : ℕ) (next : next_
 -- what the journal gets of it
 
 pub record IsForkOf (e : JournalEntry) (k : ℕ) (r : Reply) : Type 0 where
-  pub call : e.call ≡ call.Fork k
+  pub call : call_of e ≡ call.Fork k
   pub answer : e.reply ≡ r
   pub pages : e.pages.items ≡ []
   pub file : e.file ≡ None
@@ -187,7 +187,7 @@ pub record IsForkOf (e : JournalEntry) (k : ℕ) (r : Reply) : Type 0 where
 module _ (n : ℕ) (p : Process) (e : JournalEntry) (k : ℕ) (w : Shortage) (r : Reply) (is : IsForkOf e k r) where
   abbrev pub fork_leads : CanBeShort [] p (call.Fork k) w → r ≡ (call_outcome [] w n p (call.Fork k)).reply → (q : Process) → q ≡ (call_outcome [] w n p (call.Fork k)).process → IsReplayStep [] n p e q
   fork_leads may answer q state =
-      let back : call.Fork k ≡ e.call = sym is.call in
+      let back : call.Fork k ≡ (call_of e) = sym is.call in
       record {
         shortage = w;
         possible = subst (λ (z : Call). CanBeShort [] p z w) back may;

@@ -13,7 +13,7 @@ use Rattle.hart_calls.specs.CallKinds.{IsPlainCall}
 use Rattle.hart_calls.specs.ProcessEnd.{Closes, IsClosed, outcome_of}
 use Rattle.hart_calls.specs.CallResults.{address_of, at_stop, IsModelResult, IsPlain, RefusesPromise}
 use Rattle.hart_calls.specs.ShortageReports.{ReportsShortage}
-use Rattle.hart_calls.specs.Replay.{call_at, forked, forks, IsReplayStep, Replays}
+use Rattle.hart_calls.specs.Replay.{call_at, call_of, forked, forks, IsReplayStep, Replays}
 use Rattle.hart_calls.specs.CallOutcomes.{file_of, reads_of, CallOutcome, call_outcome, writes_of}
 use Rattle.hart_calls.specs.Track.{AppendsEntry, calls_of, next_of, Track}
 use Rattle.hart_calls.specs.TurnCases.{BySlot, EndsIt, KeepsFilesAtEnd, KeepsFilesOn, KeepsFilesByOutcome, ContinuesTurn, LeavesRunning, HasNoEnd, HasNoRoom, LacksJournalRoom, IsOver, IsLastEntry, most_entries, Unwritten}
@@ -39,7 +39,7 @@ use Rattle.sv39_entry.specs.declared.rule.Rule.{Rule}
 -- the entry is of this call, with this answer
 
 pub record IsEntryOf (t : Track) (a : ShelfState) (shortage : Shortage) (c : Call) (r : Reply) (e : JournalEntry) : Type 0 where
-  pub call : e.call ≡ c
+  pub call : call_of e ≡ c
   pub answer : e.reply ≡ r
   pub pages : e.pages.items ≡ reads_of a.files shortage t.state c
   pub file : e.file ≡ file_of a.files c
@@ -49,7 +49,7 @@ module _ (t : Track) (c : Call) (stays : IsPlainCall c) (a b : ShelfState) (shor
   abbrev n : ℕ
   n = forks t.journal
 
-  pub same : call_outcome a.files shortage 0 t.state c ≡ call_outcome a.files shortage n t.state e.call
+  pub same : call_outcome a.files shortage 0 t.state c ≡ call_outcome a.files shortage n t.state (call_of e)
   same = sym (same_told a.files shortage n t.state c stays) ∙ ap (call_outcome a.files shortage n t.state) (sym is.call)
 
   abbrev pub leads : (q : Process) → q ≡ (call_outcome a.files shortage 0 t.state c).process → IsReplayStep a.files n t.state e q
@@ -95,7 +95,7 @@ module _ (t : Track) (c : Call) (stays : IsPlainCall c) (a b : ShelfState) (shor
 
   module _ (rule : Rule) (by : r ≡ reply.Ended rule) (stop : shortage ≡ at_stop rule (address_of c)) (next : c ≡ next_of t) (replays : Replays t.opening 0 0 (calls_of t) t.journal t.state) (room : length t.journal < most_entries)
       (f : Finished) (name : f.name.items ≡ t.name) (bare : IsBare (view_of f.seat)) (takes : TakesFrames y.view (view_of f.seat) 0 []) (d : ShelfState) (closes : Closes t.state t.journal e (outcome.Ended rule) f b d) where
-    next_is : e.call ≡ call_at (calls_of t) (length t.journal)
+    next_is : call_of e ≡ call_at (calls_of t) (length t.journal)
     next_is = is.call ∙ next
 
     led : (files : List File) × IsReplayStep files n t.state e (call_outcome a.files shortage 0 t.state c).process
@@ -107,7 +107,7 @@ module _ (t : Track) (c : Call) (stays : IsPlainCall c) (a b : ShelfState) (shor
         (subst (λ (w : Shortage). ReportsShortage x.view (view_of f.seat) a.files t.state c w) (sym stop)
         (later_stop x.view y.view (view_of f.seat) takes a.files t.state c rule (address_of c) (subst (λ (w : Shortage). ReportsShortage x.view y.view a.files t.state c w) stop comes.lack)))
 
-    still_lack : ReportsShortage t.seat (view_of f.seat) a.files t.state e.call shortage
+    still_lack : ReportsShortage t.seat (view_of f.seat) a.files t.state (call_of e) shortage
     still_lack = subst (λ (k : Call). ReportsShortage t.seat (view_of f.seat) a.files t.state k shortage) (sym is.call) left_lack
 
     broken_last : (x : PromiseError) → f.journal.items ≡ t.journal → IsLastEntry t f (outcome_of x)

@@ -1,5 +1,6 @@
 pub mod JournalReplies
 pub mod ReplyCases
+pub mod AtOnce
 pub mod CallKinds
 pub mod ProcessEnd
 pub mod ProcessCodes

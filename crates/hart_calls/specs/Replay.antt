@@ -1,10 +1,11 @@
 -- `Replays`: a journal (a process's calls with their replies) leads in the model from one process to another: each entry has
 -- the list's next call and is a step of the model (`IsReplayStep`: reply, process, pages read, mmap's file). Also call k of
--- a list (`call_at`), list k (`list_at`), and how many children a journal names (`forks`).
+-- a list (`call_at`), an entry's call (`call_of`), list k (`list_at`), and how many children a journal names (`forks`).
 use Rattle.std.specs.Prelude.{◌≡◌, ℕ, pos, suc, ◌+◌, List, [], ◌∷◌, Option, None, Some, slice_get}
 use Rattle.hart_calls.specs.CallOutcomes.{file_of, reads_of, call_outcome}
 use Rattle.hart_calls.specs.Shortages.{CanBeShort, Shortage}
 use Rattle.hart_calls.specs.declared.journal_entry.JournalEntry.{JournalEntry}
+use Rattle.hart_calls.specs.declared.journal_entry.Listed.{Listed}
 use Rattle.process_model.specs.Files.{File}
 use Rattle.process_model.specs.Process.{Process}
 use Rattle.process_model.specs.declared.call.Call.{Call}
@@ -20,6 +21,14 @@ or_exit (Some c) = c
 
 abbrev pub call_at : List Call → ℕ → Call
 call_at calls k = or_exit (slice_get calls k)
+
+-- the call at a place of a list, and the call of an entry
+
+abbrev pub listed_call : Listed → Call
+listed_call l = call_at l.list.now l.number
+
+abbrev pub call_of : JournalEntry → Call
+call_of e = call_at e.list.now e.number
 
 -- list k, empty if there is none
 abbrev pub or_none : Option (List Call) → List Call
@@ -44,14 +53,14 @@ forks (e ∷ es) = forked e.reply + forks es
 -- mmap whether its file may be written.
 pub record IsReplayStep (files : List File) (n : ℕ) (p : Process) (e : JournalEntry) (q : Process) : Type 0 where
   pub shortage : Shortage
-  pub possible : CanBeShort files p e.call shortage
-  pub reply : e.reply ≡ (call_outcome files shortage n p e.call).reply
-  pub process : q ≡ (call_outcome files shortage n p e.call).process
-  pub pages : e.pages.items ≡ reads_of files shortage p e.call
-  pub file : e.file ≡ file_of files e.call
+  pub possible : CanBeShort files p (call_of e) shortage
+  pub reply : e.reply ≡ (call_outcome files shortage n p (call_of e)).reply
+  pub process : q ≡ (call_outcome files shortage n p (call_of e)).process
+  pub pages : e.pages.items ≡ reads_of files shortage p (call_of e)
+  pub file : e.file ≡ file_of files (call_of e)
 
 -- the journal leads from process p, with n children named and k calls made before, to process q: each entry has the list's
 -- next call and is a replay step for some files
 abbrev pub Replays : Process → ℕ → ℕ → List Call → List JournalEntry → Process → Type 0
 Replays p n k calls [] q = q ≡ p
-Replays p n k calls (e ∷ es) q = (e.call ≡ call_at calls k) × ((files : List File) × (r : Process) × IsReplayStep files n p e r × Replays r (n + forked e.reply) (suc k) calls es q)
+Replays p n k calls (e ∷ es) q = (call_of e ≡ call_at calls k) × ((files : List File) × (r : Process) × IsReplayStep files n p e r × Replays r (n + forked e.reply) (suc k) calls es q)

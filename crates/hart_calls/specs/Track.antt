@@ -3,7 +3,7 @@
 -- relations: one entry more (`AppendsEntry`), the next child (`IsChild`), unchanged (`SameTrack`).
 use Rattle.std.specs.Prelude.{◌≡◌, ℕ, ◌<◌, ◌∷◌, [], ◌++◌, All, List, length}
 use Rattle.frame_store.specs.View.{View}
-use Rattle.hart_calls.specs.Replay.{call_at, forks, list_at}
+use Rattle.hart_calls.specs.Replay.{call_at, call_of, forks, list_at}
 use Rattle.hart_calls.specs.declared.journal_entry.JournalEntry.{JournalEntry}
 use Rattle.process_model.specs.Process.{Process}
 use Rattle.process_model.specs.Residence.{child_of}
@@ -53,7 +53,7 @@ pub record AppendsEntry (t u : Track) (e : JournalEntry) : Type 0 where
   pub list : u.list ≡ t.list
   pub opening : u.opening ≡ t.opening
   pub journal : u.journal ≡ t.journal ++ e ∷ []
-  pub next : e.call ≡ next_of t
+  pub next : call_of e ≡ next_of t
 
 -- c is the next child of t and has list k. It begins as `child_of` the process that t is, with an empty journal
 pub record IsChild (t c : Track) (k : ℕ) : Type 0 where

@@ -6,7 +6,7 @@ use Rattle.address_space.specs.Steps.{IsBare}
 use Rattle.file_shelf.specs.ShelfStates.{HasMoves, CanRefuse, ShelfState}
 use Rattle.file_cabinet.specs.declared.promise.PromiseError.TheVariants as error
 use Rattle.hart_calls.specs.ShortageReports.{ReportsShortage}
-use Rattle.hart_calls.specs.Replay.{forked, forks, IsReplayStep, Replays}
+use Rattle.hart_calls.specs.Replay.{call_of, forked, forks, IsReplayStep, Replays}
 use Rattle.hart_calls.specs.CallKinds.{IsAccessCall}
 use Rattle.hart_calls.specs.CallOutcomes.{reads_of, call_outcome, writes_of}
 use Rattle.hart_calls.specs.CallResults.{RefusesPromise}
@@ -75,7 +75,7 @@ LeavesRunning r = Unit {0}
 -- there is a child exactly if the reply names one; it has the list of the fork
 abbrev pub IsChildOf : Option Track → Track → JournalEntry → Type 0
 IsChildOf None t e = forked e.reply ≡ 0
-IsChildOf (Some c) t e = (forked e.reply ≡ 1) × ((list : ℕ) × (e.call ≡ call.Fork list) × IsChild t c list)
+IsChildOf (Some c) t e = (forked e.reply ≡ 1) × ((list : ℕ) × (call_of e ≡ call.Fork list) × IsChild t c list)
 
 -- t becomes u, with child c if there is one, when the fork's slot is s
 pub record ContinuesTurn (t u : Track) (c : Option Track) (s : ForkSlot) : Type 0 where
@@ -85,8 +85,8 @@ pub record ContinuesTurn (t u : Track) (c : Option Track) (s : ForkSlot) : Type 
   pub leads : IsReplayStep files (forks t.journal) t.state entry u.state
   pub on : LeavesRunning entry.reply
   pub child : IsChildOf c t entry
-  pub slot : BySlot s entry.call entry.reply
-  pub lack : ReportsShortage t.seat u.seat files t.state entry.call leads.shortage
+  pub slot : BySlot s (call_of entry) entry.reply
+  pub lack : ReportsShortage t.seat u.seat files t.state (call_of entry) leads.shortage
 
 -- ---- the process ends
 
@@ -96,10 +96,10 @@ pub record EndsBy (t : Track) (f : Finished) (r : Reply) : Type 0 where
   pub files : List File
   pub after : Process
   pub journal : f.journal.items ≡ t.journal ++ entry ∷ []
-  pub next : entry.call ≡ next_of t
+  pub next : call_of entry ≡ next_of t
   pub leads : IsReplayStep files (forks t.journal) t.state entry after
   pub reply : entry.reply ≡ r
-  pub lack : ReportsShortage t.seat (view_of f.seat) files t.state entry.call leads.shortage
+  pub lack : ReportsShortage t.seat (view_of f.seat) files t.state (call_of entry) leads.shortage
 
 -- the journal by the outcome: after an exit or an end by a rule one entry more says so; after Memory or JournalFull there is
 -- none more. No call has the outcome Refused
@@ -139,9 +139,9 @@ pub record KeepsFilesOn (t u : Track) (a b : ShelfState) : Type 0 where
   pub entry : JournalEntry
   pub adds : u.journal ≡ t.journal ++ entry ∷ []
   pub leads : IsReplayStep a.files (forks t.journal) t.state entry u.state
-  pub files : b.files ≡ (call_outcome a.files leads.shortage (forks t.journal) t.state entry.call).files
-  pub becomes : HasMoves a (entry.pages.items ++ writes_of a.files leads.shortage t.state entry.call) b
-  pub request : WasAsked (RefusesPromise HasMoves CanRefuse a entry.pages.items) (λ n. n ≤ b.room) t.state entry.call leads.shortage
+  pub files : b.files ≡ (call_outcome a.files leads.shortage (forks t.journal) t.state (call_of entry)).files
+  pub becomes : HasMoves a (entry.pages.items ++ writes_of a.files leads.shortage t.state (call_of entry)) b
+  pub request : WasAsked (RefusesPromise HasMoves CanRefuse a entry.pages.items) (λ n. n ≤ b.room) t.state (call_of entry) leads.shortage
 
 -- the files after an exit or an end by a rule: every mapping is written back
 pub record KeepsFilesAtEnd (t : Track) (f : Finished) (a b : ShelfState) : Type 0 where
@@ -149,7 +149,7 @@ pub record KeepsFilesAtEnd (t : Track) (f : Finished) (a b : ShelfState) : Type 
   pub after : Process
   pub adds : f.journal.items ≡ t.journal ++ entry ∷ []
   pub leads : IsReplayStep a.files (forks t.journal) t.state entry after
-  pub files : b.files ≡ (call_outcome a.files leads.shortage (forks t.journal) t.state entry.call).files
+  pub files : b.files ≡ (call_outcome a.files leads.shortage (forks t.journal) t.state (call_of entry)).files
   pub becomes : HasMoves a (entry.pages.items ++ all_moves t.state) b
 
 -- no file is changed; the history gets the pages that the call reads, or nothing

@@ -75,7 +75,7 @@ pub(crate) fn access<S: FrameSeat, F: FrameSupply<Seat = S>, C: Files>(
 }
 
 /// Whether an access is aligned, and its walk found a leaf that permits it.
-fn is_permitted(walk: &Walk, request: &AccessRequest) -> bool
+pub(crate) fn is_permitted(walk: &Walk, request: &AccessRequest) -> bool
     requires width { IsTrue (is_width request.now.width) }
     ensures { result ≡ (request.now.va.0 % request.now.width == 0 && gives_leaf walk.now) }
 {
@@ -101,7 +101,7 @@ fn at_once<S: FrameSeat, F: FrameAccess<Seat = S>>(
 }
 
 /// Makes a user access that was translated to `walk`, or replies `Fault`.
-fn accessed<S: FrameSeat, F: FrameAccess<Seat = S>>(
+pub(crate) fn accessed<S: FrameSeat, F: FrameAccess<Seat = S>>(
     space: &mut Space<S>,
     store: &mut F,
     walk: Walk,

@@ -7,6 +7,7 @@ ghost use Rattle.address_space.specs.Agreement.{body_of, IsSpace};
 ghost use Rattle.address_space.specs.Steps.{IsBare, TakesFrames};
 ghost use Rattle.file_shelf.specs.ShelfStates.{HasMoves, CanRefuse};
 ghost use Rattle.hart_calls.specs.ProcessEnd.{Closes, IsCause, outcome_of};
+ghost use Rattle.hart_calls.specs.Replay.{call_of, listed_call};
 ghost use Rattle.hart_calls.specs.Track.{next_of};
 ghost use Rattle.hart_calls.specs.TurnCases.{KeepsFilesByOutcome, LacksJournalRoom, IsOver, most_entries};
 ghost use Rattle.process_model.specs.declared.call.Outcome.TheVariants as outcome;
@@ -19,7 +20,7 @@ ghost use Rattle.shared_frames.specs.SeatsOfTable.{FitsIn, view_of};
 ghost use Rattle.table_walk.specs.Tables.{Tables};
 
 use crate::finished::Finished;
-use crate::journal_entry::JournalEntry;
+use crate::journal_entry::{JournalEntry, Listed};
 use crate::journal_reply::JournalReply;
 use crate::run_brand::RunBrand;
 use crate::tracked::{Tracked, TrackedParts};
@@ -78,25 +79,26 @@ impl<'a, B: RunBrand> Tracked<'a, B> {
         ensures over { IsOver self.entry result }
         ensures files { KeepsFilesByOutcome self.entry result result.outcome shelf.old shelf.new }
     {
+        let listed = self.listed();
         let parts = self.parts;
-        let entry = exit_entry(parts.alloc, status);
+        let entry = exit_entry(parts.alloc, listed, status);
         close::<B, R>(parts, store, shelf, entry, exited(status))
     }
 }
 
 /// The journal entry of an exit.
-fn exit_entry<'a>(alloc: Global, status: i32) -> JournalEntry<'a>
-    ensures call { result.call ≡ call.Exit status }
+fn exit_entry<'a>(alloc: Global, listed: Listed<'a>, status: i32) -> JournalEntry<'a>
+    ensures call { call_of result ≡ listed_call listed.entry }
     ensures reply { result.reply ≡ reply.Exited status }
     ensures pages { result.pages.items ≡ [] }
     ensures file { result.file ≡ None }
 {
-    JournalEntry {
-        call: Call::Exit { status },
-        reply: JournalReply::short(ScalarReply::Exited(status)),
-        pages: Vec::new(alloc),
-        file: None,
-    }
+    JournalEntry::new(
+        listed,
+        JournalReply::short(ScalarReply::Exited(status)),
+        Vec::new(alloc),
+        None,
+    )
 }
 
 /// The outcome of a process that exits.

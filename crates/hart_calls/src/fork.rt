@@ -8,6 +8,7 @@ ghost use Rattle.address_space.specs.Steps.{RunsDry, TakesFrames};
 ghost use Rattle.cow_fork.specs.Forks.{HasForked, IsSharersFullError, IsNoFrameError};
 ghost use Rattle.frame_store.specs.Laws.{IsSeatOf, KeepsSeats};
 ghost use Rattle.frame_store.specs.View.{IsHeld};
+ghost use Rattle.hart_calls.specs.Replay.{call_of, listed_call};
 ghost use Rattle.hart_calls.specs.Track.{child_name, next_of};
 ghost use Rattle.hart_calls.specs.TurnCases.{ForkAnswer, ContinuesTurn, IsNamed, most_entries};
 ghost use Rattle.hart_calls.specs.Shortages.{IsForkRefusal};
@@ -22,7 +23,7 @@ ghost use Rattle.shared_frames.specs.SeatsOfTable.{FitsIn, view_of};
 ghost use Rattle.table_walk.specs.Tables.{Tables};
 
 use crate::fork_slot::{ForkSlot, Place};
-use crate::journal_entry::JournalEntry;
+use crate::journal_entry::{JournalEntry, Listed};
 use crate::journal_reply::JournalReply;
 use crate::plain_call::append_entry;
 use crate::run_brand::RunBrand;
@@ -101,10 +102,11 @@ impl<'a, B: RunBrand> Tracked<'a, B> {
         ensures goes { ContinuesTurn self.entry result.0 result.1 (slot.Free name place) }
     {
         let number = self.children();
+        let listed = self.listed();
         let mut parts = self.parts;
         match fork_there(&mut parts.space, store) {
             Ok(space) => {
-                let entry = answer(parts.alloc, list, ScalarReply::Forked(number));
+                let entry = answer(parts.alloc, listed, ScalarReply::Forked(number));
                 let opening = parts.present.of_child();
                 let space = place.fill(space);
                 let child = Tracked::new(parts.alloc, opening, space, name, parts.lists, list);
@@ -112,7 +114,7 @@ impl<'a, B: RunBrand> Tracked<'a, B> {
                 (append_entry(parts, present, entry), Some(child))
             }
             Err(error) => {
-                let entry = answer(parts.alloc, list, ScalarReply::Refused(error.into()));
+                let entry = answer(parts.alloc, listed, ScalarReply::Refused(error.into()));
                 let present = parts.present.kept();
                 (append_entry(parts, present, entry), None)
             }
@@ -130,9 +132,11 @@ impl<'a, B: RunBrand> Tracked<'a, B> {
         requires counted { refusal ≢ SharersFull }
         ensures goes { ContinuesTurn self.entry result None slot.now }
     {
+        let _ = list;
         let _ = slot;
+        let listed = self.listed();
         let parts = self.parts;
-        let entry = answer(parts.alloc, list, ScalarReply::Refused(refusal));
+        let entry = answer(parts.alloc, listed, ScalarReply::Refused(refusal));
         let present = parts.present.kept();
         append_entry(parts, present, entry)
     }
@@ -190,16 +194,11 @@ fn bare_beside<R: Wait>(
 }
 
 /// The journal entry of a fork.
-fn answer<'a>(alloc: Global, list: usize, reply: ScalarReply) -> JournalEntry<'a>
-    ensures call { result.call ≡ call.Fork list }
+fn answer<'a>(alloc: Global, listed: Listed<'a>, reply: ScalarReply) -> JournalEntry<'a>
+    ensures call { call_of result ≡ listed_call listed.entry }
     ensures reply { result.reply ≡ reply_of_scalar reply }
     ensures pages { result.pages.items ≡ [] }
     ensures file { result.file ≡ None }
 {
-    JournalEntry {
-        call: Call::Fork { list },
-        reply: JournalReply::short(reply),
-        pages: Vec::new(alloc),
-        file: None,
-    }
+    JournalEntry::new(listed, JournalReply::short(reply), Vec::new(alloc), None)
 }

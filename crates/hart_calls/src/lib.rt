@@ -8,6 +8,7 @@
 #![tactic(auto)]
 
 mod access;
+mod at_once;
 mod call_result;
 mod calls;
 mod copies;

@@ -6,7 +6,7 @@ ghost use Rattle.address_space.specs.Agreement.{body_of, IsSpace};
 ghost use Rattle.hart_calls.specs.CallKinds.{HasRoomFor, IsPlainCall, may_read, moves_read};
 ghost use Rattle.hart_calls.specs.ProcessEnd.{cause_of};
 ghost use Rattle.hart_calls.specs.CallResults.{shortage_of};
-ghost use Rattle.hart_calls.specs.Replay.{call_at, forks, IsReplayStep, list_at, Replays};
+ghost use Rattle.hart_calls.specs.Replay.{call_at, call_of, forks, IsReplayStep, list_at, listed_call, Replays};
 ghost use Rattle.hart_calls.specs.CallOutcomes.{file_of, call_outcome};
 ghost use Rattle.hart_calls.specs.Track.{NameLists, next_of};
 ghost use Rattle.hart_calls.specs.TurnResults.{HasFilesAfter, HasTurned};
@@ -20,7 +20,7 @@ use crate::call_result::CallResult;
 use crate::calls::make_there;
 use crate::exit::close;
 use crate::fork_slot::ForkSlot;
-use crate::journal_entry::JournalEntry;
+use crate::journal_entry::{JournalEntry, Listed};
 use crate::journal_reply::JournalReply;
 use crate::model_process::{ModelProcess, begun};
 use crate::run_brand::RunBrand;
@@ -61,6 +61,7 @@ impl<'a, B: RunBrand> Tracked<'a, B> {
         ensures files { HasFilesAfter self.entry result shelf.old shelf.new }
     {
         let _ = slot;
+        let listed = self.listed();
         let mut parts = self.parts;
         let before = Snapshot::of(&*shelf);
         let mark = uses(shelf);
@@ -70,17 +71,17 @@ impl<'a, B: RunBrand> Tracked<'a, B> {
         match call_result {
             CallResult::Answered(reply) => {
                 let present = state_after(&parts.present, before, call, &reply, None);
-                let entry = entry_of(call, reply, pages, file);
+                let entry = JournalEntry::new(listed, reply, pages, file);
                 Turn::Continues(append_entry(parts, present, entry), None)
             }
             CallResult::Stopped(refusal, done) => {
                 let reply = JournalReply::short(ScalarReply::Refused(refusal));
                 let present = state_after(&parts.present, before, call, &reply, Some(done));
-                let entry = entry_of(call, reply, pages, file);
+                let entry = JournalEntry::new(listed, reply, pages, file);
                 Turn::Continues(append_entry(parts, present, entry), None)
             }
             CallResult::Ended(rule) => {
-                let entry = last_entry(call, rule, pages, file);
+                let entry = last_entry(listed, rule, pages, file);
                 Turn::Over(close::<B, R>(parts, store, shelf, entry, Outcome::Ended(rule)))
             }
             CallResult::Cut(refusal) => {
@@ -94,40 +95,20 @@ impl<'a, B: RunBrand> Tracked<'a, B> {
     }
 }
 
-/// The journal entry of a call.
-fn entry_of<'a>(
-    call: Call<'a>,
-    reply: JournalReply,
-    pages: Vec<PageUse>,
-    file: Option<bool>,
-) -> JournalEntry<'a>
-    ensures call { result.call ≡ call.entry }
-    ensures reply { result.reply ≡ reply }
-    ensures pages { result.pages.items ≡ pages.items }
-    ensures file { result.file ≡ file }
-{
-    JournalEntry {
-        call,
-        reply,
-        pages,
-        file,
-    }
-}
-
 /// The journal entry of a call that ended its process by a rule.
 fn last_entry<'a>(
-    call: Call<'a>,
+    listed: Listed<'a>,
     rule: Rule,
     pages: Vec<PageUse>,
     file: Option<bool>,
 ) -> JournalEntry<'a>
-    ensures call { result.call ≡ call.entry }
+    ensures call { call_of result ≡ listed_call listed.entry }
     ensures reply { result.reply ≡ reply.Ended rule }
     ensures pages { result.pages.items ≡ pages.items }
     ensures file { result.file ≡ file }
 {
-    entry_of(
-        call,
+    JournalEntry::new(
+        listed,
         JournalReply::short(ScalarReply::Ended(rule)),
         pages,
         file,
@@ -144,7 +125,7 @@ pub(crate) fn append_entry<'a, B: RunBrand>(
     requires agrees { (t : Tables) × IsSpace (body_of view_of parts.space.value) t present.state }
     requires replays { Replays parts.opening.state 0 0 (list_at parts.lists.now parts.list) parts.journal.items parts.present.state }
     requires leads { (files : List File) × IsReplayStep files (forks parts.journal.items) parts.present.state entry present.state }
-    requires next { entry.call ≡ call_at (list_at parts.lists.now parts.list) (length parts.journal.items) }
+    requires next { call_of entry ≡ call_at (list_at parts.lists.now parts.list) (length parts.journal.items) }
     requires named { NameLists parts.lists.now }
     requires there { parts.list < length parts.lists.now }
     requires room { vec_len parts.journal < vec_capacity parts.journal }

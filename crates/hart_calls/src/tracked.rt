@@ -4,13 +4,13 @@
 
 ghost use Rattle.std.specs.Prelude.{[], ◌≡◌, ◌↔◌, ◌<◌, ◌≤◌, IfOk, length, true};
 ghost use Rattle.address_space.specs.Agreement.{body_of, IsSpace};
-ghost use Rattle.hart_calls.specs.Replay.{call_at, forks, Replays};
+ghost use Rattle.hart_calls.specs.Replay.{forks, listed_call, Replays};
 ghost use Rattle.hart_calls.specs.Track.{NameLists, calls_of, child_name, next_of, Track};
 ghost use Rattle.hart_calls.specs.TurnCases.{HasMapping, IsFork, IsMmap, NeedsFiles};
 ghost use Rattle.shared_frames.specs.SeatsOfTable.{FitsIn, view_of};
 ghost use Rattle.table_walk.specs.Tables.{Tables};
 
-use crate::journal_entry::JournalEntry;
+use crate::journal_entry::{JournalEntry, Listed, call_at};
 use crate::model_process::{ModelProcess, begun};
 use crate::run_brand::RunBrand;
 use address_space::Space;
@@ -138,10 +138,18 @@ impl<'a, B: RunBrand> Tracked<'a, B> {
     pub fn next(&self) -> Call<'a>
         ensures { result ≡ next_of self.now }
     {
-        call_at(
-            self.parts.lists[self.parts.list].as_slice(),
-            self.parts.journal.len(),
-        )
+        call_at(&self.parts.lists[self.parts.list], self.parts.journal.len())
+    }
+
+    /// The place of the next call in its list.
+    pub(crate) fn listed(&self) -> Listed<'a>
+        ensures { listed_call result ≡ next_of self.now }
+    {
+        let lists = self.parts.lists;
+        Listed {
+            list: &lists[self.parts.list],
+            number: self.parts.journal.len() as u16,
+        }
     }
 
     /// Returns whether `next_call` must be given a shelf: true exactly when the next call is mmap or the process has a
@@ -153,7 +161,7 @@ impl<'a, B: RunBrand> Tracked<'a, B> {
     }
 
     /// Whether the process has a mapping.
-    fn has_mapping(&self) -> bool
+    pub(crate) fn has_mapping(&self) -> bool
         ensures { (result ≡ true) ↔ HasMapping self.now.state.mappings }
     {
         !self.parts.space.layout.mappings().is_empty()
@@ -202,15 +210,4 @@ fn is_mmap(call: Call<'_>) -> bool
     ensures { (result ≡ true) ↔ IsMmap call.entry }
 {
     matches!(call, Call::Mmap { .. })
-}
-
-/// Call `number` of a list, `exit 0` after the last.
-#[tactic(auto, using(crate::proofs::There::behind_last))]
-fn call_at<'a>(calls: &[Call<'a>], number: usize) -> Call<'a>
-    ensures { result ≡ call_at calls.now number }
-{
-    match calls.get(number) {
-        Some(call) => *call,
-        None => Call::Exit { status: 0 },
-    }
 }

@@ -26,6 +26,9 @@ use std::sync::Wait;
 /// The most entries that a journal has: 10,000.
 pub const MOST_ENTRIES: usize = 10000;
 
+/// A journal of fewer entries takes memory as it grows. Most processes make few calls, and their lists may be long.
+const SHORT_JOURNAL: usize = 512;
+
 /// What one call leaves of a process, as `Tracked::next_call` returns it.
 #[derive(Drop)]
 pub enum Turn<'a, B: RunBrand> {
@@ -126,6 +129,19 @@ impl<'a, B: RunBrand> Tracked<'a, B> {
         }
     }
 
+    /// For how many entries the journal asks memory when it has no more: for one while it is short, and then at once for all
+    /// calls that its list has left and the exit, so that a long journal is moved but once.
+    fn entries_wanted(&self) -> usize
+        ensures { 0 < result }
+    {
+        let made = self.made();
+        if made < SHORT_JOURNAL {
+            return 1;
+        }
+        let listed = self.parts.lists[self.parts.list].as_slice().len();
+        listed.saturating_sub(made).saturating_add(1)
+    }
+
     /// Reserves memory for one journal entry more and for the two pages that its call may read from files, and a box for the
     /// reply if the call is `CopyIn`.
     ///
@@ -139,7 +155,8 @@ impl<'a, B: RunBrand> Tracked<'a, B> {
         ensures long { IfOk result (λ r. HasRoomFor (next_of self.new) r.1) }
     {
         let room = room_for_reply(self.parts.alloc, self.next())?;
-        self.parts.journal.reserve(1)?;
+        let wanted = self.entries_wanted();
+        self.parts.journal.reserve(wanted)?;
         let none = Vec::new(self.parts.alloc);
         let mut pages = mem::replace(&mut self.parts.spare, none);
         pages.clear();

@@ -1,10 +1,10 @@
 -- Lemmas: what one call does to the life (the roster's record of a process) that a voucher has: unchanged without a child
 -- (`out_alone`), a birth for parent and child (`is_birth`, `elder_out`, `young_out`), an end (`over_back`); without a slot
 -- there is no child.
-use Rattle.std.proofs.Common.{◌≡◌, ◌⊎◌, inl, inr, ℕ, ◌+◌, List, [], ◌∷◌, ◌++◌, length, Option, None, Some, refl, sym, ap, ◌∙◌, subst, arith, true}
+use Rattle.std.proofs.Common.{◌≡◌, ◌⊎◌, inl, inr, ℕ, ◌+◌, List, [], ◌∷◌, ◌++◌, length, Option, None, Some, refl, sym, ap, ◌∙◌, subst, arith, Bool, true, false}
 use Rattle.std.proofs.lemmas.List.{append-nil, append_assoc}
 use Rattle.vouchers.specs.Entries.{TokenEntry as Life, entry}
-use Rattle.hart_calls.specs.Replay.{forked, forks, list_at, Replays}
+use Rattle.hart_calls.specs.Replay.{call_of, forked, forks, list_at, Replays}
 use Rattle.hart_threads.specs.ChildLists.{fork_list, heir, child_lists}
 use Rattle.hart_calls.specs.Track.{AppendsEntry, Track}
 use Rattle.hart_calls.specs.TurnCases.{BySlot, EndsBy, ContinuesTurn, LeavesRunning, LacksJournalRoom, IsOver, IsLastEntry}
@@ -67,11 +67,11 @@ one_heir c r k is one = elim (names c r) as (λ _. heir c r ≡ k ∷ []) [
   | inr none ↦ absurd (let zero = none.0 in omega (arith, zero, one))
 ]
 
-heirs_snoc : (es : List JournalEntry) (e : JournalEntry) → child_lists (es ++ e ∷ []) ≡ child_lists es ++ heir e.call e.reply
-heirs_snoc [] e = append-nil (heir e.call e.reply)
-heirs_snoc (x ∷ es) e = ap (λ hs. heir x.call x.reply ++ hs) (heirs_snoc es e) ∙ sym (append_assoc (heir x.call x.reply) (child_lists es) (heir e.call e.reply))
+heirs_snoc : (es : List JournalEntry) (e : JournalEntry) → child_lists (es ++ e ∷ []) ≡ child_lists es ++ heir (call_of e) e.reply
+heirs_snoc [] e = append-nil (heir (call_of e) e.reply)
+heirs_snoc (x ∷ es) e = ap (λ hs. heir (call_of x) x.reply ++ hs) (heirs_snoc es e) ∙ sym (append_assoc (heir (call_of x) x.reply) (child_lists es) (heir (call_of e) e.reply))
 
-heirs_after : (es fs : List JournalEntry) (e : JournalEntry) (hs : List ℕ) → fs ≡ es ++ e ∷ [] → heir e.call e.reply ≡ hs → child_lists fs ≡ child_lists es ++ hs
+heirs_after : (es fs : List JournalEntry) (e : JournalEntry) (hs : List ℕ) → fs ≡ es ++ e ∷ [] → heir (call_of e) e.reply ≡ hs → child_lists fs ≡ child_lists es ++ hs
 heirs_after es fs e hs is h = ap child_lists is ∙ (heirs_snoc es e ∙ ap (λ ys. child_lists es ++ ys) h)
 
 -- as many as the journal names
@@ -88,8 +88,8 @@ heir_counts c r = elim (names c r) as (λ _. length (heir c r) ≡ forked r) [
 heirs_count : (es : List JournalEntry) → length (child_lists es) ≡ forks es
 heirs_count [] = refl
 heirs_count (e ∷ es) =
-    let a = add_lengths (heir e.call e.reply) (child_lists es) in
-    let b = heir_counts e.call e.reply in
+    let a = add_lengths (heir (call_of e) e.reply) (child_lists es) in
+    let b = heir_counts (call_of e) e.reply in
     let c = heirs_count es in
     omega (arith, a, b, c)
 
@@ -140,8 +140,13 @@ module _ (lists : List (List Call)) (starts : List Start) (held : List Life) (t 
   pub out_alone : (u : Track) (c : Option Track) (s : ForkSlot) → ContinuesTurn t u c s → c ≡ None → IsOut lists starts held u
   out_alone u c s went is =
       let g : ContinuesTurn t u None s = subst (λ (x : Option Track). ContinuesTurn t u x s) is went in
-      let same : child_lists u.journal ≡ child_lists t.journal = heirs_after t.journal u.journal g.entry [] g.adds.journal (no_heir g.entry.call g.entry.reply g.child) ∙ append-nil (child_lists t.journal) in
+      let same : child_lists u.journal ≡ child_lists t.journal = heirs_after t.journal u.journal g.entry [] g.adds.journal (no_heir (call_of g.entry) g.entry.reply g.child) ∙ append-nil (child_lists t.journal) in
       goes_out held u g.entry g.adds g.on (o.holds ∙ ap (λ (l : Life). l ∷ []) (entry_by _ _ _ _ _ _ (sym g.adds.name) (sym g.adds.list) (sym same)))
+
+  -- a call that may have been made in place
+  pub out_at_once : (u : Track) (made : Bool) → (made ≡ true → (s : ForkSlot) → ContinuesTurn t u None s) → (made ≡ false → u ≡ t) → IsOut lists starts held u
+  out_at_once u true went not = out_alone u None slot.NoSlot (went refl slot.NoSlot) refl
+  out_at_once u false went not = subst (IsOut lists starts held) (sym (not refl)) o
 
   -- a child was named
   module _ (u child : Track) (c : Option Track) (s : ForkSlot) (went : ContinuesTurn t u c s) (is : c ≡ Some child) where
@@ -157,7 +162,7 @@ module _ (lists : List (List Call)) (starts : List Start) (held : List Life) (t 
           before = child_lists t.journal;
           holds = o.holds ∙ ap (λ (l : Life). l ∷ []) (entry_by _ _ _ _ _ _ (sym g.adds.name) (sym g.adds.list) refl);
           named = λ none. o.named (sym g.adds.name ∙ none);
-          journal = heirs_after t.journal u.journal g.entry (child.list ∷ []) g.adds.journal (one_heir g.entry.call g.entry.reply k g.child.1.1 g.child.0 ∙ ap (λ (n : ℕ). n ∷ []) (sym young.list));
+          journal = heirs_after t.journal u.journal g.entry (child.list ∷ []) g.adds.journal (one_heir (call_of g.entry) g.entry.reply k g.child.1.1 g.child.0 ∙ ap (λ (n : ℕ). n ∷ []) (sym young.list));
           name = young.name ∙ (ap (λ (m : List ℕ). m ++ forks t.journal ∷ []) (sym g.adds.name) ∙ ap (λ (n : ℕ). u.name ++ n ∷ []) (sym (heirs_count t.journal)));
           none = young.journal;
         }
@@ -181,7 +186,7 @@ module _ (lists : List (List Call)) (starts : List Start) (held : List Life) (t 
 
   -- an end names no child
   ends_heirs : (f : Finished) (r : Reply) → forked r ≡ 0 → EndsBy t f r → child_lists f.journal.items ≡ child_lists t.journal
-  ends_heirs f r none e = heirs_after t.journal f.journal.items e.entry [] e.journal (no_heir e.entry.call e.entry.reply (ap forked e.reply ∙ none)) ∙ append-nil (child_lists t.journal)
+  ends_heirs f r none e = heirs_after t.journal f.journal.items e.entry [] e.journal (no_heir (call_of e.entry) e.entry.reply (ap forked e.reply ∙ none)) ∙ append-nil (child_lists t.journal)
 
   last_heirs : (f : Finished) (x : Outcome) → IsLastEntry t f x → child_lists f.journal.items ≡ child_lists t.journal
   last_heirs f (outcome.Exited status) l = ends_heirs f (reply.Exited status) refl l

@@ -19,12 +19,19 @@ use crate::roster::{Admission, Roster};
 use crate::start_outcomes::StartOutcomes;
 use file_shelf::Shelf;
 use hart_calls::{ForkSlot, Place, Tracked, Turn};
-use shared_frames::SharedFrames;
+use shared_frames::{SharedFrames, SharedSupply};
 use std::alloc::AllocError;
 use std::marker::PhantomData;
 use std::sync::{Mutex, Wait};
 use std::thread;
+use sv39_entry::FrameNo;
 use vouchers::{Token, TokenTable};
+
+/// The harts that search for free frames in places of their own; further harts share theirs.
+const MOST_HARTS: usize = 8;
+
+/// How many frames lie between the places where two harts begin to search.
+const FRAMES_APART: usize = 32;
 
 /// One hart, and what it shares with the others of its run.
 #[derive(Drop)]
@@ -46,7 +53,13 @@ impl<'r, 'a, B: Plan, F: StartOutcomes, R: Wait, G: Gate> HartThread<'r, 'a, B, 
     ///
     /// # Errors
     /// Why there is none: `NoSlot` if the call is no fork or every slot is in use, `Memory` if the host is out of memory.
-    fn admit(&self, tracked: &mut Tracked<'a, B>) -> Result<(Token, Vec<u64>, Place), ForkSlot>
+    fn admit(
+        &self,
+        store: &mut SharedSupply<'_, R>,
+        tracked: &mut Tracked<'a, B>,
+    ) -> Result<(Token, Vec<u64>, Place), ForkSlot>
+        requires store { store.old ≡ B.table }
+        ensures store { store.new ≡ B.table }
         ensures same { tracked.new ≡ tracked.old }
         ensures at { IfOk result (λ r. HoldsAt B.token_table r.0) }
         ensures slot { IfOk result (λ r. held_of r.0 ≡ entry [] 0 [] ∷ []) }
@@ -62,7 +75,7 @@ impl<'r, 'a, B: Plan, F: StartOutcomes, R: Wait, G: Gate> HartThread<'r, 'a, B, 
             Admission::NoSlot => return Err(ForkSlot::NoSlot),
             Admission::Memory => return Err(ForkSlot::Memory),
         };
-        match self.room_for_child(tracked) {
+        match self.room_for_child(store, tracked) {
             Ok((name, place)) => Ok((slot, name, place)),
             Err(_) => {
                 self.roster.lock(self.rt).withdraw(self.token_table, slot);
@@ -75,27 +88,38 @@ impl<'r, 'a, B: Plan, F: StartOutcomes, R: Wait, G: Gate> HartThread<'r, 'a, B, 
     ///
     /// # Errors
     /// `AllocError`: the host is out of memory.
-    fn room_for_child(&self, tracked: &mut Tracked<'a, B>) -> Result<(Vec<u64>, Place), AllocError>
+    fn room_for_child(
+        &self,
+        store: &mut SharedSupply<'_, R>,
+        tracked: &mut Tracked<'a, B>,
+    ) -> Result<(Vec<u64>, Place), AllocError>
+        requires store { store.old ≡ B.table }
+        ensures store { store.new ≡ B.table }
         ensures same { tracked.new ≡ tracked.old }
         ensures name { IfOk result (λ r. r.0.items ≡ child_name tracked.old) }
     {
         let name = tracked.child_name()?;
-        let mut store = self.frames.supply(self.rt);
-        let place = tracked.child_place(&mut store)?;
+        let place = tracked.child_place(store)?;
         Ok((name, place))
     }
 
     /// Makes the next call. If it needs files, the shelf is locked for the whole call.
-    fn call(&self, tracked: Tracked<'a, B>, slot: ForkSlot) -> Turn<'a, B>
+    fn call(
+        &self,
+        store: &mut SharedSupply<'_, R>,
+        tracked: Tracked<'a, B>,
+        slot: ForkSlot,
+    ) -> Turn<'a, B>
+        requires store { store.old ≡ B.table }
         requires slot { IsNamed slot (child_name tracked) }
+        ensures store { store.new ≡ B.table }
         ensures turned { HasTurned tracked.entry result slot }
     {
-        let mut store = self.frames.supply(self.rt);
         if tracked.needs_files() {
             let mut shelf = self.shelf.lock(self.rt);
-            tracked.next_call(&mut store, Some(&mut shelf), slot)
+            tracked.next_call(store, Some(&mut shelf), slot)
         } else {
-            tracked.next_call(&mut store, None, slot)
+            tracked.next_call(store, None, slot)
         }
     }
 
@@ -104,19 +128,22 @@ impl<'r, 'a, B: Plan, F: StartOutcomes, R: Wait, G: Gate> HartThread<'r, 'a, B, 
     #[inline(never)]
     fn fork(
         &self,
+        store: &mut SharedSupply<'_, R>,
         tracked: Tracked<'a, B>,
         token: Token,
         slot: Token,
         name: Vec<u64>,
         place: Place,
     ) -> JobStep<'a, B>
+        requires store { store.old ≡ B.table }
         requires at { HoldsAt B.token_table token × HoldsAt B.token_table slot }
         requires out { IsOut B.lists B.plan (held_of token) tracked }
         requires slot { held_of slot ≡ entry [] 0 [] ∷ [] }
         requires name { name.items ≡ child_name tracked }
+        ensures store { store.new ≡ B.table }
         ensures due { IsDue result }
     {
-        match self.call(tracked, ForkSlot::Free(name, place)) {
+        match self.call(store, tracked, ForkSlot::Free(name, place)) {
             Turn::Continues(tracked, child) => match child {
                 Some(child) => {
                     let (token, young) = self
@@ -147,13 +174,21 @@ impl<'r, 'a, B: Plan, F: StartOutcomes, R: Wait, G: Gate> HartThread<'r, 'a, B, 
     }
 
     /// Makes the next call, for which no slot is kept.
-    fn plain(&self, tracked: Tracked<'a, B>, token: Token, slot: ForkSlot) -> JobStep<'a, B>
+    fn plain(
+        &self,
+        store: &mut SharedSupply<'_, R>,
+        tracked: Tracked<'a, B>,
+        token: Token,
+        slot: ForkSlot,
+    ) -> JobStep<'a, B>
+        requires store { store.old ≡ B.table }
         requires at { HoldsAt B.token_table token }
         requires out { IsOut B.lists B.plan (held_of token) tracked }
         requires none { IsNone slot }
+        ensures store { store.new ≡ B.table }
         ensures due { IsDue result }
     {
-        match self.call(tracked, slot) {
+        match self.call(store, tracked, slot) {
             Turn::Continues(tracked, child) => match child {
                 Some(_) => unreachable!(),
                 None => JobStep::Continues(Job { tracked, token }),
@@ -167,13 +202,15 @@ impl<'r, 'a, B: Plan, F: StartOutcomes, R: Wait, G: Gate> HartThread<'r, 'a, B, 
     }
 
     /// Makes the next call of a job.
-    fn step(&self, job: Job<'a, B>) -> JobStep<'a, B>
+    fn step(&self, store: &mut SharedSupply<'_, R>, job: Job<'a, B>) -> JobStep<'a, B>
+        requires store { store.old ≡ B.table }
+        ensures store { store.new ≡ B.table }
         ensures due { IsDue result }
     {
         let Job { mut tracked, token } = job;
-        match self.admit(&mut tracked) {
-            Ok((slot, name, place)) => self.fork(tracked, token, slot, name, place),
-            Err(slot) => self.plain(tracked, token, slot),
+        match self.admit(store, &mut tracked) {
+            Ok((slot, name, place)) => self.fork(store, tracked, token, slot, name, place),
+            Err(slot) => self.plain(store, tracked, token, slot),
         }
     }
 
@@ -193,13 +230,20 @@ impl<'r, 'a, B: Plan, F: StartOutcomes, R: Wait, G: Gate> HartThread<'r, 'a, B, 
     }
 
     /// Makes up to `quantum` calls of a process, with the hooks around each, and puts it back into the queue unless it has
-    /// ended.
-    fn turn(&self, job: Job<'a, B>, quantum: usize) {
+    /// ended. Most calls are user accesses that need no service; these are made in place, so the process is not moved.
+    fn turn(&self, store: &mut SharedSupply<'_, R>, job: Job<'a, B>, quantum: usize)
+        requires store { store.old ≡ B.table }
+        ensures store { store.new ≡ B.table }
+    {
         let mut current = job;
         'calls: for _ in 0..quantum {
             let call = current.tracked.next();
             self.gate.enter(self.number, current.tracked.name(), call);
-            match self.step(current) {
+            if current.access_at_once(store) {
+                self.gate.leave(self.number, current.tracked.name(), call);
+                continue;
+            }
+            match self.step(store, current) {
                 JobStep::Continues(next) => {
                     self.gate.leave(self.number, next.tracked.name(), call);
                     current = next;
@@ -217,9 +261,11 @@ impl<'r, 'a, B: Plan, F: StartOutcomes, R: Wait, G: Gate> HartThread<'r, 'a, B, 
 
     /// Takes jobs from the queue and runs them, until the queue is empty and no slot is in use.
     pub(crate) fn run(&self, quantum: usize) {
+        let first = FrameNo((FRAMES_APART * (self.number % MOST_HARTS)) as u16);
+        let mut store = self.frames.supply_from(self.rt, first);
         'turns: for _ in self.rt.forever() {
             match take(self.rt, self.parts, self.number) {
-                Some(job) => self.turn(job, quantum),
+                Some(job) => self.turn(&mut store, job, quantum),
                 None => {
                     if self.roster.lock(self.rt).is_done() {
                         return;

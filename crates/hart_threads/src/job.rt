@@ -1,12 +1,14 @@
 // `Job` (struct): an unfinished process with its voucher (a linear token which proves that the roster, the list of
-// processes, has it). `EndedJob` (struct): an ended process with the voucher to return. `JobStep` (enum): which of the two a
-// call leaves.
+// processes, has it); `access_at_once` makes its next call in place. `EndedJob` (struct): an ended process with the voucher to
+// return. `JobStep` (enum): which of the two a call leaves.
 
+ghost use Rattle.std.specs.Prelude.{◌≡◌};
 ghost use Rattle.hart_threads.specs.RosterState.{IsOut};
 ghost use Rattle.vouchers.specs.IssuerSeats.{HoldsAt, held_of};
 
 use crate::plan::Plan;
 use hart_calls::{Finished, Tracked};
+use shared_frames::SharedSupply;
 use std::marker::PhantomData;
 use vouchers::Token;
 
@@ -17,6 +19,17 @@ pub(crate) struct Job<'a, B: Plan> {
     pub(crate) token: Token,
     ghost at: { HoldsAt B.token_table token },
     ghost out: { IsOut B.lists B.plan (held_of token) tracked },
+}
+
+impl<'a, B: Plan> Job<'a, B> {
+    /// Makes the next call in place if it is a user access that needs no service (`Tracked::access_at_once`). Returns
+    /// whether it was made.
+    pub(crate) fn access_at_once<R>(&mut self, store: &mut SharedSupply<'_, R>) -> bool
+        requires store { store.old ≡ B.table }
+        ensures store { store.new ≡ B.table }
+    {
+        self.tracked.access_at_once(store)
+    }
 }
 
 /// An ended process and the voucher that it had, which the hart has to return to the roster.

@@ -8,7 +8,7 @@ ghost use Rattle.shared_frames.specs.SeatsOfTable.{IsSized};
 
 use crate::seat::SharedSeat;
 use crate::table::Words;
-use crate::{split_join, steps};
+use crate::{many_words, split_join, steps};
 use frame_store::FrameAccess;
 use std::marker::Model;
 use sv39_entry::FrameNo;
@@ -64,6 +64,24 @@ impl<'a> FrameAccess for SharedAccess<'a> {
 
     fn store(&mut self, seat: &mut SharedSeat, frame: FrameNo, index: usize, value: u64) {
         steps::store_word(self.table, seat, frame, index, value);
+    }
+
+    fn next_word(
+        &mut self,
+        seat: &mut SharedSeat,
+        frame: FrameNo,
+        first: usize,
+        last: usize,
+    ) -> Option<(usize, u64)> {
+        many_words::next_word(self.table, seat, frame, first, last)
+    }
+
+    fn clear(&mut self, seat: &mut SharedSeat, frame: FrameNo, first: usize) {
+        many_words::clear(self.table, seat, frame, first);
+    }
+
+    fn copy(&mut self, seat: &mut SharedSeat, from: FrameNo, to: FrameNo) {
+        many_words::copy(self.table, seat, from, to);
     }
 
     fn look(&mut self, seat: &mut SharedSeat, frame: FrameNo) -> u32 {

@@ -18,6 +18,7 @@ use atomic_table::{Closed, Table};
 use std::alloc::{AllocError, Global};
 use std::marker::Model;
 use std::sync::Wait;
+use sv39_entry::FrameNo;
 
 /// The frames that threads share, with their memory. Contracts see the identity of the table and the number of frames.
 #[derive(Drop)]
@@ -75,7 +76,15 @@ impl SharedFrames {
     pub fn supply<'a, R: Wait>(&'a self, rt: &'a R) -> SharedSupply<'a, R>
         ensures { result ≡ self.now.table }
     {
-        SharedSupply::new(rt, &self.table.shared, self.frames)
+        SharedSupply::new(rt, &self.table.shared, self.frames, FrameNo(0))
+    }
+
+    /// Returns a handle as `supply` does, whose first search for a free frame begins at frame `first` (at 0, if there is no
+    /// such frame). Threads that begin apart seldom try the same frame.
+    pub fn supply_from<'a, R: Wait>(&'a self, rt: &'a R, first: FrameNo) -> SharedSupply<'a, R>
+        ensures { result ≡ self.now.table }
+    {
+        SharedSupply::new(rt, &self.table.shared, self.frames, first)
     }
 
     /// Closes the table with `seat`, which must be at this table, frees its memory, and returns the totals of its last

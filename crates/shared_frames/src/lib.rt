@@ -11,6 +11,7 @@
 
 mod access;
 mod frames;
+mod many_words;
 mod retry;
 mod seat;
 mod split_join;

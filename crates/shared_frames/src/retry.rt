@@ -51,9 +51,16 @@ pub fn reserve<R: Wait>(
     Err(NoFrame)
 }
 
-/// Allocates a frame for one of the seat's credits, and returns its number. Tries frames from 0 on, and from 0 again after
-/// the last, until it finds one of count 0. The seat is then its sole holder, with no word known.
-pub fn claim<R: Wait>(rt: &R, table: &Words, frames: usize, seat: &mut SharedSeat) -> FrameNo
+/// Allocates a frame for one of the seat's credits, and returns its number. Tries frames from `first` on (from 0 on, if there
+/// is no such frame), and from 0 again after the last, until it finds one of count 0. The seat is then its sole holder, with
+/// no word known.
+pub fn claim<R: Wait>(
+    rt: &R,
+    table: &Words,
+    frames: usize,
+    first: FrameNo,
+    seat: &mut SharedSeat,
+) -> FrameNo
     requires sized { IsSized table.now.table_id.words table.now.key }
     requires frames { frames ≡ table.now.key }
     requires fits { FitsIn table.now.table_id seat.old }
@@ -63,10 +70,14 @@ pub fn claim<R: Wait>(rt: &R, table: &Words, frames: usize, seat: &mut SharedSea
     ensures fresh { references (view_of seat.old) result.0 ≡ 0 }
     ensures view { view_of seat.new ≡ claimed result.0 (view_of seat.old) }
 {
-    let mut number = 0;
+    let mut number = if usize::from(first.0) < frames {
+        first.0
+    } else {
+        0
+    };
     for _ in rt.forever() {
         let frame = FrameNo(number);
-        if steps::try_claim(table, seat, frame) == 0 {
+        if steps::seems_free(table, frame) && steps::try_claim(table, seat, frame) == 0 {
             return frame;
         }
         number += 1;

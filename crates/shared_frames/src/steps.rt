@@ -1,6 +1,6 @@
 // Crate-internal functions, the steps on the table of shared frames: load the free count, try to reserve, to claim or to
-// share, give back, look, drop a reference, release, load a word, store a word. Each is one atomic operation, except
-// `release` and `store_word`, which make one or two.
+// share, see whether a frame seems free, give back, look, drop a reference, release, load a word, store a word. Each is one
+// atomic operation, except `release` and `store_word`, which make one or two.
 
 ghost use Rattle.std.specs.Prelude.{◌≡◌, ℕ, ◌+◌, ◌-◌, ◌*◌, ◌<◌, ◌≤◌, ◌==◌, cond, Some};
 ghost use Rattle.frame_store.specs.Laws.{IsAnchored};
@@ -49,6 +49,15 @@ pub fn give_back(table: &Words, seat: &mut SharedSeat, count: u64)
     ensures view { view_of seat.new ≡ without_credits count (view_of seat.old) }
 {
     table.fetch_add::<GiveBack>(&mut seat.seat, 0, count);
+}
+
+/// Whether the frame's count was just 0. Another thread may have taken the frame since, so this only tells which frames are
+/// worth an exchange, which costs many loads.
+pub fn seems_free(table: &Words, frame: FrameNo) -> bool
+    requires sized { IsSized table.now.table_id.words table.now.key }
+    requires inside { frame.0 < table.now.key }
+{
+    table.peek(FRAME_WORDS * frame.0 as usize + 1) == 0
 }
 
 /// Exchanges the frame's count for 1 if it is 0, and returns the count as it was. If that is 0, a credit is spent and the
@@ -114,8 +123,8 @@ pub fn drop_reference(table: &Words, seat: &mut SharedSeat, frame: FrameNo) -> u
 }
 
 /// Drops one reference to a held frame. If it was the frame's last, the frame becomes free by a second step; between the two
-/// it is not free, since the seat has a credit for it.
-pub fn release(table: &Words, seat: &mut SharedSeat, frame: FrameNo)
+/// it is not free, since the seat has a credit for it. Returns whether it was the last; no clause promises that.
+pub fn release(table: &Words, seat: &mut SharedSeat, frame: FrameNo) -> bool
     requires sized { IsSized table.now.table_id.words table.now.key }
     requires fits { FitsIn table.now.table_id seat.old }
     requires held { IsHeld (view_of seat.old) frame.0 }
@@ -123,10 +132,11 @@ pub fn release(table: &Words, seat: &mut SharedSeat, frame: FrameNo)
     ensures fits { FitsIn table.now.table_id seat.new }
     ensures view { view_of seat.new ≡ released frame.0 (view_of seat.old) }
 {
-    let count = drop_reference(table, seat, frame);
-    if count == 1 {
+    let last = drop_reference(table, seat, frame) == 1;
+    if last {
         give_back(table, seat, 1);
     }
+    last
 }
 
 /// Loads a word of a held frame, and returns it. If the seat knows that word, the result is this word.

@@ -7,7 +7,7 @@ ghost use Rattle.shared_frames.specs.SeatsOfTable.{IsSized};
 
 use crate::seat::SharedSeat;
 use crate::table::Words;
-use crate::{retry, split_join, steps};
+use crate::{many_words, retry, split_join, steps};
 use frame_store::{FrameAccess, FrameSupply, NoFrame, SharersFull};
 use std::marker::Model;
 use std::sync::Wait;
@@ -21,6 +21,9 @@ pub struct SharedSupply<'a, R> {
     rt: &'a R,
     table: &'a Words,
     frames: usize,
+    /// Where the next search for a free frame begins: at the frame that was freed or claimed last. So a thread gets frames
+    /// that its processor has at hand, and threads search in different places.
+    next: FrameNo,
 }
 
 impl<'a, R> Model for SharedSupply<'a, R> {
@@ -32,13 +35,23 @@ impl<'a, R> Model for SharedSupply<'a, R> {
 }
 
 impl<'a, R> SharedSupply<'a, R> {
-    /// Returns a handle on the table of `frames` frames.
-    pub(crate) fn new(rt: &'a R, table: &'a Words, frames: usize) -> SharedSupply<'a, R>
+    /// Returns a handle on the table of `frames` frames, whose first search for a free frame begins at frame `first`.
+    pub(crate) fn new(
+        rt: &'a R,
+        table: &'a Words,
+        frames: usize,
+        first: FrameNo,
+    ) -> SharedSupply<'a, R>
         requires sized { IsSized table.now.table_id.words table.now.key }
         requires counted { frames ≡ table.now.key }
         ensures { result ≡ table.now.table_id }
     {
-        SharedSupply { rt, table, frames }
+        SharedSupply {
+            rt,
+            table,
+            frames,
+            next: first,
+        }
     }
 }
 
@@ -69,12 +82,32 @@ impl<'a, R> FrameAccess for SharedSupply<'a, R> {
         steps::store_word(self.table, seat, frame, index, value);
     }
 
+    fn next_word(
+        &mut self,
+        seat: &mut SharedSeat,
+        frame: FrameNo,
+        first: usize,
+        last: usize,
+    ) -> Option<(usize, u64)> {
+        many_words::next_word(self.table, seat, frame, first, last)
+    }
+
+    fn clear(&mut self, seat: &mut SharedSeat, frame: FrameNo, first: usize) {
+        many_words::clear(self.table, seat, frame, first);
+    }
+
+    fn copy(&mut self, seat: &mut SharedSeat, from: FrameNo, to: FrameNo) {
+        many_words::copy(self.table, seat, from, to);
+    }
+
     fn look(&mut self, seat: &mut SharedSeat, frame: FrameNo) -> u32 {
         steps::look(self.table, seat, frame) as u32
     }
 
     fn release(&mut self, seat: &mut SharedSeat, frame: FrameNo) {
-        steps::release(self.table, seat, frame);
+        if steps::release(self.table, seat, frame) {
+            self.next = frame;
+        }
     }
 
     fn give_back(&mut self, seat: &mut SharedSeat, n: usize) {
@@ -92,7 +125,9 @@ impl<'a, R: Wait> FrameSupply for SharedSupply<'a, R> {
     }
 
     fn claim(&mut self, seat: &mut SharedSeat) -> FrameNo {
-        retry::claim(self.rt, self.table, self.frames, seat)
+        let frame = retry::claim(self.rt, self.table, self.frames, self.next, seat);
+        self.next = frame;
+        frame
     }
 
     fn share(&mut self, seat: &mut SharedSeat, frame: FrameNo) -> Result<(), SharersFull> {

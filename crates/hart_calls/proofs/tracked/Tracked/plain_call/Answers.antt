@@ -111,10 +111,10 @@ append_entry-requires-clause-leads g c =
     let comes = h.1 in
     let r = c.in-Answered.reply in
     let w : Shortage = by_reply (address_of k) r in
-    let n = c.entry_of-entry.ensures in
-    let e = c.entry_of-entry.result in
+    let n = c.new-entry.ensures in
+    let e = c.new-entry.result in
     let is : IsEntryOf t a w k r e = record {
-      call = n.call;
+      call = n.call ∙ c.listed-listed.ensures ∙ sym c.requires.next;
       answer = n.reply;
       pages = n.pages ∙ pages_are a.files w state k a.history b.history c.pages_read-pages.result.items c.uses-mark.result c.uses-mark.ensures c.pages_read-pages.ensures comes.moves.history;
       file = n.file ∙ c.mapped_file-file.ensures;
@@ -145,10 +145,10 @@ returns-in-Answered-clause-turned g c =
     let comes = h.1 in
     let r = c.in-Answered.reply in
     let w : Shortage = by_reply (address_of k) r in
-    let n = c.entry_of-entry.ensures in
-    let e = c.entry_of-entry.result in
+    let n = c.new-entry.ensures in
+    let e = c.new-entry.result in
     let is : IsEntryOf t a w k r e = record {
-      call = n.call;
+      call = n.call ∙ c.listed-listed.ensures ∙ sym c.requires.next;
       answer = n.reply;
       pages = n.pages ∙ pages_are a.files w state k a.history b.history c.pages_read-pages.result.items c.uses-mark.result c.uses-mark.ensures c.pages_read-pages.ensures comes.moves.history;
       file = n.file ∙ c.mapped_file-file.ensures;
@@ -156,7 +156,7 @@ returns-in-Answered-clause-turned g c =
     let moved : c.state_after-present.result.state ≡ (call_outcome a.files w 0 state k).process = c.state_after-present.ensures ∙ ap (λ (s : ShelfState). (call_outcome s.files w 0 state k).process) c.of-before.ensures in
     let next = subst (λ (z : Track). k ≡ next_of z) (sym c.self.view_is) c.requires.next in
     let j = c.append_entry.ensures in
-    let adds : AppendsEntry t c.append_entry.result e = record { name = j.name; lists = j.lists; list = j.list; opening = j.opening; journal = j.journal; next = n.call ∙ next } in
+    let adds : AppendsEntry t c.append_entry.result e = record { name = j.name; lists = j.lists; list = j.list; opening = j.opening; journal = j.journal; next = is.call ∙ next } in
     rw (← c.self.view_is) (goes t k c.requires.stays a b w r e is x y refl comes c.append_entry.result adds j.seat (j.state ∙ moved) h.0 c.args.slot.now)
 
 pub returns-in-Answered-clause-files : goal.returns-in-Answered-clause-files
@@ -182,10 +182,10 @@ returns-in-Answered-clause-files g c =
     let comes = h.1 in
     let r = c.in-Answered.reply in
     let w : Shortage = by_reply (address_of k) r in
-    let n = c.entry_of-entry.ensures in
-    let e = c.entry_of-entry.result in
+    let n = c.new-entry.ensures in
+    let e = c.new-entry.result in
     let is : IsEntryOf t a w k r e = record {
-      call = n.call;
+      call = n.call ∙ c.listed-listed.ensures ∙ sym c.requires.next;
       answer = n.reply;
       pages = n.pages ∙ pages_are a.files w state k a.history b.history c.pages_read-pages.result.items c.uses-mark.result c.uses-mark.ensures c.pages_read-pages.ensures comes.moves.history;
       file = n.file ∙ c.mapped_file-file.ensures;
@@ -193,7 +193,7 @@ returns-in-Answered-clause-files g c =
     let moved : c.state_after-present.result.state ≡ (call_outcome a.files w 0 state k).process = c.state_after-present.ensures ∙ ap (λ (s : ShelfState). (call_outcome s.files w 0 state k).process) c.of-before.ensures in
     let next = subst (λ (z : Track). k ≡ next_of z) (sym c.self.view_is) c.requires.next in
     let j = c.append_entry.ensures in
-    let adds : AppendsEntry t c.append_entry.result e = record { name = j.name; lists = j.lists; list = j.list; opening = j.opening; journal = j.journal; next = n.call ∙ next } in
+    let adds : AppendsEntry t c.append_entry.result e = record { name = j.name; lists = j.lists; list = j.list; opening = j.opening; journal = j.journal; next = is.call ∙ next } in
     rw (← c.self.view_is) (filed t k c.requires.stays a b w r e is x y refl comes c.append_entry.result adds j.seat (j.state ∙ moved) h.0)
 
 pub append_entry-requires-in-Stopped-clause-agrees : goal.append_entry-requires-in-Stopped-clause-agrees
@@ -243,10 +243,10 @@ append_entry-requires-in-Stopped-clause-leads g c =
     let comes = c.in-Stopped.ensures.call_result p.0 state p.1 in
     let r : Reply = reply.Refused c.in-Stopped.refusal in
     let w : Shortage = refused c.in-Stopped.done c.in-Stopped.refusal in
-    let n = c.entry_of-entry-in-Stopped.ensures in
-    let e = c.entry_of-entry-in-Stopped.result in
+    let n = c.new-entry-in-Stopped.ensures in
+    let e = c.new-entry-in-Stopped.result in
     let is : IsEntryOf t a w k r e = record {
-      call = n.call;
+      call = n.call ∙ c.listed-listed.ensures ∙ sym c.requires.next;
       answer = n.reply ∙ c.short-reply.ensures;
       pages = n.pages ∙ pages_are a.files w state k a.history b.history c.pages_read-pages.result.items c.uses-mark.result c.uses-mark.ensures c.pages_read-pages.ensures comes.moves.history;
       file = n.file ∙ c.mapped_file-file.ensures;
@@ -276,10 +276,10 @@ returns-in-Stopped-clause-turned g c =
     let comes = c.in-Stopped.ensures.call_result p.0 state p.1 in
     let r : Reply = reply.Refused c.in-Stopped.refusal in
     let w : Shortage = refused c.in-Stopped.done c.in-Stopped.refusal in
-    let n = c.entry_of-entry-in-Stopped.ensures in
-    let e = c.entry_of-entry-in-Stopped.result in
+    let n = c.new-entry-in-Stopped.ensures in
+    let e = c.new-entry-in-Stopped.result in
     let is : IsEntryOf t a w k r e = record {
-      call = n.call;
+      call = n.call ∙ c.listed-listed.ensures ∙ sym c.requires.next;
       answer = n.reply ∙ c.short-reply.ensures;
       pages = n.pages ∙ pages_are a.files w state k a.history b.history c.pages_read-pages.result.items c.uses-mark.result c.uses-mark.ensures c.pages_read-pages.ensures comes.moves.history;
       file = n.file ∙ c.mapped_file-file.ensures;
@@ -287,7 +287,7 @@ returns-in-Stopped-clause-turned g c =
     let moved : c.state_after-present-in-Stopped.result.state ≡ (call_outcome a.files w 0 state k).process = c.state_after-present-in-Stopped.ensures ∙ ap (λ (z : Reply). (call_outcome (c.of-before.result.value).files (shortage_of (Some c.in-Stopped.done) k z) 0 state k).process) c.short-reply.ensures ∙ ap (λ (s : ShelfState). (call_outcome s.files w 0 state k).process) c.of-before.ensures in
     let next = subst (λ (z : Track). k ≡ next_of z) (sym c.self.view_is) c.requires.next in
     let j = c.append_entry-in-Stopped.ensures in
-    let adds : AppendsEntry t c.append_entry-in-Stopped.result e = record { name = j.name; lists = j.lists; list = j.list; opening = j.opening; journal = j.journal; next = n.call ∙ next } in
+    let adds : AppendsEntry t c.append_entry-in-Stopped.result e = record { name = j.name; lists = j.lists; list = j.list; opening = j.opening; journal = j.journal; next = is.call ∙ next } in
     rw (← c.self.view_is) (goes t k c.requires.stays a b w r e is x y refl comes c.append_entry-in-Stopped.result adds j.seat (j.state ∙ moved) tt c.args.slot.now)
 
 pub returns-in-Stopped-clause-files : goal.returns-in-Stopped-clause-files
@@ -312,10 +312,10 @@ returns-in-Stopped-clause-files g c =
     let comes = c.in-Stopped.ensures.call_result p.0 state p.1 in
     let r : Reply = reply.Refused c.in-Stopped.refusal in
     let w : Shortage = refused c.in-Stopped.done c.in-Stopped.refusal in
-    let n = c.entry_of-entry-in-Stopped.ensures in
-    let e = c.entry_of-entry-in-Stopped.result in
+    let n = c.new-entry-in-Stopped.ensures in
+    let e = c.new-entry-in-Stopped.result in
     let is : IsEntryOf t a w k r e = record {
-      call = n.call;
+      call = n.call ∙ c.listed-listed.ensures ∙ sym c.requires.next;
       answer = n.reply ∙ c.short-reply.ensures;
       pages = n.pages ∙ pages_are a.files w state k a.history b.history c.pages_read-pages.result.items c.uses-mark.result c.uses-mark.ensures c.pages_read-pages.ensures comes.moves.history;
       file = n.file ∙ c.mapped_file-file.ensures;
@@ -323,7 +323,7 @@ returns-in-Stopped-clause-files g c =
     let moved : c.state_after-present-in-Stopped.result.state ≡ (call_outcome a.files w 0 state k).process = c.state_after-present-in-Stopped.ensures ∙ ap (λ (z : Reply). (call_outcome (c.of-before.result.value).files (shortage_of (Some c.in-Stopped.done) k z) 0 state k).process) c.short-reply.ensures ∙ ap (λ (s : ShelfState). (call_outcome s.files w 0 state k).process) c.of-before.ensures in
     let next = subst (λ (z : Track). k ≡ next_of z) (sym c.self.view_is) c.requires.next in
     let j = c.append_entry-in-Stopped.ensures in
-    let adds : AppendsEntry t c.append_entry-in-Stopped.result e = record { name = j.name; lists = j.lists; list = j.list; opening = j.opening; journal = j.journal; next = n.call ∙ next } in
+    let adds : AppendsEntry t c.append_entry-in-Stopped.result e = record { name = j.name; lists = j.lists; list = j.list; opening = j.opening; journal = j.journal; next = is.call ∙ next } in
     rw (← c.self.view_is) (filed t k c.requires.stays a b w r e is x y refl comes c.append_entry-in-Stopped.result adds j.seat (j.state ∙ moved) tt)
 
 pub close-requires-clause-ready : goal.close-requires-clause-ready
@@ -376,7 +376,7 @@ returns-in-Ended-clause-turned g c =
     let n = c.last_entry-entry.ensures in
     let e = c.last_entry-entry.result in
     let is : IsEntryOf t a w k r e = record {
-      call = n.call;
+      call = n.call ∙ c.listed-listed.ensures ∙ sym c.requires.next;
       answer = n.reply;
       pages = n.pages ∙ pages_are a.files w state k a.history b.history c.pages_read-pages.result.items c.uses-mark.result c.uses-mark.ensures c.pages_read-pages.ensures comes.moves.history;
       file = n.file ∙ c.mapped_file-file.ensures;
@@ -410,7 +410,7 @@ returns-in-Ended-clause-files g c =
     let n = c.last_entry-entry.ensures in
     let e = c.last_entry-entry.result in
     let is : IsEntryOf t a w k r e = record {
-      call = n.call;
+      call = n.call ∙ c.listed-listed.ensures ∙ sym c.requires.next;
       answer = n.reply;
       pages = n.pages ∙ pages_are a.files w state k a.history b.history c.pages_read-pages.result.items c.uses-mark.result c.uses-mark.ensures c.pages_read-pages.ensures comes.moves.history;
       file = n.file ∙ c.mapped_file-file.ensures;

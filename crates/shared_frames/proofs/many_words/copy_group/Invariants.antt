@@ -1,0 +1,13 @@
+use Rattle.std.proofs.Common.{◌≡◌, ◌+◌}
+use Rattle.frame_store.specs.View.{AllKnown, IsHeld, IsSole, View, with_many, words_known}
+use Rattle.shared_frames.specs.SeatsOfTable.{FitsIn, view_of}
+use Rattle.shared_frames.proofs.many_words.copy_group.Given as goal
+
+-- so many words of the group are copied
+abbrev pub invariant-places : goal.invariant-places
+invariant-places l = record {
+  fits : FitsIn l.table.table_id l.seat;
+  held : IsHeld (view_of l.seat) l.from.0;
+  sole : IsSole (view_of l.seat) l.to.0;
+  view : (v : View) → AllKnown v l.from.0 → view_of l.initial.seat ≡ with_many l.to.0 0 l.index (words_known v l.from.0) v → view_of l.seat ≡ with_many l.to.0 0 (l.index + l.place) (words_known v l.from.0) v;
+}
