@@ -1,3 +1,4 @@
 pub mod Outcomes
-pub mod Requests
 pub mod Lines
+pub mod Mistakes
+pub mod Requests

@@ -13,7 +13,7 @@ use Rattle.mmu.specs.declared.outcome.Outcome.{Outcome}
 use Rattle.mmu.specs.declared.unit.Mmu.{Mmu}
 use Rattle.walk_lines.specs.Buffers.{buffer_line}
 use Rattle.walk_lines.specs.declared.buffers.BufferLine.{BufferLine}
-use Rattle.mmu_lines.specs.Lines.{IsRequest}
+use Rattle.mmu_lines.specs.Lines.{IsRequest, MakesNone}
 use Rattle.mmu_lines.specs.Outcomes.{hex, outcome_line}
 use Rattle.mmu_lines.specs.declared.answers.Answer.{Answer}
 use Rattle.mmu_lines.specs.declared.answers.Answer.TheVariants as answer
@@ -82,6 +82,6 @@ IsError (answer.Entry n) = ⊥
 IsError (answer.Removed n) = ⊥
 IsError (answer.Entries lines) = ⊥
 
--- the answer to a line with these fields: that to its request, or the line is faulty, and the MMU as it was
+-- the answer to a line with these fields: that to its request; or it makes none, is answered as faulty, and the MMU is as it was
 abbrev pub IsAnswer : List (List ℕ) → Mmu → Mmu → Answer → Type 0
-IsAnswer fs old new a = ((r : Request) × IsRequest fs r × IsDone old r new a) ⊎ (IsError a × (new ≡ old))
+IsAnswer fs old new a = ((r : Request) × IsRequest fs r × IsDone old r new a) ⊎ (MakesNone fs × IsError a × (new ≡ old))

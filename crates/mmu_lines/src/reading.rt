@@ -1,10 +1,13 @@
 // `read_line`: what a line asks for, or what is wrong with it.
 
-ghost use Rattle.std.specs.Prelude.{◌≡◌, ◌+◌, ◌<◌, ◌≤◌, ◌%◌, ◌^◌, IfNone, IfOk, IfSome, Some, length, slice_get};
+ghost use Rattle.std.specs.Prelude.{◌≡◌, ℕ, IfErr, IfNone, IfOk, IfSome, None, Option, Some, slice_get};
 ghost use Rattle.mmu.specs.Outcomes.{bytes};
-ghost use Rattle.mmu_lines.specs.Lines.{Begins, IsNothing, IsRequest, NumberAt, PerhapsAt, access_word, counts, mode_text, word_text};
+ghost use Rattle.mmu.specs.declared.outcome.Width.{Width};
+ghost use Rattle.mmu_lines.specs.Lines.{HasFields, IsNothing, IsPlace, IsRequest, IsWidthOf, MakesNone, NumberAt, PerhapsAt, access_word, mode_text, word_of};
+ghost use Rattle.mmu_lines.specs.Mistakes.{IfMistake, Refuses, RefusesAccess};
 ghost use Rattle.mmu_lines.specs.declared.words.Word.TheVariants as words;
 ghost use Rattle.process_model.specs.Lines.{fields_of};
+ghost use Rattle.sv39_entry.specs.declared.access.Mode.{Mode};
 
 use crate::requests::Request;
 use crate::words::{ALL, Word};
@@ -27,6 +30,11 @@ pub enum Refusal {
 }
 
 impl From<AllocError> for Refusal {
+    ghost use Rattle.std.specs.Prelude.{◌≡◌};
+    ghost use Rattle.mmu_lines.specs.declared.reading.Refusal.TheVariants as refusal;
+
+    ghost from_gives = { λ _ e. e ≡ refusal.Memory };
+
     fn from(_e: AllocError) -> Refusal {
         Refusal::Memory
     }
@@ -37,13 +45,15 @@ impl From<AllocError> for Refusal {
 struct Fields<'a> {
     alloc: Global,
     line: &'a [u8],
+    /// The text of the word.
+    text: &'a [u8],
     word: Word,
 }
 
 impl<'a> Fields<'a> {
     /// The mistake that there are too few fields, or too many.
-    fn wrong_count(&self, word: &[u8]) -> Refusal {
-        let Ok(quote) = quoted(self.alloc, word) else {
+    fn wrong_count(&self) -> Refusal {
+        let Ok(quote) = quoted(self.alloc, self.text) else {
             return Refusal::Memory;
         };
         let (fields, count) = (self.word.fields(), field_count(self.line).saturating_sub(1));
@@ -56,17 +66,19 @@ impl<'a> Fields<'a> {
 
     /// Returns a field, the word being number 0.
     fn field(&self, n: usize) -> Result<Place<'a>, Refusal>
-        ensures { IfOk result (λ place. slice_get (fields_of self.now.line.now) n ≡ Some place.bytes.now) }
+        ensures ok { IfOk result (λ place. slice_get (fields_of self.now.line.now) n ≡ Some place.bytes.now) }
+        ensures faulty { IfErr result (λ e. IfMistake e (slice_get (fields_of self.now.line.now) n ≡ None)) }
     {
         match field_at(self.line, n) {
             Some(place) => Ok(place),
-            None => Err(self.wrong_count(b"line")),
+            None => Err(self.wrong_count()),
         }
     }
 
     /// Returns the number in a field.
     fn number(&self, n: usize) -> Result<u64, Refusal>
-        ensures { IfOk result (NumberAt (fields_of self.now.line.now) n) }
+        ensures ok { IfOk result (NumberAt (fields_of self.now.line.now) n) }
+        ensures faulty { IfErr result (λ e. IfMistake e ((v : ℕ) → NumberAt (fields_of self.now.line.now) n v → ⊥)) }
     {
         let place = self.field(n)?;
         match number(place.bytes) {
@@ -80,7 +92,8 @@ impl<'a> Fields<'a> {
 
     /// Returns the number in a field, `None` for `-` or no field.
     fn number_or_none(&self, n: usize) -> Result<Option<u64>, Refusal>
-        ensures { IfOk result (PerhapsAt (fields_of self.now.line.now) n) }
+        ensures ok { IfOk result (PerhapsAt (fields_of self.now.line.now) n) }
+        ensures faulty { IfErr result (λ e. IfMistake e ((o : Option ℕ) → PerhapsAt (fields_of self.now.line.now) n o → ⊥)) }
     {
         let Some(place) = field_at(self.line, n) else {
             return Ok(None);
@@ -94,7 +107,7 @@ impl<'a> Fields<'a> {
     /// The mistake of a field of which a text says what it must be.
     fn wrong(&self, n: usize, must: &str) -> Refusal {
         let Some(place) = field_at(self.line, n) else {
-            return self.wrong_count(b"line");
+            return self.wrong_count();
         };
         let Ok(quote) = quoted(self.alloc, place.bytes) else {
             return Refusal::Memory;
@@ -107,9 +120,8 @@ impl<'a> Fields<'a> {
 
     /// Returns the physical address in the first field.
     fn physical(&self) -> Result<u64, Refusal>
-        ensures number { IfOk result (NumberAt (fields_of self.now.line.now) 1) }
-        ensures aligned { IfOk result (λ a. a % 8 ≡ 0) }
-        ensures low { IfOk result (λ a. a < 2 ^ 56) }
+        ensures ok { IfOk result (IsPlace (fields_of self.now.line.now)) }
+        ensures faulty { IfErr result (λ e. IfMistake e ((address : ℕ) → IsPlace (fields_of self.now.line.now) address → ⊥)) }
     {
         let address = self.number(1)?;
         if address % 8 != 0 {
@@ -122,8 +134,8 @@ impl<'a> Fields<'a> {
     }
 
     fn ram(&self) -> Result<Request, Refusal>
-        requires { Begins (fields_of self.now.line.now) words.Ram 3 }
-        ensures { IfOk result (IsRequest (fields_of self.now.line.now)) }
+        ensures ok { IfOk result (λ r. (word_of r ≡ words.Ram) × HasFields (fields_of self.now.line.now) r) }
+        ensures faulty { IfErr result (λ e. IfMistake e (Refuses (fields_of self.now.line.now) words.Ram)) }
     {
         let address = self.physical()?;
         let length = self.number(2)?;
@@ -138,8 +150,8 @@ impl<'a> Fields<'a> {
     }
 
     fn mem(&self) -> Result<Request, Refusal>
-        requires { Begins (fields_of self.now.line.now) words.Mem 3 }
-        ensures { IfOk result (IsRequest (fields_of self.now.line.now)) }
+        ensures ok { IfOk result (λ r. (word_of r ≡ words.Mem) × HasFields (fields_of self.now.line.now) r) }
+        ensures faulty { IfErr result (λ e. IfMistake e (Refuses (fields_of self.now.line.now) words.Mem)) }
     {
         let address = self.physical()?;
         let word = self.number(2)?;
@@ -147,8 +159,8 @@ impl<'a> Fields<'a> {
     }
 
     fn satp(&self) -> Result<Request, Refusal>
-        requires { Begins (fields_of self.now.line.now) words.Satp 2 }
-        ensures { IfOk result (IsRequest (fields_of self.now.line.now)) }
+        ensures ok { IfOk result (λ r. (word_of r ≡ words.Satp) × HasFields (fields_of self.now.line.now) r) }
+        ensures faulty { IfErr result (λ e. IfMistake e (Refuses (fields_of self.now.line.now) words.Satp)) }
     {
         let satp = Satp::from_word(self.number(1)?);
         if satp.mode() == 0 && satp.to_word() != 0 {
@@ -158,7 +170,8 @@ impl<'a> Fields<'a> {
     }
 
     fn width(&self, access: Access) -> Result<Width, Refusal>
-        ensures { IfOk result (λ w. NumberAt (fields_of self.now.line.now) 2 (bytes w)) }
+        ensures ok { IfOk result (λ w. NumberAt (fields_of self.now.line.now) 2 (bytes w) × IsWidthOf access w) }
+        ensures faulty { IfErr result (λ e. IfMistake e ((w : Width) → NumberAt (fields_of self.now.line.now) 2 (bytes w) → IsWidthOf access w → ⊥)) }
     {
         let is_fetch = access == Access::Fetch;
         match self.number(2)? {
@@ -172,7 +185,8 @@ impl<'a> Fields<'a> {
     }
 
     fn mode(&self) -> Result<Mode, Refusal>
-        ensures { IfOk result (λ m. slice_get (fields_of self.now.line.now) 3 ≡ Some (mode_text m)) }
+        ensures ok { IfOk result (λ m. slice_get (fields_of self.now.line.now) 3 ≡ Some (mode_text m)) }
+        ensures faulty { IfErr result (λ e. IfMistake e ((m : Mode) → slice_get (fields_of self.now.line.now) 3 ≡ Some (mode_text m) → ⊥)) }
     {
         let place = self.field(3)?;
         match place.bytes {
@@ -183,8 +197,8 @@ impl<'a> Fields<'a> {
     }
 
     fn access(&self, access: Access) -> Result<Request, Refusal>
-        requires { Begins (fields_of self.now.line.now) (access_word access) 4 }
-        ensures { IfOk result (IsRequest (fields_of self.now.line.now)) }
+        ensures ok { IfOk result (λ r. (word_of r ≡ access_word access) × HasFields (fields_of self.now.line.now) r) }
+        ensures faulty { IfErr result (λ e. IfMistake e (RefusesAccess (fields_of self.now.line.now) access)) }
     {
         let va = Va(self.number(1)?);
         let width = self.width(access)?;
@@ -198,23 +212,22 @@ impl<'a> Fields<'a> {
     }
 
     fn fill(&self) -> Result<Request, Refusal>
-        requires { Begins (fields_of self.now.line.now) words.Fill 2 }
-        ensures { IfOk result (IsRequest (fields_of self.now.line.now)) }
+        ensures ok { IfOk result (λ r. (word_of r ≡ words.Fill) × HasFields (fields_of self.now.line.now) r) }
+        ensures faulty { IfErr result (λ e. IfMistake e (Refuses (fields_of self.now.line.now) words.Fill)) }
     {
         Ok(Request::Fill(Va(self.number(1)?)))
     }
 
     fn lookup(&self) -> Result<Request, Refusal>
-        requires { Begins (fields_of self.now.line.now) words.Lookup 2 }
-        ensures { IfOk result (IsRequest (fields_of self.now.line.now)) }
+        ensures ok { IfOk result (λ r. (word_of r ≡ words.Lookup) × HasFields (fields_of self.now.line.now) r) }
+        ensures faulty { IfErr result (λ e. IfMistake e (Refuses (fields_of self.now.line.now) words.Lookup)) }
     {
         Ok(Request::Lookup(Va(self.number(1)?)))
     }
 
     fn sfence(&self) -> Result<Request, Refusal>
-        requires word { slice_get (fields_of self.now.line.now) 0 ≡ Some (word_text words.Sfence) }
-        requires count { length (fields_of self.now.line.now) ≤ 3 }
-        ensures { IfOk result (IsRequest (fields_of self.now.line.now)) }
+        ensures ok { IfOk result (λ r. (word_of r ≡ words.Sfence) × HasFields (fields_of self.now.line.now) r) }
+        ensures faulty { IfErr result (λ e. IfMistake e (Refuses (fields_of self.now.line.now) words.Sfence)) }
     {
         let va = match self.number_or_none(1)? {
             Some(address) => Some(Va(address)),
@@ -228,11 +241,10 @@ impl<'a> Fields<'a> {
         Ok(Request::Sfence { va, asid })
     }
 
+    /// The request whose word this is, with the fields after it.
     fn request(&self) -> Result<Request, Refusal>
-        requires word { slice_get (fields_of self.now.line.now) 0 ≡ Some (word_text self.now.word) }
-        requires least { (counts self.now.word).0 + 1 ≤ length (fields_of self.now.line.now) }
-        requires most { length (fields_of self.now.line.now) ≤ (counts self.now.word).1 + 1 }
-        ensures { IfOk result (IsRequest (fields_of self.now.line.now)) }
+        ensures ok { IfOk result (λ r. (word_of r ≡ self.now.word) × HasFields (fields_of self.now.line.now) r) }
+        ensures faulty { IfErr result (λ e. IfMistake e (Refuses (fields_of self.now.line.now) self.now.word)) }
     {
         match self.word {
             Word::Reset => Ok(Request::Reset),
@@ -259,10 +271,11 @@ fn unknown_word(alloc: Global, place: Place<'_>) -> Result<Mistake, AllocError> 
 /// Returns what a line asks for; `None` if it is empty or a comment, which begins with `#`.
 ///
 /// # Errors
-/// `Mistake`: the line is faulty. `Memory`: the host is out of memory.
+/// `Mistake`: the line is faulty, and no request has its fields. `Memory`: the host is out of memory.
 pub fn read_line(alloc: Global, line: &[u8]) -> Result<Option<Request>, Refusal>
     ensures request { IfOk result (λ request. IfSome request (IsRequest (fields_of line.now))) }
     ensures nothing { IfOk result (λ request. IfNone request (IsNothing (fields_of line.now))) }
+    ensures faulty { IfErr result (λ e. IfMistake e (MakesNone (fields_of line.now))) }
 {
     let Some(place) = field_at(line, 0) else {
         return Ok(None);
@@ -273,11 +286,17 @@ pub fn read_line(alloc: Global, line: &[u8]) -> Result<Option<Request>, Refusal>
     let Some(word) = Word::of(place.bytes) else {
         return Err(Refusal::Mistake(unknown_word(alloc, place)?));
     };
-    let fields = Fields { alloc, line, word };
+    let text = place.bytes;
+    let fields = Fields {
+        alloc,
+        line,
+        text,
+        word,
+    };
     let count = field_count(line);
     let (least, most) = word.counts();
     if count < least + 1 || count > most + 1 {
-        return Err(fields.wrong_count(place.bytes));
+        return Err(fields.wrong_count());
     }
     Ok(Some(fields.request()?))
 }

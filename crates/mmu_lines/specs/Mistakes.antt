@@ -1,0 +1,35 @@
+-- When a line is refused as a mistake (`IfMistake`), and what that says of the fields after a word (`Refuses`).
+use Rattle.std.specs.Prelude.{⊤, ℕ, List, Option}
+use Rattle.sv39_entry.specs.declared.access.Access.{Access}
+use Rattle.sv39_entry.specs.declared.access.Access.TheVariants as access
+use Rattle.sv39_entry.specs.declared.access.Mode.{Mode}
+use Rattle.sv39_entry.specs.declared.address.Va.{Va}
+use Rattle.mmu.specs.declared.outcome.Width.{Width}
+use Rattle.mmu_lines.specs.Lines.{HasFields}
+use Rattle.mmu_lines.specs.declared.reading.Refusal.{Refusal}
+use Rattle.mmu_lines.specs.declared.reading.Refusal.TheVariants as refusal
+use Rattle.mmu_lines.specs.declared.requests.Request.TheVariants as request
+use Rattle.mmu_lines.specs.declared.words.Word.{Word}
+use Rattle.mmu_lines.specs.declared.words.Word.TheVariants as word
+
+-- something holds if the refusal is a mistake; nothing is said of it if the host is out of memory
+abbrev pub IfMistake : Refusal → Type 0 → Type 0
+IfMistake (refusal.Mistake mistake) P = P
+IfMistake refusal.Memory P = ⊤
+
+-- no request with this access has the fields
+abbrev pub RefusesAccess : List (List ℕ) → Access → Type 0
+RefusesAccess fs a = (va : Va) (w : Width) (m : Mode) → HasFields fs (request.Access a va w m) → ⊥
+
+-- no request that begins with a word has the fields
+abbrev pub Refuses : List (List ℕ) → Word → Type 0
+Refuses fs word.Reset = HasFields fs request.Reset → ⊥
+Refuses fs word.Ram = (address end : ℕ) → HasFields fs (request.Ram address end) → ⊥
+Refuses fs word.Mem = (address w : ℕ) → HasFields fs (request.Mem address w) → ⊥
+Refuses fs word.Satp = (w : ℕ) → HasFields fs (request.Satp w) → ⊥
+Refuses fs word.Fetch = RefusesAccess fs access.Fetch
+Refuses fs word.Load = RefusesAccess fs access.Load
+Refuses fs word.Store = RefusesAccess fs access.Store
+Refuses fs word.Fill = (va : Va) → HasFields fs (request.Fill va) → ⊥
+Refuses fs word.Sfence = (va : Option Va) (asid : Option ℕ) → HasFields fs (request.Sfence va asid) → ⊥
+Refuses fs word.Lookup = (va : Va) → HasFields fs (request.Lookup va) → ⊥
