@@ -1,3 +1,4 @@
 pub mod Words
 pub mod Sparse
 pub mod Outcomes
+pub mod Fills

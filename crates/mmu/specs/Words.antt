@@ -1,6 +1,6 @@
 -- A sparse memory as contracts see it: the 64-bit word with each number, which is physical address / 8 (`Numbered`). What a
--- new run adds (`added`), and how a walk reads it (`memory_of`, `extent_of`).
-use Rattle.std.specs.Prelude.{ℕ, ◌+◌, ◌*◌, ◌^◌, Bool, true, false, ◌&&◌, nat_le, nat_lt, Option, None, Some, is_some, if◌then◌else◌}
+-- write changes (`written`), what a new run adds (`added`), and how a walk reads it (`memory_of`, `extent_of`).
+use Rattle.std.specs.Prelude.{ℕ, ◌+◌, ◌*◌, ◌^◌, Bool, true, false, ◌&&◌, nat_eq, nat_le, nat_lt, Option, None, Some, is_some, if◌then◌else◌}
 use Rattle.table_walk.specs.Memory.{Extent, Memory}
 use Rattle.mmu.specs.declared.run.Run.{Run}
 
@@ -17,6 +17,10 @@ abbrev pub or_zero : Bool → Option ℕ → Option ℕ
 or_zero in_run (Some w) = Some w
 or_zero true None = Some 0
 or_zero false None = None
+
+-- what a write of one word leaves
+abbrev pub written : Numbered → ℕ → ℕ → Numbered
+written m number word n = if nat_eq n number then Some word else m n
 
 -- what a run of zeros adds: words that were there stay
 abbrev pub added : Numbered → ℕ → ℕ → Numbered

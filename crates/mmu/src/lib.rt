@@ -9,4 +9,4 @@ mod unit;
 
 pub use memory::SparseMemory;
 pub use outcome::{Outcome, Width};
-pub use unit::{Mmu, NotZero, PLACES};
+pub use unit::{Mmu, PLACES};

@@ -1,8 +1,8 @@
 // `SparseMemory`: a struct, physical memory by single words and runs of words, at any address; a `Words` for walks.
 
-ghost use Rattle.std.specs.Prelude.{◌≡◌, ◌/◌, ◌+◌, ℕ, None, Some, OnErr, OnOk, nat_eq, if◌then◌else◌};
+ghost use Rattle.std.specs.Prelude.{◌≡◌, ℕ, None, OnErr, OnOk};
 ghost use Rattle.std.specs.List.{list_any};
-ghost use Rattle.mmu.specs.Words.{added, is_in};
+ghost use Rattle.mmu.specs.Words.{added, is_in, written};
 ghost use Rattle.mmu.specs.Sparse.{word_of};
 
 use crate::run::Run;
@@ -39,9 +39,7 @@ impl SparseMemory {
             None => None,
         }
     }
-}
 
-impl SparseMemory {
     fn is_in_run(&self, number: u64) -> bool
         ensures { result ≡ list_any (λ r. is_in r number) self.now.runs.items }
     {
@@ -53,7 +51,7 @@ impl SparseMemory {
     /// # Errors
     /// `AllocError`: the host is out of memory; the memory is unchanged.
     pub fn write(&mut self, number: u64, word: u64) -> Result<(), AllocError>
-        ensures ok { OnOk result ((n : ℕ) → word_of self.new n ≡ (if nat_eq n number then Some word else word_of self.old n)) }
+        ensures ok { OnOk result ((n : ℕ) → word_of self.new n ≡ written (word_of self.old) number word n) }
         ensures err { OnErr result ((n : ℕ) → word_of self.new n ≡ word_of self.old n) }
     {
         match self.words.insert(number, word) {

@@ -1,13 +1,13 @@
 // `Mmu`: a struct, the memory, satp and the TLB, with the calls that change them and the outcomes of an access (`outcomes`).
 
-ghost use Rattle.std.specs.Prelude.{◌≡◌, ◌≢◌, ◌↔◌, ◌+◌, ◌/◌, ℕ, IfNone, IfSome, IsErr, None, OnErr, OnOk, Some, [], ◌∷◌, ◌++◌, filter, length, nat_eq, not, slice_get, if◌then◌else◌};
-ghost use Rattle.hart_tlb.specs.Buffer.{newest_entries};
+ghost use Rattle.std.specs.Prelude.{◌≡◌, ◌+◌, ◌/◌, ℕ, IfSome, None, OnErr, OnOk, Some, [], ◌∷◌, ◌++◌, filter, length, not, slice_get};
 ghost use Rattle.hart_tlb.specs.Entries.{is_fenced};
-ghost use Rattle.hart_tlb.specs.Outcome.{EndsInAccessFault, IsOutcome};
+ghost use Rattle.hart_tlb.specs.Outcome.{IsOutcome};
 ghost use Rattle.hart_tlb.specs.declared.entry.TlbEntry.{TlbEntry};
+ghost use Rattle.mmu.specs.Fills.{Filled};
 ghost use Rattle.mmu.specs.Outcomes.{AreOutcomes, bare, by_entries, by_entry, if_matches, inside, satp_after, scheme_of, serving};
 ghost use Rattle.mmu.specs.Sparse.{word_of};
-ghost use Rattle.mmu.specs.Words.{added, extent_of, memory_of};
+ghost use Rattle.mmu.specs.Words.{added, extent_of, written};
 ghost use Rattle.mmu.specs.declared.outcome.Outcome.TheVariants as outcome;
 ghost use Rattle.sv39_entry.specs.Satp as satps;
 ghost use Rattle.sv39_entry.specs.Schemes.{mode_of};
@@ -33,10 +33,6 @@ pub struct Mmu {
     satp: Satp,
     buffer: Buffer<PLACES>,
 }
-
-/// A word of satp has MODE 0 (Bare) and another field that is not 0.
-#[derive(Clone, Copy, PartialEq, Eq, Debug)]
-pub struct NotZero;
 
 /// Returns the scheme that satp selects; `None` for Bare.
 fn scheme_of(satp: Satp) -> Option<Scheme>
@@ -88,7 +84,7 @@ impl Mmu {
     /// # Errors
     /// `AllocError`: the host is out of memory; the memory is unchanged.
     pub fn write(&mut self, address: u64, word: u64) -> Result<(), AllocError>
-        ensures ok { OnOk result ((n : ℕ) → word_of self.new.memory n ≡ (if nat_eq n (address / 8) then Some word else word_of self.old.memory n)) }
+        ensures ok { OnOk result ((n : ℕ) → word_of self.new.memory n ≡ written (word_of self.old.memory) (address / 8) word n) }
         ensures err { OnErr result ((n : ℕ) → word_of self.new.memory n ≡ word_of self.old.memory n) }
         ensures others { (self.new.satp ≡ self.old.satp) × (self.new.buffer ≡ self.old.buffer) }
     {
@@ -116,35 +112,22 @@ impl Mmu {
     }
 
     /// Writes satp. A word with a MODE other than 0 (Bare), 8 (Sv39) and 9 (Sv48) is not written (RISC-V Privileged
-    /// Architecture 20211203, 4.1.11). The TLB stays as it is.
-    ///
-    /// # Errors
-    /// `NotZero` exactly when MODE is 0 and another field is not: the standard leaves open what that does. Nothing changes.
-    pub fn write_satp(&mut self, satp: Satp) -> Result<(), NotZero>
-        ensures refused { IsErr result ↔ (satps.mode satp ≡ 0) × (satp ≢ 0) }
+    /// Architecture 20211203, 4.1.11), nor one of MODE 0 with another field that is not 0 (own choice: the standard leaves open
+    /// what that does). The TLB stays as it is.
+    pub fn write_satp(&mut self, satp: Satp)
         ensures satp { self.new.satp ≡ satp_after self.old.satp satp }
         ensures others { (self.new.memory ≡ self.old.memory) × (self.new.buffer ≡ self.old.buffer) }
     {
-        if satp.mode() == 0 && satp.to_word() != 0 {
-            return Err(NotZero);
-        }
-        if satp.mode() == 0 || scheme_of(satp).is_some() {
+        if satp.to_word() == 0 || scheme_of(satp).is_some() {
             self.satp = satp;
         }
-        Ok(())
     }
 
     /// Walks to an address under satp, whatever the rights, and keeps what the walk found as the newest entry of the TLB, a leaf
     /// or none; a full TLB loses its oldest entry. Returns the number of the new entry. `None`: satp is Bare, or the walk ends in
     /// an access fault; then nothing changes.
     pub fn fill(&mut self, va: Va) -> Option<usize>
-        ensures bare { scheme_of self.old.satp ≡ None → (result ≡ None) × (self.new.buffer ≡ self.old.buffer) }
-        ensures filled { (s : Scheme) → scheme_of self.old.satp ≡ Some s → IfSome result (λ n. (e : TlbEntry)
-            × IsOutcome s (memory_of (word_of self.old.memory)) (extent_of (word_of self.old.memory)) (satps.root_ppn self.old.satp) (satps.asid self.old.satp) va.0 e
-            × (self.new.buffer ≡ newest_entries 1024 (self.old.buffer ++ e ∷ [])) × (n + 1 ≡ length self.new.buffer)) }
-        ensures fault { (s : Scheme) → scheme_of self.old.satp ≡ Some s → IfNone result
-            (EndsInAccessFault s (memory_of (word_of self.old.memory)) (extent_of (word_of self.old.memory)) (satps.root_ppn self.old.satp) va.0
-            × (self.new.buffer ≡ self.old.buffer)) }
+        ensures filled { Filled self.old va.0 self.new result }
         ensures others { (self.new.memory ≡ self.old.memory) × (self.new.satp ≡ self.old.satp) }
     {
         let Some(scheme) = scheme_of(self.satp) else {

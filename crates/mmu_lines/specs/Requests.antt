@@ -1,14 +1,11 @@
 -- What a request does to a reference MMU, and what is answered (`IsDone`).
-use Rattle.std.specs.Prelude.{◌≡◌, ◌⊎◌, ⊤, ℕ, ◌+◌, ◌/◌, None, Some, Option, IfNone, IfSome, List, [], ◌∷◌, ◌++◌, filter, length, map, nat_eq, not, if◌then◌else◌}
-use Rattle.sv39_entry.specs.Satp.{asid, root_ppn}
-use Rattle.sv39_entry.specs.declared.scheme.Scheme.{Scheme}
-use Rattle.hart_tlb.specs.Buffer.{newest_entries}
+use Rattle.std.specs.Prelude.{◌≡◌, ◌⊎◌, ⊤, ℕ, ◌+◌, ◌/◌, None, Option, List, [], filter, length, map, not}
 use Rattle.hart_tlb.specs.Entries.{is_fenced}
-use Rattle.hart_tlb.specs.Outcome.{EndsInAccessFault, IsOutcome}
 use Rattle.hart_tlb.specs.declared.entry.TlbEntry.{TlbEntry}
-use Rattle.mmu.specs.Outcomes.{AreOutcomes, satp_after, scheme_of, serving}
+use Rattle.mmu.specs.Fills.{Filled}
+use Rattle.mmu.specs.Outcomes.{AreOutcomes, satp_after, serving}
 use Rattle.mmu.specs.Sparse.{word_of}
-use Rattle.mmu.specs.Words.{added, extent_of, memory_of}
+use Rattle.mmu.specs.Words.{added, written}
 use Rattle.mmu.specs.declared.outcome.Outcome.{Outcome}
 use Rattle.mmu.specs.declared.unit.Mmu.{Mmu}
 use Rattle.walk_lines.specs.Buffers.{buffer_line}
@@ -47,22 +44,13 @@ ListsEntries (answer.Entry n) es = ⊥
 ListsEntries (answer.Removed n) es = ⊥
 ListsEntries (answer.Error column text) es = ⊥
 
--- the TLB after a fill, and the number of the new entry
-pub record Filled (old : Mmu) (address : ℕ) (new : Mmu) (number : Option ℕ) : Type 0 where
-  pub bare : scheme_of old.satp ≡ None → (number ≡ None) × (new.buffer ≡ old.buffer)
-  pub added : (s : Scheme) → scheme_of old.satp ≡ Some s → IfSome number (λ n. (e : TlbEntry)
-      × IsOutcome s (memory_of (word_of old.memory)) (extent_of (word_of old.memory)) (root_ppn old.satp) (asid old.satp) address e
-      × (new.buffer ≡ newest_entries 1024 (old.buffer ++ e ∷ [])) × (n + 1 ≡ length new.buffer))
-  pub fault : (s : Scheme) → scheme_of old.satp ≡ Some s → IfNone number
-      (EndsInAccessFault s (memory_of (word_of old.memory)) (extent_of (word_of old.memory)) (root_ppn old.satp) address × (new.buffer ≡ old.buffer))
-
 -- what a request does, and what is answered to it
 abbrev pub IsDone : Mmu → Request → Mmu → Answer → Type 0
 IsDone old request.Reset new a = ((n : ℕ) → word_of new.memory n ≡ None) × (new.satp ≡ 0) × (new.buffer ≡ []) × (a ≡ answer.Ok)
 IsDone old (request.Ram address end) new a =
     ((n : ℕ) → word_of new.memory n ≡ added (word_of old.memory) (address / 8) (end / 8) n) × KeepsRest old new × (a ≡ answer.Ok)
 IsDone old (request.Mem address word) new a =
-    ((n : ℕ) → word_of new.memory n ≡ (if nat_eq n (address / 8) then Some word else word_of old.memory n)) × KeepsRest old new × (a ≡ answer.Ok)
+    ((n : ℕ) → word_of new.memory n ≡ written (word_of old.memory) (address / 8) word n) × KeepsRest old new × (a ≡ answer.Ok)
 IsDone old (request.Satp word) new a =
     (new.satp ≡ satp_after old.satp word) × (new.memory ≡ old.memory) × (new.buffer ≡ old.buffer) × (a ≡ answer.Satp (hex new.satp))
 IsDone old (request.Access access va width mode) new a =

@@ -81,7 +81,7 @@ impl MmuPlayer {
             }
             Request::Satp(satp) => {
                 // a word that may not be written leaves satp as it is, and the answer says so
-                let _ = self.unit.write_satp(satp);
+                self.unit.write_satp(satp);
                 Ok(Answer::Satp(Hex(self.unit.satp().to_word())))
             }
             Request::Access {
