@@ -3,12 +3,9 @@
 use crate::fault::Fault;
 use crate::lab::Reading;
 use crate::screen::Screen;
+use exec_segments::LONGEST_IMAGE;
 use std::alloc::Global;
-use std::io;
 use std::io::Read;
-
-/// The most bytes of an image.
-const LONGEST_IMAGE: u64 = 1 << 20;
 
 /// Prints the line that declares an ELF file.
 #[derive(Drop)]
@@ -30,12 +27,11 @@ impl Reading for ElfLine<'_> {
         screen: &mut S,
     ) -> Result<(), Fault> {
         let mut bytes = Vec::new(alloc);
-        let read = reader.take(LONGEST_IMAGE + 1).read_to_end(&mut bytes);
-        read.map_err(|error| match error.kind() {
-            io::ErrorKind::OutOfMemory => Fault::Memory,
-            _ => Fault::Read(error),
-        })?;
-        if bytes.len() as u64 > LONGEST_IMAGE {
+        let read = reader
+            .take(LONGEST_IMAGE as u64 + 1)
+            .read_to_end(&mut bytes);
+        read.map_err(Fault::of_reading)?;
+        if bytes.len() > LONGEST_IMAGE {
             let file = self.file;
             screen.err(format!(in alloc;
                 "{file}: more than {LONGEST_IMAGE} bytes, which is the most that an image may have; strip the file\n"

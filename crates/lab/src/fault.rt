@@ -25,6 +25,14 @@ pub enum Fault {
 }
 
 impl Fault {
+    /// Returns why the program ends if its reader failed with this error.
+    pub fn of_reading(error: io::Error) -> Fault {
+        match error.kind() {
+            io::ErrorKind::OutOfMemory => Fault::Memory,
+            _ => Fault::Read(error),
+        }
+    }
+
     /// Returns the exit status: 2 for a wrong command line, 0 if it asks for help, else 1.
     pub fn status(&self) -> u8
         ensures { result ≤ 2 }
@@ -35,9 +43,7 @@ impl Fault {
             Fault::Memory | Fault::File(_, _) | Fault::Read(_) | Fault::Io(_) | Fault::Told => 1,
         }
     }
-}
 
-impl Fault {
     /// Tells why the program ends, unless it was told.
     ///
     /// # Errors

@@ -8,7 +8,6 @@ use crate::fault::Fault;
 use crate::screen::Screen;
 use line_player::LinePlayer;
 use std::alloc::Global;
-use std::io;
 use std::io::{BufRead, BufReader, Read};
 
 /// What is done with the lines of a script.
@@ -50,12 +49,7 @@ pub fn read_line<R: Read + Drop>(
     reader: &mut BufReader<R>,
     line: &mut Vec<u8>,
 ) -> Result<usize, Fault> {
-    reader
-        .read_until(b'\n', line)
-        .map_err(|error| match error.kind() {
-            io::ErrorKind::OutOfMemory => Fault::Memory,
-            _ => Fault::Read(error),
-        })
+    reader.read_until(b'\n', line).map_err(Fault::of_reading)
 }
 
 /// Reads a script to its end and gives each of its lines to the listener, with a player that has taken no line at first.

@@ -37,12 +37,23 @@ pub struct Words {
     pub out: String,
 }
 
-/// Returns the argument FILE of a word that takes one script.
-fn file<'a>(alloc: Global) -> Arg<'a> {
+/// The help of FILE for a word that takes one script.
+const SCRIPT: &str = "The script; - is standard input";
+
+/// Returns the argument FILE of a word that takes one file.
+fn file<'a>(alloc: Global, help: &'a str) -> Arg<'a> {
     Arg::new(alloc, "FILE")
         .required(true)
         .action(ArgAction::Set)
-        .help("The script; - is standard input")
+        .help(help)
+}
+
+/// Returns the flag `--json`.
+fn json<'a>(alloc: Global, help: &'a str) -> Arg<'a> {
+    Arg::new(alloc, "json")
+        .long("json")
+        .action(ArgAction::SetTrue)
+        .help(help)
 }
 
 /// Returns the word `check`.
@@ -64,14 +75,10 @@ fn check<'a>(alloc: Global) -> Result<Command<'a>, AllocError> {
 
 /// Returns the word `trace`.
 fn trace<'a>(alloc: Global) -> Result<Command<'a>, AllocError> {
-    let json = Arg::new(alloc, "json")
-        .long("json")
-        .action(ArgAction::SetTrue)
-        .help("Print one JSON object a line");
     Command::new(alloc, "trace")
         .about("See what happens on each line: regions, rules, walks, buffers, frames")
-        .arg(file(alloc))?
-        .arg(json)
+        .arg(file(alloc, SCRIPT))?
+        .arg(json(alloc, "Print one JSON object a line"))
 }
 
 /// Returns the word `draw`.
@@ -89,46 +96,34 @@ fn draw<'a>(alloc: Global) -> Result<Command<'a>, AllocError> {
         .help("Write a page (HTML) to step from line to line, in place of a picture (SVG)");
     Command::new(alloc, "draw")
         .about("Draw the machine after the last line: regions, pages, tables, frames, buffers")
-        .arg(file(alloc))?
+        .arg(file(alloc, SCRIPT))?
         .arg(out)?
         .arg(steps)
 }
 
 /// Returns the word `mmu`.
 fn mmu<'a>(alloc: Global) -> Result<Command<'a>, AllocError> {
-    let json = Arg::new(alloc, "json")
-        .long("json")
-        .action(ArgAction::SetTrue)
-        .help("Answer by JSON objects");
-    let file = Arg::new(alloc, "FILE")
-        .required(true)
-        .action(ArgAction::Set)
-        .help("The lines; - is standard input");
     Command::new(alloc, "mmu")
         .about("Answer lines that ask a reference MMU: which outcomes may an access have")
-        .arg(file)?
-        .arg(json)
+        .arg(file(alloc, "The lines; - is standard input"))?
+        .arg(json(alloc, "Answer by JSON objects"))
 }
 
 /// Returns the word `elf`.
 fn elf<'a>(alloc: Global) -> Result<Command<'a>, AllocError> {
-    let file = Arg::new(alloc, "FILE")
-        .required(true)
-        .action(ArgAction::Set)
-        .help("The ELF file; - is standard input");
     Command::new(alloc, "elf")
         .about("Print the line of a script that declares an ELF file")
-        .arg(file)
+        .arg(file(alloc, "The ELF file; - is standard input"))
 }
 
 /// Returns the form of the command line.
 fn command<'a>(alloc: Global) -> Result<Command<'a>, AllocError> {
     let run = Command::new(alloc, "run")
         .about("Play a script and print each line with its answer")
-        .arg(file(alloc))?;
+        .arg(file(alloc, SCRIPT))?;
     let show = Command::new(alloc, "show")
         .about("Play a script that may also ask: regions S, vmprint S, tlb H, frames")
-        .arg(file(alloc))?;
+        .arg(file(alloc, SCRIPT))?;
     let repl = Command::new(alloc, "repl").about(
         "Play the lines of standard input one by one; ? tells the lines",
     );
