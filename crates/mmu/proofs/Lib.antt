@@ -1,3 +1,4 @@
 pub mod More
 pub mod Filled
+pub mod Superpages
 pub mod Inside

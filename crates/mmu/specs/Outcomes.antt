@@ -1,19 +1,20 @@
 -- Which outcomes an access may have (`AreOutcomes`): a fault if it is misaligned; under Bare the address itself; else what the
 -- walk of the page tables says (the standard, 4.3.2), and what each entry of the TLB says that may serve it (4.2.1).
-use Rattle.std.specs.Prelude.{◌≡◌, ℕ, ◌%◌, ◌==◌, true, false, Option, None, Some, is_some, List, [], ◌∷◌, length, slice_get, if◌then◌else◌}
+use Rattle.std.specs.Prelude.{◌≡◌, ℕ, ◌%◌, ◌==◌, ◌&&◌, ◌||◌, Bool, true, false, Option, None, Some, is_some, List, [], ◌∷◌, length, slice_get, if◌then◌else◌}
 use Rattle.std.specs.List.{filter_map, range_with_len}
+use Rattle.sv39_entry.specs.Address.{page_of}
 use Rattle.sv39_entry.specs.Causes.{access_fault_cause, misaligned_cause}
 use Rattle.sv39_entry.specs.Satp.{asid, mode, root_ppn}
 use Rattle.sv39_entry.specs.declared.access.Access.{Access}
 use Rattle.sv39_entry.specs.declared.access.Mode.{Mode}
 use Rattle.sv39_entry.specs.declared.scheme.Scheme.{Scheme}
 use Rattle.sv39_entry.specs.declared.scheme.Scheme.TheVariants.{Sv39, Sv48}
-use Rattle.table_walk.specs.Leaves.{answer}
+use Rattle.table_walk.specs.Leaves.{Leaf, answer}
 use Rattle.table_walk.specs.Memory.{Extent, has_byte}
 use Rattle.table_walk.specs.Walk.{Translates}
 use Rattle.table_walk.specs.declared.walk.Walk.{Walk}
 use Rattle.table_walk.specs.declared.walk.Walk.TheVariants as walk
-use Rattle.hart_tlb.specs.Entries.{matches}
+use Rattle.hart_tlb.specs.Entries.{covers}
 use Rattle.hart_tlb.specs.declared.entry.TlbEntry.{TlbEntry}
 use Rattle.mmu.specs.Words.{Numbered, extent_of, memory_of}
 use Rattle.mmu.specs.declared.outcome.Outcome.{Outcome}
@@ -35,10 +36,20 @@ scheme_of satp = if mode satp == 8 then Some Sv39 else (if mode satp == 9 then S
 abbrev pub satp_after : ℕ → ℕ → ℕ
 satp_after old new = if mode new == 0 then (if new == 0 then new else old) else (if is_some (scheme_of new) then new else old)
 
+-- what a walk for a page found holds for an address: with a leaf, if the leaf's page or superpage has both (the standard, 4.3.2,
+-- step 8); without one, if it is of that page
+abbrev pub reaches : ℕ → ℕ → Option Leaf → Bool
+reaches page address None = page == page_of address
+reaches page address (Some leaf) = covers page leaf address
+
+-- an entry may serve an access to an address under its own ASID or, if it is global, under each (the standard, 4.3.1)
+abbrev pub may_serve : ℕ → ℕ → TlbEntry → Bool
+may_serve address space e = reaches e.page address e.leaf && (e.asid == space || e.global)
+
 -- the entry with a number, if it may serve an access to an address
-abbrev pub if_matches : ℕ → ℕ → Option TlbEntry → Option TlbEntry
-if_matches address space None = None
-if_matches address space (Some e) = if matches address space e then Some e else None
+abbrev pub if_may_serve : ℕ → ℕ → Option TlbEntry → Option TlbEntry
+if_may_serve address space None = None
+if_may_serve address space (Some e) = if may_serve address space e then Some e else None
 
 abbrev pub numbered : ℕ → Option TlbEntry → Option (ℕ × TlbEntry)
 numbered n None = None
@@ -46,7 +57,7 @@ numbered n (Some e) = Some (n, e)
 
 -- of the first entries those that may serve an access to an address, with their numbers
 abbrev pub serving_among : List TlbEntry → ℕ → ℕ → ℕ → List (ℕ × TlbEntry)
-serving_among es address space count = filter_map (λ n. numbered n (if_matches address space (slice_get es n))) (range_with_len 0 count)
+serving_among es address space count = filter_map (λ n. numbered n (if_may_serve address space (slice_get es n))) (range_with_len 0 count)
 
 -- all of these; none under Bare
 abbrev pub serving : ℕ → List TlbEntry → ℕ → List (ℕ × TlbEntry)
@@ -63,11 +74,14 @@ inside there access (walk.Leaf word level physical) =
 inside there access (walk.PageFault cause) = walk.PageFault cause
 inside there access (walk.AccessFault cause) = walk.AccessFault cause
 
+-- the outcome by an entry: what its leaf says
+abbrev pub said_by : Extent → ℕ → Access → Mode → ℕ → Option TlbEntry → Option Outcome
+said_by there address access mode number None = None
+said_by there address access mode number (Some e) = Some (outcome.Entry number (inside there access (answer e.leaf address access mode)))
+
 -- the outcome by the entry with a number, if that may serve the access
 abbrev pub by_entry : Extent → ℕ → ℕ → Access → Mode → ℕ → Option TlbEntry → Option Outcome
-by_entry there address space access mode number None = None
-by_entry there address space access mode number (Some e) =
-    if matches address space e then Some (outcome.Entry number (inside there access (answer e.leaf address access mode))) else None
+by_entry there address space access mode number e = said_by there address access mode number (if_may_serve address space e)
 
 -- the outcomes by the first n entries
 abbrev pub by_entries : Extent → List TlbEntry → ℕ → ℕ → Access → Mode → ℕ → List Outcome

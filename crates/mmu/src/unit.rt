@@ -5,7 +5,7 @@ ghost use Rattle.hart_tlb.specs.Entries.{is_fenced};
 ghost use Rattle.hart_tlb.specs.Outcome.{IsOutcome};
 ghost use Rattle.hart_tlb.specs.declared.entry.TlbEntry.{TlbEntry};
 ghost use Rattle.mmu.specs.Fills.{Filled};
-ghost use Rattle.mmu.specs.Outcomes.{AreOutcomes, bare, by_entries, by_entry, if_matches, inside, satp_after, scheme_of, serving};
+ghost use Rattle.mmu.specs.Outcomes.{AreOutcomes, bare, by_entries, by_entry, if_may_serve, inside, may_serve, satp_after, scheme_of, serving};
 ghost use Rattle.mmu.specs.Sparse.{word_of};
 ghost use Rattle.mmu.specs.Words.{added, extent_of, written};
 ghost use Rattle.mmu.specs.declared.outcome.Outcome.TheVariants as outcome;
@@ -44,6 +44,19 @@ fn scheme_of(satp: Satp) -> Option<Scheme>
         9 => Some(Scheme::Sv48),
         _ => None,
     }
+}
+
+/// Whether an entry may serve an access to an address under an ASID: its leaf maps the address or, if it records none, it is for
+/// the address's page; and it is for that ASID or global.
+fn may_serve(entry: &TlbEntry, va: Va, asid: u16) -> bool
+    ensures { result ≡ may_serve va.0 asid entry.now }
+{
+    let reaches = match entry.leaf {
+        // fences go by the addresses that a leaf maps
+        Some(_) => entry.is_fenced(Some(va), None),
+        None => entry.page == va.page(),
+    };
+    reaches && (entry.asid == asid || entry.global)
 }
 
 /// Adds an outcome to a list.
@@ -156,7 +169,8 @@ impl Mmu {
     }
 
     /// Finds the entries of the TLB that may serve an access to an address, and lists them with their numbers, the oldest first, in
-    /// `found`, whose items are removed first: those for the address's page, and for the ASID of satp or global. None under Bare.
+    /// `found`, whose items are removed first: those whose leaf maps the address, or that record no leaf for its page, and that are
+    /// for the ASID of satp or global. None under Bare.
     ///
     /// # Errors
     /// `AllocError`: the host is out of memory.
@@ -177,12 +191,12 @@ impl Mmu {
 
     /// The entry with a number, with it, if it may serve an access to an address.
     fn entry_for(&self, n: usize, va: Va) -> Option<TlbEntry>
-        ensures { result ≡ if_matches va.0 (satps.asid self.now.satp) (slice_get self.now.buffer n) }
+        ensures { result ≡ if_may_serve va.0 (satps.asid self.now.satp) (slice_get self.now.buffer n) }
     {
         let Some(entry) = self.buffer.entry(n) else {
             return None;
         };
-        if entry.matches(va, self.satp.asid()) {
+        if may_serve(&entry, va, self.satp.asid()) {
             Some(entry)
         } else {
             None
@@ -214,7 +228,8 @@ impl Mmu {
 
     /// Returns the outcome of an access by entry `n` of the TLB, the oldest being entry 0: what the entry's leaf says, whose rights
     /// are judged at this use, but an access fault if it grants the access and the byte is outside the memory. `None`: there is no
-    /// entry `n`, or it is for another page, or it is for another ASID and not global.
+    /// entry `n`; or its leaf does not map the address or, if it records none, it is for another page; or it is for another ASID and
+    /// not global.
     pub fn by_entry(&self, n: usize, va: Va, access: Access, mode: Mode) -> Option<Outcome>
         ensures value { result ≡ by_entry (extent_of (word_of self.now.memory)) va.0 (satps.asid self.now.satp) access mode n (slice_get self.now.buffer n) }
         // Over the words as they were when the entry was filled, the walk translates the access to this outcome.
@@ -222,10 +237,15 @@ impl Mmu {
             → IsOutcome s m there root space filled e
             → (w : Walk) × (o ≡ outcome.Entry n w) × Translates s m (extent_of (word_of self.now.memory)) root va.0 access mode w) }
     {
-        let Some(entry) = self.buffer.entry(n) else {
+        let Some(entry) = self.entry_for(n, va) else {
             return None;
         };
-        match entry.translate(va, self.satp.asid(), access, mode) {
+        // a walk to the address itself finds the same
+        let here = TlbEntry {
+            page: va.page(),
+            ..entry
+        };
+        match here.translate(va, self.satp.asid(), access, mode) {
             Ok(walk) => Some(Outcome::Entry(n, self.inside(access, walk))),
             Err(_) => None,
         }
