@@ -28,6 +28,7 @@ use sv39_entry::{Access, PAGE_SIZE, Va};
 /// `Short`: the copy stopped at the first address that a rule denies, for whose page too few frames could be reserved
 /// (`NoFrame`), or whose page of a file was not promised; `rule` says which. It has the bytes before that address, and how
 /// many these are. Pages made resident stay so, and the space is still a process.
+#[inline(never)]
 pub fn copy_in<S: FrameSeat, F: FrameSupply<Seat = S>, C: Files>(
     space: &mut Space<S>,
     store: &mut F,
@@ -44,13 +45,14 @@ pub fn copy_in<S: FrameSeat, F: FrameSupply<Seat = S>, C: Files>(
     ensures space { StillStands (body_of S.view space.old) (body_of S.view space.new) }
     ensures keeps { KeepsSeats F.rule store.old space.old.seat store.new space.new.seat }
 {
-    let here = in_page(va, n);
-    let bytes = read_page(space, store, files, va, here, ArrayVec::new())?;
-    if here == n {
-        return Ok(bytes);
+    let mut bytes = ArrayVec::new();
+    match read_pages(space, store, files, va, n, &mut bytes) {
+        Ok(()) => Ok(bytes),
+        Err(rule) => {
+            let done = bytes.len();
+            Err(Short { rule, done, bytes })
+        }
     }
-    let next = Va(va.0 + here as u64);
-    read_page(space, store, files, next, n - here, bytes)
 }
 
 /// Copies these bytes, at most 256, to a process's memory at `va` (copyout of xv6). Each page is made resident for a store
@@ -94,41 +96,66 @@ fn in_page(va: Va, n: usize) -> usize
     n.min((PAGE_SIZE - va.offset()) as usize)
 }
 
-/// Copies `n` bytes from `va` on, all in one page, from a process, and appends them to those that were copied before.
+/// Copies `n` bytes, at most 256, from `va` on from a process, and appends them to `bytes`, which is empty. Returns what
+/// stopped the copy, if anything did; the bytes before the stop are appended then too.
+fn read_pages<S: FrameSeat, F: FrameSupply<Seat = S>, C: Files>(
+    space: &mut Space<S>,
+    store: &mut F,
+    files: &mut C,
+    va: Va,
+    n: usize,
+    bytes: &mut ArrayVec<u8, 256>,
+) -> Result<(), Stop>
+    requires fits { IsSeatOf F.rule store.old space.old.seat }
+    requires ready { (t : Tables) × (p : Process) × IsSpace (body_of S.view space.old) t p }
+    requires few { n ≤ longest_copy }
+    requires empty { bytes.old.items ≡ [] }
+    ensures copied { IfOk result (λ _. CopiesIn (store_model S.view F.rule F.alone F.free F.count C.files C.becomes C.can_refuse) (runs va.0 n) (place space.old store.old files.old) (place space.new store.new files.new) [] bytes.new.items None) }
+    ensures stopped { IfErr result (λ stop. CopiesIn (store_model S.view F.rule F.alone F.free F.count C.files C.becomes C.can_refuse) (runs va.0 n) (place space.old store.old files.old) (place space.new store.new files.new) [] bytes.new.items (Some stop)) }
+    ensures space { StillStands (body_of S.view space.old) (body_of S.view space.new) }
+    ensures keeps { KeepsSeats F.rule store.old space.old.seat store.new space.new.seat }
+{
+    let here = in_page(va, n);
+    read_page(space, store, files, va, here, bytes)?;
+    if here == n {
+        return Ok(());
+    }
+    let next = Va(va.0 + here as u64);
+    read_page(space, store, files, next, n - here, bytes)
+}
+
+/// Copies `n` bytes from `va` on, all in one page, from a process, and appends them to `bytes`. Returns what stopped the
+/// copy, if anything did; nothing is appended then.
 fn read_page<S: FrameSeat, F: FrameSupply<Seat = S>, C: Files>(
     space: &mut Space<S>,
     store: &mut F,
     files: &mut C,
     va: Va,
     n: usize,
-    mut bytes: ArrayVec<u8, 256>,
-) -> Result<ArrayVec<u8, 256>, Short>
+    bytes: &mut ArrayVec<u8, 256>,
+) -> Result<(), Stop>
     requires fits { IsSeatOf F.rule store.old space.old.seat }
     requires ready { (t : Tables) × (p : Process) × IsSpace (body_of S.view space.old) t p }
     requires inside { va.0 % 4096 + n ≤ 4096 }
-    requires few { length bytes.items + n ≤ longest_copy }
-    ensures copied { IfOk result (λ all. CopiesIn (store_model S.view F.rule F.alone F.free F.count C.files C.becomes C.can_refuse) (some_run va.0 n) (place space.old store.old files.old) (place space.new store.new files.new) bytes.items all.items None) }
-    ensures stopped { IfErr result (λ short. CopiesIn (store_model S.view F.rule F.alone F.free F.count C.files C.becomes C.can_refuse) (some_run va.0 n) (place space.old store.old files.old) (place space.new store.new files.new) bytes.items short.bytes.items (Some short.rule)) }
-    ensures done { IfErr result (λ short. short.done ≡ length short.bytes.items) }
-    ensures more { IfOk result (λ all. length all.items ≡ length bytes.items + n) }
+    requires few { length bytes.old.items + n ≤ longest_copy }
+    ensures copied { IfOk result (λ _. CopiesIn (store_model S.view F.rule F.alone F.free F.count C.files C.becomes C.can_refuse) (some_run va.0 n) (place space.old store.old files.old) (place space.new store.new files.new) bytes.old.items bytes.new.items None) }
+    ensures stopped { IfErr result (λ stop. CopiesIn (store_model S.view F.rule F.alone F.free F.count C.files C.becomes C.can_refuse) (some_run va.0 n) (place space.old store.old files.old) (place space.new store.new files.new) bytes.old.items bytes.new.items (Some stop)) }
+    ensures more { IfOk result (λ _. length bytes.new.items ≡ length bytes.old.items + n) }
     ensures low { IfOk result (λ _. 0 < n → va.0 < maxva space.old.layout.scheme) }
     ensures space { StillStands (body_of S.view space.old) (body_of S.view space.new) }
     ensures keeps { KeepsSeats F.rule store.old space.old.seat store.new space.new.seat }
 {
     if n == 0 {
-        return Ok(bytes);
+        return Ok(());
     }
-    if let Err(rule) = reach(space, store, files, va, Access::Load) {
-        let done = bytes.len();
-        return Err(Short { rule, done, bytes });
-    }
+    reach(space, store, files, va, Access::Load)?;
     let mut page = [0; 256];
     let run = &mut page[..n];
     space.read_run(store, va, run);
     let Ok(()) = bytes.try_extend_from_slice(run) else {
         unreachable!()
     };
-    Ok(bytes)
+    Ok(())
 }
 
 /// Copies these bytes to a process, to `va` and on, all in one page. `done` bytes were copied before.

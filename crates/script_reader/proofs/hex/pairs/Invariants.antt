@@ -5,11 +5,20 @@ use Rattle.script_reader.proofs.Pairs.{onto}
 use Rattle.script_reader.proofs.hex.pairs.Given as goal
 
 -- the bytes so far, and room for those that are left
-abbrev pub invariant-loop-rest : goal.invariant-loop-rest
-invariant-loop-rest l = record {
+abbrev pub invariant-fours : goal.invariant-fours
+invariant-fours l = record {
   says : onto l.items.items (pairs_of l.rest) ≡ pairs_of l.digits;
   room : vec_len l.items + length l.rest / 2 ≤ vec_capacity l.items;
 }
 
-abbrev pub decreases-loop-rest : goal.decreases-loop-rest
-decreases-loop-rest l = length l.rest
+abbrev pub decreases-fours : goal.decreases-fours
+decreases-fours l = length l.rest
+
+abbrev pub invariant-ones : goal.invariant-ones
+invariant-ones l = record {
+  says : onto l.items.items (pairs_of l.rest) ≡ pairs_of l.digits;
+  room : vec_len l.items + length l.rest / 2 ≤ vec_capacity l.items;
+}
+
+abbrev pub decreases-ones : goal.decreases-ones
+decreases-ones l = length l.rest

@@ -1,0 +1,27 @@
+use Rattle.std.proofs.Common.{ap, ◌∙◌, refl, arith}
+use Rattle.process_model.specs.Numbers.{pairs_of}
+use Rattle.script_reader.proofs.Digits.{said_digit}
+use Rattle.script_reader.proofs.Pairs.{four_first}
+use Rattle.script_reader.proofs.hex.four_bytes.Goals as goal
+
+pub returns-clause-bytes : goal.returns-clause-bytes
+returns-clause-bytes c =
+    let low = c.if-not-are_digits.ensures refl in
+    let first = low.0 in
+    let second = low.1 in
+    let third = low.2 in
+    let fourth = low.3 in
+    let fifth = low.4 in
+    let sixth = low.5 in
+    let seventh = low.6 in
+    let eighth = low.7 in
+    ap pairs_of c.in_ok-a.ensures ∙ four_first c.in_ok-a.a c.in_ok-a.b c.in_ok-a.c c.in_ok-a.d c.in_ok-a.e c.in_ok-a.f c.in_ok-a.g c.in_ok-a.h
+    c.hexadecimal_value-a.result c.hexadecimal_value-b.result c.hexadecimal_value-c.result c.hexadecimal_value-d.result c.hexadecimal_value-e.result c.hexadecimal_value-f.result c.hexadecimal_value-g.result c.hexadecimal_value-h.result c.in_ok-a.rest.now
+    (said_digit 16 c.in_ok-a.a c.hexadecimal_value-a.result c.hexadecimal_value-a.ensures (omega (arith, first)))
+    (said_digit 16 c.in_ok-a.b c.hexadecimal_value-b.result c.hexadecimal_value-b.ensures (omega (arith, second)))
+    (said_digit 16 c.in_ok-a.c c.hexadecimal_value-c.result c.hexadecimal_value-c.ensures (omega (arith, third)))
+    (said_digit 16 c.in_ok-a.d c.hexadecimal_value-d.result c.hexadecimal_value-d.ensures (omega (arith, fourth)))
+    (said_digit 16 c.in_ok-a.e c.hexadecimal_value-e.result c.hexadecimal_value-e.ensures (omega (arith, fifth)))
+    (said_digit 16 c.in_ok-a.f c.hexadecimal_value-f.result c.hexadecimal_value-f.ensures (omega (arith, sixth)))
+    (said_digit 16 c.in_ok-a.g c.hexadecimal_value-g.result c.hexadecimal_value-g.ensures (omega (arith, seventh)))
+    (said_digit 16 c.in_ok-a.h c.hexadecimal_value-h.result c.hexadecimal_value-h.ensures (omega (arith, eighth)))
