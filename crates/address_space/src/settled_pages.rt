@@ -1,6 +1,6 @@
 // Struct `SettledPage`: a settled page (one in memory) with its frame, its fork mark (the next store takes it over first)
-// and D; and two calls of `Space` that find such pages by their leaves: `settled_page` one page, `next_settled` the first of
-// a range.
+// and D; and calls of `Space` that find such pages by their leaves: `settled_page` one page, `next_settled` the first of a
+// range, and `next_settled_near` one after another, with one walk for those of one page table.
 
 ghost use Rattle.std.specs.Prelude.{◌≡◌, ◌<◌, ◌≤◌, ℕ, IsSome, Some};
 ghost use Rattle.address_space.specs.Agreement.{body_of, no_extra};
@@ -11,13 +11,14 @@ ghost use Rattle.process_model.specs.Process.{Process};
 ghost use Rattle.sv39_entry.specs.Frame.{frame_at};
 ghost use Rattle.sv39_entry.specs.Word as word;
 ghost use Rattle.sv39_entry.specs.Schemes.{trapframe_page};
+ghost use Rattle.table_walk.specs.LastTables.{IsLastTable};
 ghost use Rattle.table_walk.specs.Tables.{Tables};
 
 use crate::space::Space;
 use crate::teardown::first_mapped;
 use frame_store::{FrameAccess, FrameSeat};
 use sv39_entry::{Entry, EntryFlags, FrameNo, Va, Vpn};
-use table_walk::leaf_of;
+use table_walk::{LastTable, leaf_of};
 
 /// A settled page: its number, its frame, whether it has the fork mark, and whether its leaf has D (RISC-V Privileged
 /// Architecture 20211203, 4.3.1). In a shared mapping that grants writing D is the stored mark; in any other region that
@@ -90,9 +91,44 @@ impl<S: FrameSeat> Space<S> {
         ensures same { store.new ≡ store.old }
         ensures keeps { KeepsSeats F.rule store.old self.old.seat store.new self.new.seat }
     {
+        let mut last = None;
+        self.next_settled_near(store, first, end, &mut last)
+    }
+
+    /// `next_settled`, for a caller that goes on from page to page: `last` must be `None` or have been set by such a call for
+    /// this space, of which no page table may have been released since. The settled page after another in one page table is
+    /// found without a walk.
+    #[inline(always)]
+    pub fn next_settled_near<F: FrameAccess<Seat = S>>(
+        &mut self,
+        store: &mut F,
+        first: u64,
+        end: Vpn,
+        last: &mut Option<LastTable>,
+    ) -> Option<SettledPage>
+        requires fits { IsSeatOf F.rule store.old self.old.seat }
+        requires ready { (t : Tables) × (p : Process) × IsSpaceInCall (body_of S.view self.old) t p no_extra × IsLastTable p.scheme t last.old }
+        requires low { end ≤ trapframe_page self.old.layout.scheme }
+        ensures page { (t : Tables) (p : Process) → IsSpaceInCall (body_of S.view self.old) t p no_extra → IsLastTable p.scheme t last.old → IsNextSettled t p first end result }
+        ensures kept { (t : Tables) (p : Process) → IsSpaceInCall (body_of S.view self.old) t p no_extra → IsLastTable p.scheme t last.old → IsLastTable p.scheme t last.new }
+        ensures root { self.new.root ≡ self.old.root }
+        ensures trapframe { self.new.trapframe ≡ self.old.trapframe }
+        ensures layout { self.new.layout ≡ self.old.layout }
+        ensures view { S.view self.new.seat ≡ S.view self.old.seat }
+        ensures same { store.new ≡ store.old }
+        ensures keeps { KeepsSeats F.rule store.old self.old.seat store.new self.new.seat }
+    {
         let scheme = self.layout.scheme();
         let end = end.number().min(self.layout.end());
-        let (page, leaf) = first_mapped(store, &mut self.seat, scheme, self.root, first, end)?;
+        let (page, leaf) = first_mapped(
+            store,
+            &mut self.seat,
+            scheme,
+            self.root,
+            first,
+            end,
+            last,
+        )?;
         Some(settled_by(page, leaf))
     }
 }

@@ -13,15 +13,17 @@ ghost use Rattle.frame_store.specs.View.{hold_of};
 ghost use Rattle.process_model.specs.Heap.{without_pages};
 ghost use Rattle.process_model.specs.Process.{Process};
 ghost use Rattle.sv39_entry.specs.Schemes.{trapframe_page, page_limit};
+ghost use Rattle.table_walk.specs.LastTables.{IsLastTable};
 ghost use Rattle.table_walk.specs.Tables.{HasTables, Tables, walk_leaf};
 
 use crate::space::Space;
 use frame_store::{FrameAccess, FrameSeat};
 use sv39_entry::{Entry, FrameNo, Scheme, Va, Vpn};
-use table_walk::{leaf_of, next_leaf_before, release_tables, unmap};
+use table_walk::{LastTable, leaf_near, next_leaf_before, release_tables, unmap, unmap_near};
 
 /// Returns the first page that has a leaf, from the page number `first` up to, and without, `end`, and the leaf; `None` if
-/// there is none. Page `first` is tried by itself: in a run of settled pages it is the one.
+/// there is none. Page `first` is tried by itself: in a run of settled pages it is the one. `last` is as for `leaf_near`.
+#[inline(always)]
 pub(crate) fn first_mapped<F: FrameAccess>(
     store: &mut F,
     seat: &mut F::Seat,
@@ -29,23 +31,26 @@ pub(crate) fn first_mapped<F: FrameAccess>(
     root: FrameNo,
     first: u64,
     end: u64,
+    last: &mut Option<LastTable>,
 ) -> Option<(Vpn, Entry)>
     requires fits { IsSeatOf F.rule store.old seat.old }
-    requires held { (t : Tables) × HasTables scheme (F.Seat.view seat.old) root.0 t }
+    requires held { (t : Tables) × HasTables scheme (F.Seat.view seat.old) root.0 t × IsLastTable scheme t last.old }
     requires low { end ≤ page_limit scheme }
-    ensures page { (t : Tables) → HasTables scheme (F.Seat.view seat.old) root.0 t → IsFirstMapped t first end result }
+    ensures page { (t : Tables) → HasTables scheme (F.Seat.view seat.old) root.0 t → IsLastTable scheme t last.old → IsFirstMapped t first end result }
+    ensures kept { (t : Tables) → HasTables scheme (F.Seat.view seat.old) root.0 t → IsLastTable scheme t last.old → IsLastTable scheme t last.new }
     ensures view { F.Seat.view seat.new ≡ F.Seat.view seat.old }
     ensures same { store.new ≡ store.old }
     ensures keeps { KeepsSeats F.rule store.old seat.old store.new seat.new }
 {
     let page = Vpn::new(first)?;
-    if let Some(leaf) = leaf_before(store, seat, scheme, root, page, end) {
+    if let Some(leaf) = leaf_before(store, seat, scheme, root, page, end, last) {
         return Some((page, leaf));
     }
     next_leaf_before(store, seat, scheme, root, page, end)
 }
 
-/// Returns the leaf of a page that is below `end`, `None` if it has none or is not below.
+/// Returns the leaf of a page that is below `end`, `None` if it has none or is not below. `last` is as for `leaf_near`.
+#[inline(always)]
 fn leaf_before<F: FrameAccess>(
     store: &mut F,
     seat: &mut F::Seat,
@@ -53,23 +58,26 @@ fn leaf_before<F: FrameAccess>(
     root: FrameNo,
     page: Vpn,
     end: u64,
+    last: &mut Option<LastTable>,
 ) -> Option<Entry>
     requires fits { IsSeatOf F.rule store.old seat.old }
-    requires held { (t : Tables) × HasTables scheme (F.Seat.view seat.old) root.0 t }
-    ensures leaf { (t : Tables) → HasTables scheme (F.Seat.view seat.old) root.0 t → IfSome result (λ leaf. (page < end) × (get t.leaves (walk_leaf scheme page) ≡ Some leaf)) }
+    requires held { (t : Tables) × HasTables scheme (F.Seat.view seat.old) root.0 t × IsLastTable scheme t last.old }
+    ensures leaf { (t : Tables) → HasTables scheme (F.Seat.view seat.old) root.0 t → IsLastTable scheme t last.old → IfSome result (λ leaf. (page < end) × (get t.leaves (walk_leaf scheme page) ≡ Some leaf)) }
+    ensures kept { (t : Tables) → HasTables scheme (F.Seat.view seat.old) root.0 t → IsLastTable scheme t last.old → IsLastTable scheme t last.new }
     ensures view { F.Seat.view seat.new ≡ F.Seat.view seat.old }
     ensures same { store.new ≡ store.old }
     ensures keeps { KeepsSeats F.rule store.old seat.old store.new seat.new }
 {
     if page.number() < end {
-        leaf_of(store, seat, scheme, root, page)
+        leaf_near(store, seat, scheme, root, page, last)
     } else {
         None
     }
 }
 
 /// Removes the leaf of a page that is below `end`, if it has one, and then drops the reference to the frame that it named:
-/// no leaf ever names a released frame. Returns whether there was a leaf.
+/// no leaf ever names a released frame. Returns whether there was a leaf. `last` is as for `unmap_near`.
+#[inline(always)]
 fn drop_leaf<F: FrameAccess>(
     store: &mut F,
     seat: &mut F::Seat,
@@ -77,19 +85,21 @@ fn drop_leaf<F: FrameAccess>(
     root: FrameNo,
     page: Vpn,
     end: u64,
+    last: &mut Option<LastTable>,
 ) -> bool
     requires fits { IsSeatOf F.rule store.old seat.old }
-    requires ready { (t : Tables) × HasTables scheme (F.Seat.view seat.old) root.0 t × MayDrop scheme (F.Seat.view seat.old) root.0 t page end }
+    requires ready { (t : Tables) × HasTables scheme (F.Seat.view seat.old) root.0 t × MayDrop scheme (F.Seat.view seat.old) root.0 t page end × IsLastTable scheme t last.old }
     requires low { end ≤ page_limit scheme }
-    ensures dropped { (t : Tables) → HasTables scheme (F.Seat.view seat.old) root.0 t → MayDrop scheme (F.Seat.view seat.old) root.0 t page end →
+    ensures dropped { (t : Tables) → HasTables scheme (F.Seat.view seat.old) root.0 t → MayDrop scheme (F.Seat.view seat.old) root.0 t page end → IsLastTable scheme t last.old →
         DropsIf scheme result (F.Seat.view seat.old) (F.Seat.view seat.new) root.0 t page end }
+    ensures kept { (t : Tables) → HasTables scheme (F.Seat.view seat.old) root.0 t → IsLastTable scheme t last.old → IsLastTable scheme t last.new }
     ensures keeps { KeepsSeats F.rule store.old seat.old store.new seat.new }
     ensures free { F.alone → F.free store.old ≤ F.free store.new }
 {
     if end <= page.number() {
         return false;
     }
-    let Some(leaf) = unmap(store, seat, scheme, root, page) else {
+    let Some(leaf) = unmap_near(store, seat, scheme, root, page, last) else {
         return false;
     };
     let Some(frame) = FrameNo::from_ppn(leaf.ppn()) else {
@@ -100,7 +110,9 @@ fn drop_leaf<F: FrameAccess>(
 }
 
 /// `drop_leaf` of the first page that has a leaf, from the page number `first` up to, and without, `end`. Returns the number
-/// of that page, `None` if there is none. Page `first` is tried by itself: in a run of settled pages it is the one.
+/// of that page, `None` if there is none. Page `first` is tried by itself: in a run of settled pages it is the one. `last` is
+/// as for `unmap_near`.
+#[inline(always)]
 fn drop_first<F: FrameAccess>(
     store: &mut F,
     seat: &mut F::Seat,
@@ -108,21 +120,24 @@ fn drop_first<F: FrameAccess>(
     root: FrameNo,
     first: u64,
     end: u64,
+    last: &mut Option<LastTable>,
 ) -> Option<u64>
     requires fits { IsSeatOf F.rule store.old seat.old }
-    requires ready { (t : Tables) × HasTables scheme (F.Seat.view seat.old) root.0 t × ((page : ℕ) → MayDrop scheme (F.Seat.view seat.old) root.0 t page end) }
+    requires ready { (t : Tables) × HasTables scheme (F.Seat.view seat.old) root.0 t × ((page : ℕ) → MayDrop scheme (F.Seat.view seat.old) root.0 t page end) × IsLastTable scheme t last.old }
     requires low { end ≤ page_limit scheme }
-    ensures dropped { (t : Tables) → HasTables scheme (F.Seat.view seat.old) root.0 t → ((page : ℕ) → MayDrop scheme (F.Seat.view seat.old) root.0 t page end) →
+    ensures dropped { (t : Tables) → HasTables scheme (F.Seat.view seat.old) root.0 t → ((page : ℕ) → MayDrop scheme (F.Seat.view seat.old) root.0 t page end) → IsLastTable scheme t last.old →
         DropsFirst scheme result (F.Seat.view seat.old) (F.Seat.view seat.new) root.0 t first end }
+    ensures kept { (t : Tables) → HasTables scheme (F.Seat.view seat.old) root.0 t → ((page : ℕ) → MayDrop scheme (F.Seat.view seat.old) root.0 t page end) → IsLastTable scheme t last.old →
+        IsLastTable scheme t last.new }
     ensures keeps { KeepsSeats F.rule store.old seat.old store.new seat.new }
     ensures free { F.alone → F.free store.old ≤ F.free store.new }
 {
     let page = Vpn::new(first)?;
-    if drop_leaf(store, seat, scheme, root, page, end) {
+    if drop_leaf(store, seat, scheme, root, page, end, last) {
         return Some(first);
     }
     let (page, _) = next_leaf_before(store, seat, scheme, root, page, end)?;
-    if !drop_leaf(store, seat, scheme, root, page, end) {
+    if !drop_leaf(store, seat, scheme, root, page, end, last) {
         unreachable!()
     }
     Some(page.number())
@@ -147,7 +162,8 @@ pub(crate) fn drop_run<F: FrameAccess>(
     ensures free { F.alone → F.free store.old ≤ F.free store.new }
 {
     let mut from = first.number();
-    'pages: while let Some(page) = drop_first(store, seat, scheme, root, from, end) {
+    let mut last = None;
+    'pages: while let Some(page) = drop_first(store, seat, scheme, root, from, end, &mut last) {
         from = page + 1;
     }
 }

@@ -1,6 +1,6 @@
 -- Lemmas for `copy_tree`: the child's leaves have the fork mark (the next store takes the page over) and no W as the model
 -- says; the child's tables after one more settled page (one in memory; `copies_more`), and after all (`copies_all`).
-use Rattle.std.proofs.Common.{◌≡◌, ℕ, ◌+◌, ◌-◌, ◌<◌, ◌≤◌, Bool, true, false, not, ◌&&◌, ◌||◌, Some, inl, inr, refl, ap, sym, subst, ◌∙◌, arith, List, ◌∷◌, drop, length, slice_index_or}
+use Rattle.std.proofs.Common.{◌≡◌, ℕ, ◌+◌, ◌-◌, ◌<◌, ◌≤◌, Bool, true, false, not, ◌&&◌, ◌||◌, Option, Some, inl, inr, refl, ap, sym, subst, ◌∙◌, arith, List, ◌∷◌, drop, length, slice_index_or}
 use Rattle.std.proofs.lemmas.Bool.{cases_eq, cases_lt}
 use Rattle.std.proofs.lemmas.List.{at_drop_all, at_drop_more}
 use Rattle.std.proofs.lemmas.List.Elements.{All-contains_itself}
@@ -18,7 +18,10 @@ use Rattle.process_model.specs.Residence.{child_page}
 use Rattle.sv39_entry.specs.declared.access.Access.TheVariants.{Store}
 use Rattle.table_walk.specs.TableCounts.{AreTablesOf, same_members}
 use Rattle.table_walk.specs.Keys.{insert_other, insert_same}
-use Rattle.table_walk.specs.Tables.{ChangesTables, HasTables, IsGrown, leaf_node, missing, Tables, with_leaf}
+use Rattle.table_walk.specs.LastTables.{IsLastTable}
+use Rattle.table_walk.specs.Nodes.{low_leaf}
+use Rattle.table_walk.specs.Tables.{ChangesTables, HasTables, IsGrown, leaf_node, missing, Tables, walk_leaf, with_leaf}
+use Rattle.table_walk.specs.declared.near.LastTable.{LastTable}
 use Rattle.sv39_entry.specs.Schemes.{top_level, trampoline_page, trapframe_page, page_limit, of_scheme}
 use Rattle.sv39_entry.specs.declared.scheme.Scheme.{Scheme}
 use Rattle.address_space.specs.Agreement.{is_dirty_page, IsPageLeaf}
@@ -66,6 +69,16 @@ leaf_apart m n apart same = apart (omega (arith, same))
 -- what is missing by one scheme is missing by an equal one
 pub missing_of_scheme : {x y : Scheme} (t : Tables) (page n : ℕ) → x ≡ y → missing x t page ≤ n → missing y t page ≤ n
 missing_of_scheme t page n same few = subst (λ z. missing z t page ≤ n) same few
+
+-- what `map_near` ensures of the tables, for a page below the page limit, and by an equal scheme
+abbrev pub MapsNear : Scheme → View → View → ℕ → Tables → ℕ → ℕ → ℕ → Option LastTable → Type 0
+MapsNear z v w root t page number leaf last =
+    (u : Tables) × IsGrown z t u page (top_level z) × HasTables z w root (with_leaf u number leaf) × ChangesTables v w t u (missing z t page) × IsLastTable z u last
+
+pub maps_near : (x y : Scheme) (v w : View) (root : ℕ) (t : Tables) (page leaf : ℕ) (last : Option LastTable) → x ≡ y → page < page_limit x
+    → MapsNear y v w root t page (walk_leaf y page) leaf last → MapsNear x v w root t page (leaf_node page) leaf last
+maps_near x y v w root t page leaf last same low maps =
+    subst (λ (number : ℕ). MapsNear x v w root t page number leaf last) (low_leaf x page low) (subst (λ z. MapsNear z v w root t page (walk_leaf z page) leaf last) (sym same) maps)
 
 -- ---- as far as some pages were gone through
 

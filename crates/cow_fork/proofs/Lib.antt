@@ -13,6 +13,7 @@ pub mod Refusals
 pub mod Releasing
 pub mod Reserving
 pub mod Results
+pub mod SameRegion
 pub mod Shares
 pub mod Splitting
 pub mod Taking

@@ -1,14 +1,14 @@
 -- The child's page tables while a fork builds them on the parent's seat (an owner's capability at a frame store): when it
 -- can begin (`CanOpen`, `CanCopy`), the leaf of a settled page, one in memory (`HasChildLeaf`), and tables, leaves and
 -- credits (reserved frames) after some of these pages (`CopiesPages`) and after all (`CopiesTree`).
-use Rattle.std.specs.Prelude.{◌≡◌, ◌≢◌, ℕ, ◌-◌, ◌<◌, ◌≤◌, Contains, List, Some, ◌+◌}
+use Rattle.std.specs.Prelude.{◌≡◌, ◌≢◌, ℕ, ◌-◌, ◌<◌, ◌≤◌, Contains, List, Some, ◌+◌, true}
 use Rattle.std.specs.FinMap.{get}
 use Rattle.frame_store.specs.View.{AllKnown, hold_of, IsHeld, references, spent, View}
 use Rattle.process_model.specs.Frames.{tables_needed}
 use Rattle.process_model.specs.Order.{HasOrder}
 use Rattle.process_model.specs.PageMap as pages
 use Rattle.process_model.specs.Process.{Page, Process, regions}
-use Rattle.process_model.specs.Regions.{Region, region_at}
+use Rattle.process_model.specs.Regions.{holds_page, Region, region_at}
 use Rattle.process_model.specs.Residence.{child_page}
 use Rattle.sv39_entry.specs.Schemes.{trampoline_page, trapframe_page, top_level}
 use Rattle.sv39_entry.specs.declared.scheme.Scheme.{Scheme}
@@ -29,6 +29,10 @@ pub record HasChildLeaf (t u : Tables) (p : Process) (n : ℕ) (s : Page) : Type
   pub on : IsFrameOfPage t n frame
   pub mapped : get u.leaves (leaf_node n) ≡ Some leaf
   pub made : IsPageLeaf leaf frame region (child_page p n s).fork_mark (is_dirty_page region (child_page p n s))
+
+-- each page that the region holds is in this region of the process
+abbrev pub IsRegionOf : Process → Region → Type 0
+IsRegionOf p r = (n : ℕ) → holds_page r n ≡ true → region_at (regions p) n ≡ Some r
 
 -- tables for the kernel's two pages can be made: the seat holds frame 0 and another frame, for the trapframe, and has at
 -- least one credit for each level

@@ -80,7 +80,8 @@ fn list_settled<S: FrameSeat, F: FrameAccess<Seat = S>>(
     let scheme = space.layout.scheme();
     let end = scheme.trapframe().page();
     let mut from = 0;
-    'pages: while let Some(found) = space.next_settled(store, from, end) {
+    let mut last = None;
+    'pages: while let Some(found) = space.next_settled_near(store, from, end, &mut last) {
         from = found.page.number() + 1;
         pages.push(found);
     }

@@ -1,21 +1,23 @@
 // Page tables in a fork: `copy_tree` builds the child's from the list of settled pages (those in memory), on the parent's
 // frames; `mark_pages` sets the fork mark (the next store takes the page over) in the parent's leaves.
 
-ghost use Rattle.std.specs.Prelude.{[], ◌≡◌, ℕ};
+ghost use Rattle.std.specs.Prelude.{[], ◌≡◌, ℕ, IsSome, Some};
 ghost use Rattle.address_space.specs.Agreement.{body_of};
+ghost use Rattle.address_space.specs.Layouts.{LaysOut, region_of};
 ghost use Rattle.address_space.specs.SpacesInCalls.{IsSpaceInCall, RewritesLeaves};
 ghost use Rattle.address_space.specs.SettledLists.{AreSettled};
-ghost use Rattle.cow_fork.specs.Children.{CanCopy, CanOpen, CopiesPages, CopiesTree};
+ghost use Rattle.cow_fork.specs.Children.{CanCopy, CanOpen, CopiesPages, CopiesTree, IsRegionOf};
 ghost use Rattle.frame_store.specs.Laws.{IsSeatOf, KeepsSeats};
-ghost use Rattle.process_model.specs.Process.{Process};
+ghost use Rattle.process_model.specs.Process.{Process, regions};
+ghost use Rattle.process_model.specs.Regions.{region_at};
 ghost use Rattle.process_model.specs.Residence.{marked};
 ghost use Rattle.sv39_entry.specs.Schemes.{trapframe_page};
 ghost use Rattle.table_walk.specs.Tables.{Tables};
 
-use address_space::{SettledPage, Space, TRAMPOLINE_FRAME, leaf_for_kernel};
+use address_space::{Layout, Region, SettledPage, Space, TRAMPOLINE_FRAME, leaf_for_kernel};
 use frame_store::{FrameAccess, FrameSeat, FrameSupply};
 use sv39_entry::{Access, FrameNo, Scheme};
-use table_walk::{map, missing_is_growth, new_table};
+use table_walk::{map, map_near, missing_is_growth, new_table};
 
 /// Builds the child's page tables with credits of the parent's seat and returns the frame of their root. Each settled page
 /// has a leaf on the parent's frame, with the fork mark if the page had it or its region grants writing; `trapframe` is at
@@ -40,15 +42,38 @@ pub(crate) fn copy_tree<S: FrameSeat, F: FrameSupply<Seat = S>>(
     missing_is_growth();
     let scheme = space.layout.scheme();
     let root = open_tables(store, &mut space.seat, scheme, trapframe);
+    let mut last = None;
+    let mut region = Region::default();
     'pages: for page in settled {
-        let Some(region) = space.layout.region_at(page.page.number()) else {
-            unreachable!()
-        };
+        enter_region(&space.layout, page.page.number(), &mut region);
         let mark = page.fork_mark || !region.lacks_right(Access::Store);
         let leaf = region.leaf(page.frame, mark, region.is_dirty_from_start());
-        map(store, &mut space.seat, scheme, root, page.page, leaf);
+        map_near(
+            store,
+            &mut space.seat,
+            scheme,
+            root,
+            page.page,
+            leaf,
+            &mut last,
+        );
     }
     root
+}
+
+/// Sets `region` to the region that holds the page, which is in one, unless `region` holds it: in the order of addresses the
+/// pages of a region follow one another.
+fn enter_region(layout: &Layout, page: u64, region: &mut Region)
+    requires ready { (p : Process) × LaysOut layout.now p × IsRegionOf p (region_of region.old) × IsSome (region_at (regions p) page) }
+    ensures { (p : Process) → LaysOut layout.now p → IsRegionOf p (region_of region.old) → region_at (regions p) page ≡ Some (region_of region.new) }
+{
+    if region.holds_page(page) {
+        return;
+    }
+    let Some(next) = layout.region_at(page) else {
+        unreachable!()
+    };
+    *region = next;
 }
 
 /// Makes page tables, with one credit for each level, that map frame 0 at TRAMPOLINE and `trapframe` at TRAPFRAME, for the

@@ -41,7 +41,8 @@ pub(crate) fn count_run<S: FrameSeat, F: FrameAccess<Seat = S>>(
     }
     let mut count = 0;
     let mut from = run.first.number();
-    'pages: while let Some(found) = space.next_settled(store, from, run.end) {
+    let mut last = None;
+    'pages: while let Some(found) = space.next_settled_near(store, from, run.end, &mut last) {
         if found.dirty {
             count += 1;
         }
@@ -74,7 +75,8 @@ pub(crate) fn write_run<S: FrameSeat, F: FrameAccess<Seat = S>, C: Files>(
     };
     let mut bytes = [0; 4096];
     let mut from = run.first.number();
-    'pages: while let Some(settled) = space.next_settled(store, from, run.end) {
+    let mut last = None;
+    'pages: while let Some(settled) = space.next_settled_near(store, from, run.end, &mut last) {
         if settled.dirty {
             space.page_bytes(store, settled.page, &mut bytes);
             let at = (settled.page.number() - run.mapping.first) * PAGE_SIZE;

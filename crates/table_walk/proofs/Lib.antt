@@ -4,6 +4,7 @@ pub mod Counted
 pub mod Grown
 pub mod TableWords
 pub mod LeafChanges
+pub mod KeptTables
 pub mod Next
 pub mod Outcomes
 pub mod Roots

@@ -4,6 +4,7 @@ pub mod TableCounts
 pub mod HeldMemory
 pub mod Tables
 pub mod Keys
+pub mod LastTables
 pub mod Leaves
 pub mod LowPages
 pub mod Memory

@@ -20,6 +20,7 @@ use sv39_entry::{Entry, FrameNo, Scheme, Vpn};
 /// Pages are numbered by their indices alone. In the lower half of the addresses that is the page number; a page of the
 /// upper half, which no process has, is returned without its upper bits.
 /// Reads only tables that exist and have a page before `end`, and no table that the store knows to be empty.
+#[inline(never)]
 pub fn next_leaf_before<F: FrameAccess>(
     store: &mut F,
     seat: &mut F::Seat,

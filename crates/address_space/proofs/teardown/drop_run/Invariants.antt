@@ -3,6 +3,7 @@ use Rattle.address_space.specs.Agreement.{no_extra, IsInMemory}
 use Rattle.address_space.specs.SpaceTeardown.{DropsRun}
 use Rattle.frame_store.specs.Laws.{KeepsSeats}
 use Rattle.process_model.specs.Process.{Process}
+use Rattle.table_walk.specs.LastTables.{IsLastTable}
 use Rattle.table_walk.specs.Tables.{Tables}
 use Rattle.address_space.proofs.teardown.drop_run.Given as goal
 
@@ -13,6 +14,8 @@ invariant-pages g l = record {
   within : l.from ≤ max l.fn.first l.fn.end;
   dropped : (trapframe : ℕ) (t : Tables) (p : Process) → p.scheme ≡ l.fn.scheme → IsInMemory (g.F.Seat.FrameSeat.view l.fn.seat) l.fn.root.0 trapframe no_extra t p
       → (u : Tables) × DropsRun (g.F.Seat.FrameSeat.view l.fn.seat) (g.F.Seat.FrameSeat.view l.seat) l.fn.root.0 trapframe t u p l.fn.first l.from;
+  kept : (trapframe : ℕ) (t : Tables) (p : Process) → p.scheme ≡ l.fn.scheme → IsInMemory (g.F.Seat.FrameSeat.view l.fn.seat) l.fn.root.0 trapframe no_extra t p
+      → IsLastTable l.fn.scheme t l.last;
   keeps : KeepsSeats g.F.FrameAccess.rule l.fn.store l.fn.seat l.store l.seat;
   free : g.F.FrameAccess.alone → g.F.FrameAccess.free l.fn.store ≤ g.F.FrameAccess.free l.store;
 }

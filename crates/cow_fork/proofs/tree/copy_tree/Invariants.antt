@@ -1,8 +1,10 @@
 use Rattle.std.proofs.Common.{◌≡◌}
 use Rattle.frame_store.specs.Laws.{KeepsSeats}
 use Rattle.process_model.specs.Process.{Process}
+use Rattle.table_walk.specs.LastTables.{IsLastTable}
 use Rattle.table_walk.specs.Tables.{Tables}
-use Rattle.cow_fork.specs.Children.{CanCopy}
+use Rattle.address_space.specs.Layouts.{region_of}
+use Rattle.cow_fork.specs.Children.{CanCopy, IsRegionOf}
 use Rattle.cow_fork.proofs.Copying.{IsCopied}
 use Rattle.cow_fork.proofs.tree.copy_tree.Given as goal
 
@@ -14,6 +16,8 @@ invariant-pages g l = record {
   layout : l.space.layout ≡ l.fn.space.layout;
   keeps : KeepsSeats g.F.FrameAccess.rule l.fn.store l.fn.space.seat l.store l.space.seat;
   free : g.F.FrameAccess.alone → g.F.FrameAccess.free l.store ≡ g.F.FrameAccess.free l.fn.store;
+  entered : (t : Tables) (p : Process) → CanCopy (g.S.FrameSeat.view l.fn.space.seat) l.fn.space.layout t p l.fn.trapframe.0 l.settled → IsRegionOf p (region_of l.region);
   copied : (t : Tables) (p : Process) → CanCopy (g.S.FrameSeat.view l.fn.space.seat) l.fn.space.layout t p l.fn.trapframe.0 l.settled
-      → IsCopied (g.S.FrameSeat.view l.fn.space.seat) (g.S.FrameSeat.view l.space.seat) t p l.root.0 l.fn.trapframe.0 l.settled l.page-index;
+      → (so_far : IsCopied (g.S.FrameSeat.view l.fn.space.seat) (g.S.FrameSeat.view l.space.seat) t p l.root.0 l.fn.trapframe.0 l.settled l.page-index)
+      × IsLastTable p.scheme so_far.0 l.last;
 }

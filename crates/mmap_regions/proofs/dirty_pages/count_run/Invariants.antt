@@ -5,6 +5,7 @@ use Rattle.frame_store.specs.Laws.{KeepsSeats}
 use Rattle.mmap_regions.specs.Runs.{IsRunOf, run_of}
 use Rattle.process_model.specs.PageMoves.{run_moves}
 use Rattle.process_model.specs.Process.{Process}
+use Rattle.table_walk.specs.LastTables.{IsLastTable}
 use Rattle.table_walk.specs.Tables.{Tables}
 use Rattle.mmap_regions.proofs.dirty_pages.count_run.Given as goal
 
@@ -20,6 +21,7 @@ invariant-pages g l = record {
   view : g.S.FrameSeat.view l.space.seat ≡ g.S.FrameSeat.view l.fn.space.seat;
   same : l.store ≡ l.fn.store;
   keeps : KeepsSeats g.F.FrameAccess.rule l.fn.store l.fn.space.seat l.store l.space.seat;
+  kept : (t : Tables) (p : Process) → IsSpace (body_of g.S.FrameSeat.view l.fn.space) t p → IsLastTable p.scheme t l.last;
   count : (t : Tables) (p : Process) → IsSpace (body_of g.S.FrameSeat.view l.fn.space) t p → IsRunOf p (run_of l.run) → l.count ≡ length (run_moves p (region_of l.run.mapping) l.run.first l.from);
 }
 

@@ -6,6 +6,7 @@ use Rattle.frame_store.specs.Laws.{KeepsSeats}
 use Rattle.mmap_regions.specs.Runs.{IsRunOf, run_of}
 use Rattle.process_model.specs.PageMoves.{run_moves}
 use Rattle.process_model.specs.Process.{Process}
+use Rattle.table_walk.specs.LastTables.{IsLastTable}
 use Rattle.table_walk.specs.Tables.{Tables}
 use Rattle.mmap_regions.proofs.dirty_pages.write_run.Given as goal
 
@@ -20,6 +21,7 @@ invariant-pages g l = record {
   view : g.S.FrameSeat.view l.space.seat ≡ g.S.FrameSeat.view l.fn.space.seat;
   same : l.store ≡ l.fn.store;
   keeps : KeepsSeats g.F.FrameAccess.rule l.fn.store l.fn.space.seat l.store l.space.seat;
+  kept : (t : Tables) (p : Process) → IsSpaceInCall (body_of g.S.FrameSeat.view l.fn.space) t p no_extra → IsLastTable p.scheme t l.last;
   moves : (t : Tables) (p : Process) → IsSpaceInCall (body_of g.S.FrameSeat.view l.fn.space) t p no_extra → IsRunOf p (run_of l.run)
       → g.C.Files.becomes l.fn.files (run_moves p (region_of l.run.mapping) l.run.first l.from) l.files;
   rest : (t : Tables) (p : Process) → IsSpaceInCall (body_of g.S.FrameSeat.view l.fn.space) t p no_extra → IsRunOf p (run_of l.run)
