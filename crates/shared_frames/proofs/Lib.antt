@@ -1,6 +1,7 @@
 pub mod Sums
 pub mod Zeros
 pub mod Changes
+pub mod ManyWords
 pub mod Moves
 pub mod Stored
 pub mod Within

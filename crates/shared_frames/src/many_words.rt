@@ -4,11 +4,11 @@
 
 ghost use Rattle.std.specs.Prelude.{◌≡◌, ◌≢◌, ℕ, ◌+◌, ◌-◌, ◌≤◌, true};
 ghost use Rattle.frame_store.specs.NextWord.{AreZeros, IsNextWord};
-ghost use Rattle.frame_store.specs.View.{AllKnown, IsHeld, IsSole, View, with_many, words_known};
+ghost use Rattle.frame_store.specs.View.{AllKnown, IsHeld, IsSole, View, known_word, with_many, words_known};
 ghost use Rattle.shared_frames.specs.SeatsOfTable.{FitsIn, IsSized, view_of};
 
 use crate::seat::SharedSeat;
-use crate::steps::{load_word, store_word};
+use crate::steps::{learn_word, load_word, store_word};
 use crate::table::Words;
 use sv39_entry::FrameNo;
 
@@ -102,6 +102,28 @@ fn clear_some(table: &Words, seat: &mut SharedSeat, frame: FrameNo, index: usize
     }
 }
 
+/// Zeroes the eight words from `index` on of a frame of which the seat is the sole holder. They are loaded first, and tested
+/// together: most groups of a frame that is being cleared are zeros already.
+#[inline(always)]
+fn clear_group(table: &Words, seat: &mut SharedSeat, frame: FrameNo, index: usize)
+    requires sized { IsSized table.now.table_id.words table.now.key }
+    requires fits { FitsIn table.now.table_id seat.old }
+    requires sole { IsSole (view_of seat.old) frame.0 }
+    requires in_page { index + 8 ≤ 512 }
+    ensures fits { FitsIn table.now.table_id seat.new }
+    ensures sole { IsSole (view_of seat.new) frame.0 }
+    ensures view { (v : View) (first n : ℕ) → index ≡ first + n → view_of seat.old ≡ with_many frame.0 first n (λ _. 0) v → view_of seat.new ≡ with_many frame.0 first (n + 8) (λ _. 0) v }
+{
+    let mut zeros = true;
+    'places: for place in 0..GROUP {
+        let word = learn_word(table, seat, frame, index + place);
+        zeros = (word == 0) & zeros;
+    }
+    if !zeros {
+        clear_some(table, seat, frame, index, GROUP);
+    }
+}
+
 /// Zeroes the words, from index `first` on, of a frame of which the seat is the sole holder. The seat knows them then.
 pub fn clear(table: &Words, seat: &mut SharedSeat, frame: FrameNo, first: usize)
     requires sized { IsSized table.now.table_id.words table.now.key }
@@ -113,14 +135,35 @@ pub fn clear(table: &Words, seat: &mut SharedSeat, frame: FrameNo, first: usize)
 {
     let mut index = first;
     'groups: while 512 - index >= GROUP {
-        clear_some(table, seat, frame, index, GROUP);
+        clear_group(table, seat, frame, index);
         index += GROUP;
     }
     clear_some(table, seat, frame, index, 512 - index);
 }
 
 /// Copies the eight words from `index` on of the held frame `from`, which the seat must know, to another frame `to`, of which
-/// the seat is the sole holder.
+/// the seat is the sole holder, one by one. The seat may know other words of `to` before (`u`).
+#[inline(always)]
+fn copy_some(table: &Words, seat: &mut SharedSeat, from: FrameNo, to: FrameNo, index: usize)
+    requires sized { IsSized table.now.table_id.words table.now.key }
+    requires fits { FitsIn table.now.table_id seat.old }
+    requires held { IsHeld (view_of seat.old) from.0 }
+    requires sole { IsSole (view_of seat.old) to.0 }
+    requires apart { from.0 ≢ to.0 }
+    requires in_page { index + 8 ≤ 512 }
+    ensures fits { FitsIn table.now.table_id seat.new }
+    ensures held { IsHeld (view_of seat.new) from.0 }
+    ensures sole { IsSole (view_of seat.new) to.0 }
+    ensures view { (v u : View) → AllKnown v from.0 → ((i : ℕ) → known_word u from.0 i ≡ known_word v from.0 i) → view_of seat.old ≡ u → view_of seat.new ≡ with_many to.0 index 8 (words_known v from.0) u }
+{
+    'places: for place in 0..GROUP {
+        let word = load_word(table, seat, from, index + place);
+        store_word(table, seat, to, index + place, word);
+    }
+}
+
+/// Copies the eight words from `index` on of the held frame `from`, which the seat must know, to another frame `to`, of which
+/// the seat is the sole holder. Both are loaded first, and compared together: most groups of two frames are zeros in both.
 #[inline(always)]
 fn copy_group(table: &Words, seat: &mut SharedSeat, from: FrameNo, to: FrameNo, index: usize)
     requires sized { IsSized table.now.table_id.words table.now.key }
@@ -134,9 +177,14 @@ fn copy_group(table: &Words, seat: &mut SharedSeat, from: FrameNo, to: FrameNo, 
     ensures sole { IsSole (view_of seat.new) to.0 }
     ensures view { (v : View) → AllKnown v from.0 → view_of seat.old ≡ with_many to.0 0 index (words_known v from.0) v → view_of seat.new ≡ with_many to.0 0 (index + 8) (words_known v from.0) v }
 {
+    let mut same = true;
     'places: for place in 0..GROUP {
         let word = load_word(table, seat, from, index + place);
-        store_word(table, seat, to, index + place, word);
+        let there = learn_word(table, seat, to, index + place);
+        same = (word == there) & same;
+    }
+    if !same {
+        copy_some(table, seat, from, to, index);
     }
 }
 

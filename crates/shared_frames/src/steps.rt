@@ -153,7 +153,7 @@ pub fn load_word(table: &Words, seat: &mut SharedSeat, frame: FrameNo, index: us
 }
 
 /// Loads a word of a frame of which the seat is the sole holder, and returns it. The seat knows it then.
-fn learn_word(table: &Words, seat: &mut SharedSeat, frame: FrameNo, index: usize) -> u64
+pub fn learn_word(table: &Words, seat: &mut SharedSeat, frame: FrameNo, index: usize) -> u64
     requires sized { IsSized table.now.table_id.words table.now.key }
     requires fits { FitsIn table.now.table_id seat.old }
     requires sole { IsSole (view_of seat.old) frame.0 }

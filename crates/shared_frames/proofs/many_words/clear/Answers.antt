@@ -18,9 +18,9 @@ groups-preserved c =
     let i = c.groups.invariant in
     let next : c.groups.index + 8 - c.args.first ≡ c.groups.index - c.args.first + 8 = omega (arith, i.from) in
     record {
-      fits = c.clear_some.ensures.fits;
-      sole = c.clear_some.ensures.sole;
+      fits = c.clear_group.ensures.fits;
+      sole = c.clear_group.ensures.sole;
       from = omega (arith, i.from);
       low = omega (arith, i.low, c.groups-test.true);
-      view = rw next (c.clear_some.ensures.view _ c.args.first (c.groups.index - c.args.first) (omega (arith, i.from)) i.view);
+      view = rw next (c.clear_group.ensures.view _ c.args.first (c.groups.index - c.args.first) (omega (arith, i.from)) i.view);
     }
