@@ -1,6 +1,6 @@
 -- Lemmas: a user access that its walk permits is made at once as `IsMadeAtOnce` says (`made`); with its journal entry the
 -- process continues, and no file is changed (`goes_at_once`, `filed_at_once`).
-use Rattle.std.proofs.Common.{◌≡◌, ◌≤◌, ◌∷◌, ℕ, ◌%◌, ◌==◌, Bool, true, ◌&&◌, List, [], ◌++◌, None, length, refl, ap, sym, subst, ◌∙◌, arith}
+use Rattle.std.proofs.Common.{◌≡◌, ◌≤◌, ◌∷◌, ◌%◌, ◌==◌, Bool, true, ◌&&◌, List, [], ◌++◌, None, length, refl, ap, sym, subst, ◌∙◌, arith}
 use Rattle.std.proofs.lemmas.List.{length-append}
 use Rattle.std.specs.Prelude.{◌↔◌}
 use Rattle.address_space.specs.Accesses.{IsGranted}
@@ -26,7 +26,6 @@ use Rattle.process_model.specs.Service.{AccessRequest, user_access}
 use Rattle.process_model.specs.declared.call.Call.{Call}
 use Rattle.process_model.specs.declared.call.Call.TheVariants as call
 use Rattle.process_model.specs.declared.step.Reply.{Reply}
-use Rattle.sv39_entry.specs.declared.access.Access.{Access}
 use Rattle.table_walk.specs.Tables.{Tables}
 
 -- files that there are none of
@@ -80,7 +79,7 @@ no_file (call.Exit status) a is files = refl
 no_file (call.Fork list) a is files = refl
 
 module _ (t : Track) (a : AccessRequest) (c : Call) (is : IsAccess c a) (x y : Body) (seen : x.view ≡ t.seat) (r : Reply) (m : IsMadeAtOnce x y t.state a c r)
-    (e : JournalEntry) (called : call_of e ≡ c) (answer : e.reply ≡ r) (pages : e.pages.items ≡ []) (file : e.file ≡ None) where
+    (e : JournalEntry) (called : call_of e ≡ c) (answer : e.reply ≡ r) (pages : e.pages ≡ []) (file : e.file ≡ None) where
   abbrev shortage : Shortage
   shortage = by_reply (address_of c) r
 

@@ -16,6 +16,7 @@ pub mod Full
 pub mod Journals
 pub mod Parting
 pub mod Roomy
+pub mod Served
 pub mod Staying
 pub mod There
 pub mod Turning

@@ -41,7 +41,7 @@ use Rattle.shared_frames.specs.SeatsOfTable.{view_of}
 
 -- ---- exit
 
-module _ (t : Track) (status : ℤ) (e : JournalEntry) (called : call_of e ≡ call.Exit status) (answer : e.reply ≡ reply.Exited status) (pages : e.pages.items ≡ []) (none : e.file ≡ None) (next : next_of t ≡ call.Exit status)
+module _ (t : Track) (status : ℤ) (e : JournalEntry) (called : call_of e ≡ call.Exit status) (answer : e.reply ≡ reply.Exited status) (pages : e.pages ≡ []) (none : e.file ≡ None) (next : next_of t ≡ call.Exit status)
     (replays : Replays t.opening 0 0 (calls_of t) t.journal t.state) (room : length t.journal < most_entries) (f : Finished) (name : f.name.items ≡ t.name) (bare : IsBare (view_of f.seat)) (a d : ShelfState) (closes : Closes t.state t.journal e (outcome.Exited status) f a d) where
   abbrev leads : IsReplayStep a.files (forks t.journal) t.state e t.state
   leads = record {
@@ -173,7 +173,7 @@ module _ (t u : Track) (c : Option Track) (s : ForkSlot) (k : ℕ) (next : next_
         becomes = subst (λ (ms : List PageMove). HasMoves a ms a)
             (sym (ap (λ (ms : List PageMove). ms ++ writes_of a.files w t.state (call_of e)) (g.leads.pages ∙ ap (λ (z : Call). reads_of g.files w t.state z) is_fork) ∙ ap (λ (z : Call). writes_of a.files w t.state z) is_fork))
             (stays a);
-        request = subst (λ (z : Call). WasAsked (RefusesPromise HasMoves CanRefuse a e.pages.items) (λ n. n ≤ a.room) t.state z w) back (fork_asks (RefusesPromise HasMoves CanRefuse a e.pages.items) (λ n. n ≤ a.room) t.state k w);
+        request = subst (λ (z : Call). WasAsked (RefusesPromise HasMoves CanRefuse a e.pages) (λ n. n ≤ a.room) t.state z w) back (fork_asks (RefusesPromise HasMoves CanRefuse a e.pages) (λ n. n ≤ a.room) t.state k w);
       }
 
 -- what the journal gets of it
@@ -181,7 +181,7 @@ module _ (t u : Track) (c : Option Track) (s : ForkSlot) (k : ℕ) (next : next_
 pub record IsForkOf (e : JournalEntry) (k : ℕ) (r : Reply) : Type 0 where
   pub call : call_of e ≡ call.Fork k
   pub answer : e.reply ≡ r
-  pub pages : e.pages.items ≡ []
+  pub pages : e.pages ≡ []
   pub file : e.file ≡ None
 
 module _ (n : ℕ) (p : Process) (e : JournalEntry) (k : ℕ) (w : Shortage) (r : Reply) (is : IsForkOf e k r) where

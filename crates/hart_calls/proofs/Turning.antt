@@ -41,7 +41,7 @@ use Rattle.sv39_entry.specs.declared.rule.Rule.{Rule}
 pub record IsEntryOf (t : Track) (a : ShelfState) (shortage : Shortage) (c : Call) (r : Reply) (e : JournalEntry) : Type 0 where
   pub call : call_of e ≡ c
   pub answer : e.reply ≡ r
-  pub pages : e.pages.items ≡ reads_of a.files shortage t.state c
+  pub pages : e.pages ≡ reads_of a.files shortage t.state c
   pub file : e.file ≡ file_of a.files c
 
 module _ (t : Track) (c : Call) (stays : IsPlainCall c) (a b : ShelfState) (shortage : Shortage) (r : Reply) (e : JournalEntry) (is : IsEntryOf t a shortage c r e) (x y : Body) (seen : x.view ≡ t.seat)
@@ -85,9 +85,9 @@ module _ (t : Track) (c : Call) (stays : IsPlainCall c) (a b : ShelfState) (shor
       leads = leads u.state state;
       files = comes.moves.files ∙ files_told a.files t.state shortage c stays (subst LeavesRunning comes.reply (plain_goes r plain)) ∙ ap (λ (z : CallOutcome). z.files) same;
       becomes = subst (λ (ms : List PageMove). HasMoves a ms b)
-          (ap (λ (ms : List PageMove). ms ++ writes_of a.files shortage t.state c) (sym is.pages) ∙ ap (λ (k : Call). e.pages.items ++ writes_of a.files shortage t.state k) (sym is.call))
+          (ap (λ (ms : List PageMove). ms ++ writes_of a.files shortage t.state c) (sym is.pages) ∙ ap (λ (k : Call). e.pages ++ writes_of a.files shortage t.state k) (sym is.call))
           comes.moves;
-      request = subst (λ (k : Call). WasAsked (RefusesPromise HasMoves CanRefuse a e.pages.items) (λ n. n ≤ b.room) t.state k shortage) (sym is.call)
+      request = subst (λ (k : Call). WasAsked (RefusesPromise HasMoves CanRefuse a e.pages) (λ n. n ≤ b.room) t.state k shortage) (sym is.call)
           (subst (λ (ms : List PageMove). WasAsked (RefusesPromise HasMoves CanRefuse a ms) (λ n. n ≤ b.room) t.state c shortage) (sym is.pages) comes.request);
     }
 
@@ -154,13 +154,13 @@ module _ (t : Track) (c : Call) (stays : IsPlainCall c) (a b : ShelfState) (shor
     ended : IsEnd a.files t.state (call_outcome a.files shortage 0 t.state c) (writes_of a.files shortage t.state c)
     ended = ended_files a.files t.state shortage c rule stays (sym comes.reply ∙ by)
 
-    only_reads : all_moved ≡ e.pages.items
+    only_reads : all_moved ≡ e.pages
     only_reads = ap (λ (ms : List PageMove). reads_of a.files shortage t.state c ++ ms) ended.1 ∙ append-nil (reads_of a.files shortage t.state c) ∙ sym is.pages
 
     unchanged : b.files ≡ a.files
     unchanged = comes.moves.files ∙ ap (λ (ms : List PageMove). files_after a.files (reads_of a.files shortage t.state c ++ ms)) ended.1 ∙ ap (files_after a.files) (append-nil (reads_of a.files shortage t.state c)) ∙ only_read a.files t.state a.files shortage c
 
-    moved : HasMoves a e.pages.items b
+    moved : HasMoves a e.pages b
     moved = subst (λ (ms : List PageMove). HasMoves a ms b) only_reads comes.moves
 
     filed_end : IsClosed t.state t.journal e (outcome.Ended rule) f b d → KeepsFilesAtEnd t f a d
@@ -170,14 +170,14 @@ module _ (t : Track) (c : Call) (stays : IsPlainCall c) (a b : ShelfState) (shor
       adds = closed.journal;
       leads = leads _ refl;
       files = closed.files ∙ ap (λ (fs : List File). all_written_back fs t.state) unchanged ∙ sym ended.0 ∙ ap (λ (z : CallOutcome). z.files) same;
-      becomes = goes_on a b d e.pages.items (all_moves t.state) moved closed.moves;
+      becomes = goes_on a b d e.pages (all_moves t.state) moved closed.moves;
     }
 
     unwritten : HasMoves b [] d → Unwritten t.state (next_of t) a d
     unwritten none = record {
-      reads = e.pages.items;
+      reads = e.pages;
       by = inr (shortage, is.pages ∙ ap (reads_of a.files shortage t.state) next);
-      becomes = subst (λ (ms : List PageMove). HasMoves a ms d) (append-nil e.pages.items) (goes_on a b d e.pages.items [] moved none);
+      becomes = subst (λ (ms : List PageMove). HasMoves a ms d) (append-nil e.pages) (goes_on a b d e.pages [] moved none);
       files = none.files ∙ unchanged;
     }
 
@@ -186,7 +186,7 @@ module _ (t : Track) (c : Call) (stays : IsPlainCall c) (a b : ShelfState) (shor
     could_before error.JournalFull could by_full =
         let long = ap (λ (hs : List PageMove). length hs) moved.history in
         let pages = ap (λ (ms : List PageMove). length ms) is.pages in
-        let both = length-append a.history e.pages.items in
+        let both = length-append a.history e.pages in
         let request = could.0 in
         let over = could.1 in
         let here : HasNoEnd t f c a = (shortage, comes.possible, subst EndsIt (sym by ∙ comes.reply) tt, left_lack, (omega (arith, request), omega (arith, over, long, pages, both))) in

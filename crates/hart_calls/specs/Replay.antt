@@ -56,7 +56,7 @@ pub record IsReplayStep (files : List File) (n : ℕ) (p : Process) (e : Journal
   pub possible : CanBeShort files p (call_of e) shortage
   pub reply : e.reply ≡ (call_outcome files shortage n p (call_of e)).reply
   pub process : q ≡ (call_outcome files shortage n p (call_of e)).process
-  pub pages : e.pages.items ≡ reads_of files shortage p (call_of e)
+  pub pages : e.pages ≡ reads_of files shortage p (call_of e)
   pub file : e.file ≡ file_of files (call_of e)
 
 -- the journal leads from process p, with n children named and k calls made before, to process q: each entry has the list's

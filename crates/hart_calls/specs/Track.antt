@@ -1,6 +1,7 @@
 -- `Track` (record): an unfinished process as contracts see it: name, lists, first and present process, journal (its calls
 -- with their replies), view of its seat. Its next call and next child's name; forks name lists that exist (`NameLists`);
--- relations: one entry more (`AppendsEntry`), the next child (`IsChild`), unchanged (`SameTrack`).
+-- relations: one entry more (`AppendsEntry`), the next child (`IsChild`), unchanged but for the memory of its journal
+-- (`SameTrack`), and for what its seat read (`SameButSeat`).
 use Rattle.std.specs.Prelude.{◌≡◌, ℕ, ◌<◌, ◌∷◌, [], ◌++◌, All, List, length}
 use Rattle.frame_store.specs.View.{View}
 use Rattle.hart_calls.specs.Replay.{call_at, call_of, forks, list_at}
@@ -73,3 +74,13 @@ pub record SameTrack (t u : Track) : Type 0 where
   pub state : u.state ≡ t.state
   pub journal : u.journal ≡ t.journal
   pub seat : u.seat ≡ t.seat
+
+-- u is t, but for the memory of its journal and the view of its seat: what the seat read of counts, and the frames that it
+-- holds
+pub record SameButSeat (t u : Track) : Type 0 where
+  pub name : u.name ≡ t.name
+  pub lists : u.lists ≡ t.lists
+  pub list : u.list ≡ t.list
+  pub opening : u.opening ≡ t.opening
+  pub state : u.state ≡ t.state
+  pub journal : u.journal ≡ t.journal

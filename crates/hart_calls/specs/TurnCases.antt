@@ -140,8 +140,8 @@ pub record KeepsFilesOn (t u : Track) (a b : ShelfState) : Type 0 where
   pub adds : u.journal ≡ t.journal ++ entry ∷ []
   pub leads : IsReplayStep a.files (forks t.journal) t.state entry u.state
   pub files : b.files ≡ (call_outcome a.files leads.shortage (forks t.journal) t.state (call_of entry)).files
-  pub becomes : HasMoves a (entry.pages.items ++ writes_of a.files leads.shortage t.state (call_of entry)) b
-  pub request : WasAsked (RefusesPromise HasMoves CanRefuse a entry.pages.items) (λ n. n ≤ b.room) t.state (call_of entry) leads.shortage
+  pub becomes : HasMoves a (entry.pages ++ writes_of a.files leads.shortage t.state (call_of entry)) b
+  pub request : WasAsked (RefusesPromise HasMoves CanRefuse a entry.pages) (λ n. n ≤ b.room) t.state (call_of entry) leads.shortage
 
 -- the files after an exit or an end by a rule: every mapping is written back
 pub record KeepsFilesAtEnd (t : Track) (f : Finished) (a b : ShelfState) : Type 0 where
@@ -150,7 +150,7 @@ pub record KeepsFilesAtEnd (t : Track) (f : Finished) (a b : ShelfState) : Type 
   pub adds : f.journal.items ≡ t.journal ++ entry ∷ []
   pub leads : IsReplayStep a.files (forks t.journal) t.state entry after
   pub files : b.files ≡ (call_outcome a.files leads.shortage (forks t.journal) t.state (call_of entry)).files
-  pub becomes : HasMoves a (entry.pages.items ++ all_moves t.state) b
+  pub becomes : HasMoves a (entry.pages ++ all_moves t.state) b
 
 -- no file is changed; the history gets the pages that the call reads, or nothing
 pub record Unwritten (p : Process) (c : Call) (a b : ShelfState) : Type 0 where

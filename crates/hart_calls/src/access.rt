@@ -68,7 +68,7 @@ pub(crate) fn access<S: FrameSeat, F: FrameSupply<Seat = S>, C: Files>(
         request.width,
         request.access,
     ) {
-        Served::Ready => CallResult::Answered(at_once(space, store, request)),
+        Served::Ready => CallResult::Answered(without_service(space, store, request)),
         Served::Ended(rule) => CallResult::Ended(rule),
         Served::Unserved(refusal) => CallResult::Cut(refusal),
     }
@@ -84,7 +84,7 @@ pub(crate) fn is_permitted(walk: &Walk, request: &AccessRequest) -> bool
 
 /// Walks the page table for a user access and makes it, without service: it replies `Fault` if a rule denies it or its page
 /// is not resident for it. Waits for no thread.
-fn at_once<S: FrameSeat, F: FrameAccess<Seat = S>>(
+fn without_service<S: FrameSeat, F: FrameAccess<Seat = S>>(
     space: &mut Space<S>,
     store: &mut F,
     request: AccessRequest,

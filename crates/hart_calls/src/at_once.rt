@@ -1,5 +1,6 @@
-// Calls that a process makes in place: `Tracked::access_at_once` makes the next call if it is a user access (fetch, load,
-// store) that needs no service, which is most calls of most lists. It asks nothing of files and waits for no thread.
+// User accesses (fetch, load, store) that a process makes in place, as most calls of most lists: `Tracked::access_at_once`
+// makes the next call if it is one that needs no service, `Tracked::access_served` if it is one whose fault can be served.
+// Both are for a process without a mapping and ask nothing of files.
 
 ghost use Rattle.std.specs.Prelude.{◌≡◌, IfSome, IsNone, None, false, true};
 ghost use Rattle.address_space.specs.Accesses.{request_of};
@@ -7,7 +8,8 @@ ghost use Rattle.address_space.specs.Agreement.{body_of, IsSpace};
 ghost use Rattle.file_shelf.specs.ShelfStates.{ShelfState};
 ghost use Rattle.frame_store.specs.Laws.{IsSeatOf, KeepsSeats};
 ghost use Rattle.hart_calls.specs.AtOnce.{IsMadeAtOnce};
-ghost use Rattle.hart_calls.specs.CallKinds.{IsAccess};
+ghost use Rattle.hart_calls.specs.CallKinds.{IsAccess, IsAccessCall};
+ghost use Rattle.hart_calls.specs.Track.{SameButSeat};
 ghost use Rattle.hart_calls.specs.TurnCases.{ContinuesTurn, KeepsFilesOn};
 ghost use Rattle.hart_calls.specs.declared.fork_slot.ForkSlot.{ForkSlot};
 ghost use Rattle.process_model.specs.Process.{Process};
@@ -16,16 +18,23 @@ ghost use Rattle.process_model.specs.declared.call.Call as declared;
 ghost use Rattle.table_walk.specs.Tables.{Tables};
 
 use crate::access::{accessed, is_permitted, request};
-use crate::journal_entry::JournalEntry;
+use crate::call_result::CallResult;
+use crate::calls::make_there;
+use crate::journal_entry::{JournalEntry, PagesRead};
 use crate::journal_reply::JournalReply;
 use crate::model_process::{ModelProcess, begun};
+use crate::plain_call::state_after;
 use crate::run_brand::RunBrand;
 use crate::tracked::Tracked;
 use crate::turn::MOST_ENTRIES;
 use address_space::{AccessRequest, Space, walks_grant_what_is_resident};
+use file_cabinet::Cabinet;
+use file_shelf::Shelf;
 use frame_store::{FrameAccess, FrameSeat};
 use process_model::{Call, is_width};
 use shared_frames::SharedSupply;
+use std::snapshot::Snapshot;
+use std::sync::Wait;
 use sv39_entry::{Access, Mode};
 
 impl<'a, B: RunBrand> Tracked<'a, B> {
@@ -55,11 +64,63 @@ impl<'a, B: RunBrand> Tracked<'a, B> {
             None => return false,
         };
         let present = after_access(&self.parts.present, request);
-        let entry = JournalEntry::new(listed, reply, Vec::new(self.parts.alloc), None);
+        let entry = JournalEntry::new(listed, reply, PagesRead::none(), None);
         self.parts.journal.push_reserved(entry);
         self.parts.present = present;
         true
     }
+
+    /// Makes the list's next call in place, if it is a user access, the process has no mapping, there is memory for the
+    /// journal entry, and no rule ends the process in the service of the fault. `store` must be at the frame table of the
+    /// run.
+    ///
+    /// Returns whether the call was made: if so, the process continues as after `next_call`. If not, the process is
+    /// unchanged but for what its seat read and the memory of its journal (`SameButSeat`), and `next_call` makes the call.
+    pub fn access_served<R: Wait>(&mut self, store: &mut SharedSupply<'_, R>) -> bool
+        requires store { store.old ≡ B.table }
+        ensures store { store.new ≡ B.table }
+        ensures made { result ≡ true → (slot : ForkSlot) → ContinuesTurn self.old self.new None slot }
+        ensures not_made { result ≡ false → SameButSeat self.old self.new }
+    {
+        let call = self.next();
+        if self.made() == MOST_ENTRIES || self.has_mapping() || !is_access(call) {
+            return false;
+        }
+        let listed = self.listed();
+        let wanted = self.entries_wanted();
+        let Ok(()) = self.parts.journal.reserve(wanted) else {
+            return false;
+        };
+        let alloc = self.parts.alloc;
+        let Ok(cabinet) = Cabinet::new(alloc, &[]) else {
+            return false;
+        };
+        let mut shelf = Shelf::new(alloc, cabinet);
+        let before = Snapshot::of(&shelf);
+        let call_result = make_there(&mut self.parts.space, store, &mut shelf, call, None);
+        match call_result {
+            CallResult::Answered(reply) => {
+                let present = state_after(&self.parts.present, before, call, &reply, None);
+                let entry = JournalEntry::new(listed, reply, PagesRead::none(), None);
+                self.parts.journal.push_reserved(entry);
+                self.parts.present = present;
+                true
+            }
+            CallResult::Stopped(_, _) => unreachable!(),
+            CallResult::Ended(_) => false,
+            CallResult::Cut(_) => false,
+        }
+    }
+}
+
+/// Whether a call is a user access.
+fn is_access(call: Call<'_>) -> bool
+    ensures { result ≡ true → IsAccessCall call.entry }
+{
+    matches!(
+        call,
+        Call::Fetch { .. } | Call::Load { .. } | Call::Store { .. }
+    )
 }
 
 /// The access that a call asks for. `None`: it is no user access.

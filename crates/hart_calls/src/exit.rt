@@ -20,7 +20,7 @@ ghost use Rattle.shared_frames.specs.SeatsOfTable.{FitsIn, view_of};
 ghost use Rattle.table_walk.specs.Tables.{Tables};
 
 use crate::finished::Finished;
-use crate::journal_entry::{JournalEntry, Listed};
+use crate::journal_entry::{JournalEntry, Listed, PagesRead};
 use crate::journal_reply::JournalReply;
 use crate::run_brand::RunBrand;
 use crate::tracked::{Tracked, TrackedParts};
@@ -30,7 +30,6 @@ use file_shelf::Shelf;
 use mmap_regions::{promise_write_back, write_back};
 use process_model::{Call, Outcome, ScalarReply};
 use shared_frames::{SharedSeat, SharedSupply};
-use std::alloc::Global;
 use std::sync::Wait;
 
 impl<'a, B: RunBrand> Tracked<'a, B> {
@@ -81,22 +80,22 @@ impl<'a, B: RunBrand> Tracked<'a, B> {
     {
         let listed = self.listed();
         let parts = self.parts;
-        let entry = exit_entry(parts.alloc, listed, status);
+        let entry = exit_entry(listed, status);
         close::<B, R>(parts, store, shelf, entry, exited(status))
     }
 }
 
 /// The journal entry of an exit.
-fn exit_entry<'a>(alloc: Global, listed: Listed<'a>, status: i32) -> JournalEntry<'a>
+fn exit_entry<'a>(listed: Listed<'a>, status: i32) -> JournalEntry<'a>
     ensures call { call_of result ≡ listed_call listed.entry }
     ensures reply { result.reply ≡ reply.Exited status }
-    ensures pages { result.pages.items ≡ [] }
+    ensures pages { result.pages ≡ [] }
     ensures file { result.file ≡ None }
 {
     JournalEntry::new(
         listed,
         JournalReply::short(ScalarReply::Exited(status)),
-        Vec::new(alloc),
+        PagesRead::none(),
         None,
     )
 }

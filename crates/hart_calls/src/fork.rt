@@ -23,7 +23,7 @@ ghost use Rattle.shared_frames.specs.SeatsOfTable.{FitsIn, view_of};
 ghost use Rattle.table_walk.specs.Tables.{Tables};
 
 use crate::fork_slot::{ForkSlot, Place};
-use crate::journal_entry::{JournalEntry, Listed};
+use crate::journal_entry::{JournalEntry, Listed, PagesRead};
 use crate::journal_reply::JournalReply;
 use crate::plain_call::append_entry;
 use crate::run_brand::RunBrand;
@@ -33,7 +33,7 @@ use cow_fork::ForkError;
 use frame_store::{FrameAccess, FrameSeat, FrameSupply};
 use process_model::{Call, Refusal, ScalarReply};
 use shared_frames::{SharedSeat, SharedSupply};
-use std::alloc::{AllocError, Global};
+use std::alloc::AllocError;
 use std::sync::Wait;
 
 impl<'a, B: RunBrand> Tracked<'a, B> {
@@ -106,7 +106,7 @@ impl<'a, B: RunBrand> Tracked<'a, B> {
         let mut parts = self.parts;
         match fork_there(&mut parts.space, store) {
             Ok(space) => {
-                let entry = answer(parts.alloc, listed, ScalarReply::Forked(number));
+                let entry = answer(listed, ScalarReply::Forked(number));
                 let opening = parts.present.of_child();
                 let space = place.fill(space);
                 let child = Tracked::new(parts.alloc, opening, space, name, parts.lists, list);
@@ -114,7 +114,7 @@ impl<'a, B: RunBrand> Tracked<'a, B> {
                 (append_entry(parts, present, entry), Some(child))
             }
             Err(error) => {
-                let entry = answer(parts.alloc, listed, ScalarReply::Refused(error.into()));
+                let entry = answer(listed, ScalarReply::Refused(error.into()));
                 let present = parts.present.kept();
                 (append_entry(parts, present, entry), None)
             }
@@ -136,7 +136,7 @@ impl<'a, B: RunBrand> Tracked<'a, B> {
         let _ = slot;
         let listed = self.listed();
         let parts = self.parts;
-        let entry = answer(parts.alloc, listed, ScalarReply::Refused(refusal));
+        let entry = answer(listed, ScalarReply::Refused(refusal));
         let present = parts.present.kept();
         append_entry(parts, present, entry)
     }
@@ -194,11 +194,11 @@ fn bare_beside<R: Wait>(
 }
 
 /// The journal entry of a fork.
-fn answer<'a>(alloc: Global, listed: Listed<'a>, reply: ScalarReply) -> JournalEntry<'a>
+fn answer<'a>(listed: Listed<'a>, reply: ScalarReply) -> JournalEntry<'a>
     ensures call { call_of result ≡ listed_call listed.entry }
     ensures reply { result.reply ≡ reply_of_scalar reply }
-    ensures pages { result.pages.items ≡ [] }
+    ensures pages { result.pages ≡ [] }
     ensures file { result.file ≡ None }
 {
-    JournalEntry::new(listed, JournalReply::short(reply), Vec::new(alloc), None)
+    JournalEntry::new(listed, JournalReply::short(reply), PagesRead::none(), None)
 }

@@ -1,40 +1,93 @@
-// `JournalReply` (struct): a reply as a journal (a process's calls with their replies) stores it; `StoredReply` (enum): in
-// place, or in a box if it may carry bytes. Functions that make and read both; `room_for_reply` allocates the box for a
-// CopyIn.
+// `JournalReply` (struct): a reply as a journal (a process's calls with their replies) stores it, in 16 bytes, or in a box if
+// it may carry bytes; `StoredReply` (enum): the reply as it is read. Functions that make and read both; `room_for_reply`
+// allocates the box for a CopyIn.
 
 ghost use Rattle.std.specs.Prelude.{◌≡◌, IfOk};
 ghost use Rattle.hart_calls.specs.CallKinds.{HasRoomFor};
-ghost use Rattle.hart_calls.specs.JournalReplies.{stored_reply};
+ghost use Rattle.hart_calls.specs.JournalReplies.{kept_reply, stored_reply};
 ghost use Rattle.hart_calls.specs.Replay.{forked};
 ghost use Rattle.process_model.specs.ScalarReplies.{reply_of_scalar};
 
-use process_model::{Call, Reply, ScalarReply};
+use process_model::{Call, Refusal, Reply, ScalarReply};
 use std::alloc::{AllocError, Global};
 use std::marker::Model;
+use sv39_entry::Rule;
 
-/// How a reply is stored.
+/// How a journal keeps a reply: one that carries no bytes as `ScalarReply` has it, but with no tag around it, so that a tag and
+/// a word are enough; one that may carry bytes in a box.
 #[derive(Drop)]
-pub enum StoredReply {
-    /// A reply that carries no bytes, in place.
-    ScalarReply(ScalarReply),
-    /// A reply that may carry bytes, in a box.
+enum Kept {
+    Done,
+    Started(usize),
+    Forked(usize),
+    Value(u64),
+    Stored,
+    Fault(u64),
+    Filled(usize),
+    NothingFilled,
+    InFrame(usize),
+    Ready,
+    Ended(Rule),
+    OldSize(u64),
+    MappedAt(u64),
+    CopiedOut(usize),
+    ShortOut(Rule, usize),
+    Exited(i32),
+    Refused(Refusal),
     Long(Box<Reply>),
+}
+
+impl Kept {
+    /// Keeps a reply that carries no bytes.
+    #[inline(always)]
+    fn scalar(scalar: ScalarReply) -> Kept
+        ensures { kept_reply result ≡ reply_of_scalar scalar }
+    {
+        match scalar {
+            ScalarReply::Done => Kept::Done,
+            ScalarReply::Started(slot) => Kept::Started(slot),
+            ScalarReply::Forked(slot) => Kept::Forked(slot),
+            ScalarReply::Value(value) => Kept::Value(value),
+            ScalarReply::Stored => Kept::Stored,
+            ScalarReply::Fault(cause) => Kept::Fault(cause),
+            ScalarReply::Filled(entry) => Kept::Filled(entry),
+            ScalarReply::NothingFilled => Kept::NothingFilled,
+            ScalarReply::InFrame(frame) => Kept::InFrame(frame),
+            ScalarReply::Ready => Kept::Ready,
+            ScalarReply::Ended(rule) => Kept::Ended(rule),
+            ScalarReply::OldSize(size) => Kept::OldSize(size),
+            ScalarReply::MappedAt(address) => Kept::MappedAt(address),
+            ScalarReply::CopiedOut(count) => Kept::CopiedOut(count),
+            ScalarReply::ShortOut(rule, count) => Kept::ShortOut(rule, count),
+            ScalarReply::Exited(status) => Kept::Exited(status),
+            ScalarReply::Refused(refusal) => Kept::Refused(refusal),
+        }
+    }
+}
+
+/// A stored reply, as it is read.
+#[derive(Clone, Copy)]
+pub enum StoredReply<'r> {
+    /// A reply that carries no bytes.
+    ScalarReply(ScalarReply),
+    /// A reply that may carry bytes.
+    Long(&'r Reply),
 }
 
 /// A reply as a journal stores it, in little memory: a reply that may carry bytes (of a copy from the process; few do) is in
 /// a box. Contracts see the `Reply` that it stands for.
 #[derive(Drop)]
 pub struct JournalReply {
-    kept: StoredReply,
+    kept: Kept,
 }
 
 impl Model for JournalReply {
-    ghost use Rattle.hart_calls.specs.JournalReplies.{stored_reply};
+    ghost use Rattle.hart_calls.specs.JournalReplies.{kept_reply};
     ghost use Rattle.process_model.specs.declared.step.Reply.{Reply};
 
     ghost Value = { Reply };
 
-    ghost view = { λ r. stored_reply r.kept };
+    ghost view = { λ r. kept_reply r.kept };
 }
 
 impl JournalReply {
@@ -43,7 +96,7 @@ impl JournalReply {
         ensures { result ≡ reply_of_scalar scalar }
     {
         JournalReply {
-            kept: StoredReply::ScalarReply(scalar),
+            kept: Kept::scalar(scalar),
         }
     }
 
@@ -54,7 +107,7 @@ impl JournalReply {
         let mut room = room;
         let _before = Box::replace(&mut room, reply);
         JournalReply {
-            kept: StoredReply::Long(room),
+            kept: Kept::Long(room),
         }
     }
 
@@ -63,19 +116,38 @@ impl JournalReply {
         ensures { result ≡ forked self.now }
     {
         match &self.kept {
-            StoredReply::ScalarReply(scalar) => match scalar {
-                ScalarReply::Forked(_) => 1,
-                _ => 0,
-            },
-            StoredReply::Long(reply) => forked_by(reply),
+            Kept::Forked(_) => 1,
+            Kept::Long(reply) => forked_by(reply),
+            _ => 0,
         }
     }
 
-    /// Returns how the reply is stored: `ScalarReply`, in place, or `Long`, in a box. Either stands for the reply.
-    pub fn kept(&self) -> &StoredReply
-        ensures { stored_reply result.now ≡ self.now }
+    /// Returns the reply: `ScalarReply` if it carries no bytes, else `Long`.
+    pub fn kept(&self) -> StoredReply<'_>
+        ensures { stored_reply result ≡ self.now }
     {
-        &self.kept
+        match &self.kept {
+            Kept::Done => StoredReply::ScalarReply(ScalarReply::Done),
+            Kept::Started(slot) => StoredReply::ScalarReply(ScalarReply::Started(*slot)),
+            Kept::Forked(slot) => StoredReply::ScalarReply(ScalarReply::Forked(*slot)),
+            Kept::Value(value) => StoredReply::ScalarReply(ScalarReply::Value(*value)),
+            Kept::Stored => StoredReply::ScalarReply(ScalarReply::Stored),
+            Kept::Fault(cause) => StoredReply::ScalarReply(ScalarReply::Fault(*cause)),
+            Kept::Filled(entry) => StoredReply::ScalarReply(ScalarReply::Filled(*entry)),
+            Kept::NothingFilled => StoredReply::ScalarReply(ScalarReply::NothingFilled),
+            Kept::InFrame(frame) => StoredReply::ScalarReply(ScalarReply::InFrame(*frame)),
+            Kept::Ready => StoredReply::ScalarReply(ScalarReply::Ready),
+            Kept::Ended(rule) => StoredReply::ScalarReply(ScalarReply::Ended(*rule)),
+            Kept::OldSize(size) => StoredReply::ScalarReply(ScalarReply::OldSize(*size)),
+            Kept::MappedAt(address) => StoredReply::ScalarReply(ScalarReply::MappedAt(*address)),
+            Kept::CopiedOut(count) => StoredReply::ScalarReply(ScalarReply::CopiedOut(*count)),
+            Kept::ShortOut(rule, count) => StoredReply::ScalarReply(ScalarReply::ShortOut(
+                *rule, *count,
+            )),
+            Kept::Exited(status) => StoredReply::ScalarReply(ScalarReply::Exited(*status)),
+            Kept::Refused(refusal) => StoredReply::ScalarReply(ScalarReply::Refused(*refusal)),
+            Kept::Long(reply) => StoredReply::Long(reply),
+        }
     }
 }
 

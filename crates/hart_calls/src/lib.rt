@@ -26,7 +26,7 @@ mod turn;
 
 pub use finished::Finished;
 pub use fork_slot::{ForkSlot, Place};
-pub use journal_entry::JournalEntry;
+pub use journal_entry::{JournalEntry, PagesRead};
 pub use journal_reply::{JournalReply, StoredReply};
 pub use model_process::{ModelProcess, begun};
 pub use run_brand::RunBrand;

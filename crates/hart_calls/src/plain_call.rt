@@ -20,7 +20,7 @@ use crate::call_result::CallResult;
 use crate::calls::make_there;
 use crate::exit::close;
 use crate::fork_slot::ForkSlot;
-use crate::journal_entry::{JournalEntry, Listed};
+use crate::journal_entry::{JournalEntry, Listed, PagesRead};
 use crate::journal_reply::JournalReply;
 use crate::model_process::{ModelProcess, begun};
 use crate::run_brand::RunBrand;
@@ -30,7 +30,6 @@ use file_cabinet::Files;
 use file_shelf::{PageUse, Shelf};
 use process_model::{Call, Outcome, Refusal, Reply, ScalarReply};
 use shared_frames::SharedSupply;
-use std::alloc::Global;
 use std::marker::PhantomData;
 use std::snapshot::Snapshot;
 use std::sync::Wait;
@@ -44,7 +43,7 @@ impl<'a, B: RunBrand> Tracked<'a, B> {
         store: &mut SharedSupply<'_, R>,
         shelf: &mut Shelf,
         call: Call<'a>,
-        pages: Vec<PageUse>,
+        pages: Box<Vec<PageUse>>,
         room: Option<Box<Reply>>,
         slot: &ForkSlot,
     ) -> Turn<'a, B>
@@ -53,8 +52,8 @@ impl<'a, B: RunBrand> Tracked<'a, B> {
         requires stays { IsPlainCall call }
         requires room { 0 < self.room }
         requires few { length self.journal < most_entries }
-        requires none { pages.items ≡ [] }
-        requires pages { 2 ≤ vec_capacity pages }
+        requires none { pages.value.items ≡ [] }
+        requires pages { 2 ≤ vec_capacity pages.value }
         requires long { HasRoomFor call room }
         ensures store { store.new ≡ B.table }
         ensures turned { HasTurned self.entry result slot.now }
@@ -67,7 +66,7 @@ impl<'a, B: RunBrand> Tracked<'a, B> {
         let mark = uses(shelf);
         let file = mapped_file(shelf, call);
         let call_result = make_there(&mut parts.space, store, shelf, call, room);
-        let pages = pages_read(shelf, mark, call, pages, parts.alloc, &mut parts.spare);
+        let pages = pages_read(shelf, mark, call, pages, &mut parts.spare);
         match call_result {
             CallResult::Answered(reply) => {
                 let present = state_after(&parts.present, before, call, &reply, None);
@@ -99,12 +98,12 @@ impl<'a, B: RunBrand> Tracked<'a, B> {
 fn last_entry<'a>(
     listed: Listed<'a>,
     rule: Rule,
-    pages: Vec<PageUse>,
+    pages: PagesRead,
     file: Option<bool>,
 ) -> JournalEntry<'a>
     ensures call { call_of result ≡ listed_call listed.entry }
     ensures reply { result.reply ≡ reply.Ended rule }
-    ensures pages { result.pages.items ≡ pages.items }
+    ensures pages { result.pages ≡ pages }
     ensures file { result.file ≡ file }
 {
     JournalEntry::new(
@@ -161,7 +160,7 @@ struct StateChange<'a> {
 
 /// The model's process after a call with this reply. `stopped`: how many bytes a copy had copied when the files refused a
 /// promise; `None` if they refused none.
-fn state_after(
+pub(crate) fn state_after(
     present: &ModelProcess,
     before: Snapshot<Shelf>,
     call: Call<'_>,
@@ -206,40 +205,39 @@ fn pages_read(
     shelf: &Shelf,
     mark: usize,
     call: Call<'_>,
-    room: Vec<PageUse>,
-    alloc: Global,
-    spare: &mut Vec<PageUse>,
-) -> Vec<PageUse>
+    room: Box<Vec<PageUse>>,
+    spare: &mut Option<Box<Vec<PageUse>>>,
+) -> PagesRead
     requires mark { mark ≤ length (shelf.now).history }
     requires few { length (moves_read call (drop mark (shelf.now).history)) ≤ 2 }
-    requires none { room.items ≡ [] }
-    requires room { 2 ≤ vec_capacity room }
-    ensures { result.items ≡ moves_read call.entry (drop mark (shelf.now).history) }
+    requires none { room.value.items ≡ [] }
+    requires room { 2 ≤ vec_capacity room.value }
+    ensures { result ≡ moves_read call.entry (drop mark (shelf.now).history) }
 {
-    let pages = pages_since(shelf, mark, call, room);
+    let mut pages = room;
+    add_pages(shelf, mark, call, &mut pages);
     if pages.is_empty() {
-        *spare = pages;
-        return Vec::new(alloc);
+        *spare = Some(pages);
+        return PagesRead::none();
     }
-    pages
+    PagesRead::of(pages)
 }
 
-/// The pages that a call read from files, copied to `pages`.
-fn pages_since(shelf: &Shelf, mark: usize, call: Call<'_>, mut pages: Vec<PageUse>) -> Vec<PageUse>
+/// Copies the pages that a call read from files to an empty list.
+fn add_pages(shelf: &Shelf, mark: usize, call: Call<'_>, pages: &mut Vec<PageUse>)
     requires mark { mark ≤ length (shelf.now).history }
     requires few { length (moves_read call (drop mark (shelf.now).history)) ≤ 2 }
-    requires none { pages.items ≡ [] }
-    requires room { 2 ≤ vec_capacity pages }
-    ensures { result.items ≡ moves_read call.entry (drop mark (shelf.now).history) }
+    requires none { pages.old.items ≡ [] }
+    requires room { 2 ≤ vec_capacity pages.old }
+    ensures { pages.new.items ≡ moves_read call.entry (drop mark (shelf.now).history) }
 {
     if !may_read(call) {
-        return pages;
+        return;
     }
     let recent = &shelf.history()[mark..];
     'uses: for page in recent {
         pages.push_reserved(page.copied());
     }
-    pages
 }
 
 /// Whether a call may read pages of files: an access or a copy may, since it may settle pages.

@@ -36,7 +36,7 @@ pub(crate) struct TrackedParts<'a> {
     /// How many children the journal names.
     pub(crate) children: usize,
     /// Memory for the pages that the next call may read from files.
-    pub(crate) spare: Vec<PageUse>,
+    pub(crate) spare: Option<Box<Vec<PageUse>>>,
     /// In a box, because it is large and each call moves the process.
     pub(crate) space: Box<Space<SharedSeat>>,
 }
@@ -113,7 +113,7 @@ impl<'a, B: RunBrand> Tracked<'a, B> {
                 present,
                 journal: Vec::new(alloc),
                 children: 0,
-                spare: Vec::new(alloc),
+                spare: None,
                 space,
             },
             of: PhantomData,

@@ -19,7 +19,7 @@ use file_cabinet::Cabinet;
 use file_shelf::{PageUse, Shelf};
 use process_model::{Call, Outcome, Reply};
 use shared_frames::SharedSupply;
-use std::alloc::AllocError;
+use std::alloc::{AllocError, Global};
 use std::mem;
 use std::sync::Wait;
 
@@ -131,7 +131,7 @@ impl<'a, B: RunBrand> Tracked<'a, B> {
 
     /// For how many entries the journal asks memory when it has no more: for one while it is short, and then at once for all
     /// calls that its list has left and the exit, so that a long journal is moved but once.
-    fn entries_wanted(&self) -> usize
+    pub(crate) fn entries_wanted(&self) -> usize
         ensures { 0 < result }
     {
         let made = self.made();
@@ -147,20 +147,49 @@ impl<'a, B: RunBrand> Tracked<'a, B> {
     ///
     /// # Errors
     /// `AllocError`: the host is out of memory. The process is unchanged but for the spare memory of its journal.
-    fn with_room(&mut self) -> Result<(Vec<PageUse>, Option<Box<Reply>>), AllocError>
+    fn with_room(&mut self) -> Result<(Box<Vec<PageUse>>, Option<Box<Reply>>), AllocError>
         ensures same { SameTrack self.old self.new }
         ensures room { IfOk result (λ _. 0 < self.new.room) }
-        ensures none { IfOk result (λ r. r.0.items ≡ []) }
-        ensures pages { IfOk result (λ r. 2 ≤ vec_capacity r.0) }
+        ensures none { IfOk result (λ r. r.0.value.items ≡ []) }
+        ensures pages { IfOk result (λ r. 2 ≤ vec_capacity r.0.value) }
         ensures long { IfOk result (λ r. HasRoomFor (next_of self.new) r.1) }
     {
         let room = room_for_reply(self.parts.alloc, self.next())?;
         let wanted = self.entries_wanted();
         self.parts.journal.reserve(wanted)?;
-        let none = Vec::new(self.parts.alloc);
-        let mut pages = mem::replace(&mut self.parts.spare, none);
-        pages.clear();
-        pages.reserve(2)?;
+        let spare = mem::replace(&mut self.parts.spare, None);
+        let pages = room_for_pages(self.parts.alloc, spare)?;
         Ok((pages, room))
     }
+}
+
+/// Memory for two pages, in a box: the spare one if there is one.
+///
+/// # Errors
+/// `AllocError`: the host is out of memory.
+fn room_for_pages(
+    alloc: Global,
+    spare: Option<Box<Vec<PageUse>>>,
+) -> Result<Box<Vec<PageUse>>, AllocError>
+    ensures none { IfOk result (λ pages. pages.value.items ≡ []) }
+    ensures room { IfOk result (λ pages. 2 ≤ vec_capacity pages.value) }
+{
+    let mut pages = match spare {
+        Some(pages) => pages,
+        None => Box::new(alloc, Vec::new(alloc))?,
+    };
+    make_room(&mut pages)?;
+    Ok(pages)
+}
+
+/// Makes a list of pages empty, with room for two.
+///
+/// # Errors
+/// `AllocError`: the host is out of memory.
+fn make_room(pages: &mut Vec<PageUse>) -> Result<(), AllocError>
+    ensures none { IfOk result (λ _. pages.new.items ≡ []) }
+    ensures room { IfOk result (λ _. 2 ≤ vec_capacity pages.new) }
+{
+    pages.clear();
+    pages.reserve(2)
 }

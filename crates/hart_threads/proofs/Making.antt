@@ -9,10 +9,7 @@ use Rattle.hart_threads.specs.StartEffects.{all_looks, AreStartResults, IsStartR
 use Rattle.hart_threads.specs.Slots.{count}
 use Rattle.hart_threads.specs.declared.start_result.StartResult.{StartResult}
 use Rattle.hart_threads.specs.declared.start_result.StartResult.TheVariants as made
-use Rattle.process_model.specs.declared.call.Outcome.TheVariants as outcome
 use Rattle.process_model.specs.declared.call.Start.{Start}
-use Rattle.process_model.specs.declared.step.Refusal.{Refusal}
-use Rattle.process_model.specs.declared.step.Refusal.TheVariants as refusal
 
 -- one more
 

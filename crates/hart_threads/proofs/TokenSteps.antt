@@ -6,7 +6,7 @@ use Rattle.std.proofs.lemmas.List.{append-nil, append_assoc}
 use Rattle.vouchers.specs.Entries.{TokenEntry as Life, entry}
 use Rattle.hart_calls.specs.Replay.{call_of, forked, forks, list_at, Replays}
 use Rattle.hart_threads.specs.ChildLists.{fork_list, heir, child_lists}
-use Rattle.hart_calls.specs.Track.{AppendsEntry, Track}
+use Rattle.hart_calls.specs.Track.{AppendsEntry, SameButSeat, Track}
 use Rattle.hart_calls.specs.TurnCases.{BySlot, EndsBy, ContinuesTurn, LeavesRunning, LacksJournalRoom, IsOver, IsLastEntry}
 use Rattle.hart_calls.specs.declared.journal_entry.JournalEntry.{JournalEntry}
 use Rattle.hart_calls.specs.declared.finished.Finished.{Finished}
@@ -147,6 +147,19 @@ module _ (lists : List (List Call)) (starts : List Start) (held : List Life) (t 
   pub out_at_once : (u : Track) (made : Bool) → (made ≡ true → (s : ForkSlot) → ContinuesTurn t u None s) → (made ≡ false → u ≡ t) → IsOut lists starts held u
   out_at_once u true went not = out_alone u None slot.NoSlot (went refl slot.NoSlot) refl
   out_at_once u false went not = subst (IsOut lists starts held) (sym (not refl)) o
+
+  -- a call that may have been made in place with its service
+  pub out_served : (u : Track) (made : Bool) → (made ≡ true → (s : ForkSlot) → ContinuesTurn t u None s) → (made ≡ false → SameButSeat t u) → IsOut lists starts held u
+  out_served u true went not = out_alone u None slot.NoSlot (went refl slot.NoSlot) refl
+  out_served u false went not =
+      let same = not refl in
+      record {
+        holds = o.holds ∙ ap (λ (l : Life). l ∷ []) (entry_by _ _ _ _ _ _ (sym same.name) (sym same.list) (ap child_lists (sym same.journal)));
+        lists = same.lists ∙ o.lists;
+        named = λ none. o.named (sym same.name ∙ none);
+        opens = opens_still u same.name same.opening;
+        goes = subst GoOn (sym same.journal) o.goes;
+      }
 
   -- a child was named
   module _ (u child : Track) (c : Option Track) (s : ForkSlot) (went : ContinuesTurn t u c s) (is : c ≡ Some child) where

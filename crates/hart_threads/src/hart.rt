@@ -230,7 +230,7 @@ impl<'r, 'a, B: Plan, F: StartOutcomes, R: Wait, G: Gate> HartThread<'r, 'a, B, 
     }
 
     /// Makes up to `quantum` calls of a process, with the hooks around each, and puts it back into the queue unless it has
-    /// ended. Most calls are user accesses that need no service; these are made in place, so the process is not moved.
+    /// ended. Most calls are user accesses; they are made in place, so the process is not moved.
     fn turn(&self, store: &mut SharedSupply<'_, R>, job: Job<'a, B>, quantum: usize)
         requires store { store.old ≡ B.table }
         ensures store { store.new ≡ B.table }
@@ -239,7 +239,7 @@ impl<'r, 'a, B: Plan, F: StartOutcomes, R: Wait, G: Gate> HartThread<'r, 'a, B, 
         'calls: for _ in 0..quantum {
             let call = current.tracked.next();
             self.gate.enter(self.number, current.tracked.name(), call);
-            if current.access_at_once(store) {
+            if current.access_at_once(store) || current.access_served(store) {
                 self.gate.leave(self.number, current.tracked.name(), call);
                 continue;
             }

@@ -1,6 +1,6 @@
 // `Job` (struct): an unfinished process with its voucher (a linear token which proves that the roster, the list of
-// processes, has it); `access_at_once` makes its next call in place. `EndedJob` (struct): an ended process with the voucher to
-// return. `JobStep` (enum): which of the two a call leaves.
+// processes, has it); `access_at_once` and `access_served` make its next call in place. `EndedJob` (struct): an ended
+// process with the voucher to return. `JobStep` (enum): which of the two a call leaves.
 
 ghost use Rattle.std.specs.Prelude.{◌≡◌};
 ghost use Rattle.hart_threads.specs.RosterState.{IsOut};
@@ -10,6 +10,7 @@ use crate::plan::Plan;
 use hart_calls::{Finished, Tracked};
 use shared_frames::SharedSupply;
 use std::marker::PhantomData;
+use std::sync::Wait;
 use vouchers::Token;
 
 /// An unfinished process and its voucher, as they are in the run queue or on a hart.
@@ -29,6 +30,15 @@ impl<'a, B: Plan> Job<'a, B> {
         ensures store { store.new ≡ B.table }
     {
         self.tracked.access_at_once(store)
+    }
+
+    /// Makes the next call in place if it is a user access whose fault can be served without files
+    /// (`Tracked::access_served`). Returns whether it was made.
+    pub(crate) fn access_served<R: Wait>(&mut self, store: &mut SharedSupply<'_, R>) -> bool
+        requires store { store.old ≡ B.table }
+        ensures store { store.new ≡ B.table }
+    {
+        self.tracked.access_served(store)
     }
 }
 

@@ -18,7 +18,7 @@ use std::thread::Threads;
 fn is_reply(kept: &JournalReply, reply: &Reply) -> bool {
     match kept.kept() {
         StoredReply::ScalarReply(scalar) => scalar.reply() == *reply,
-        StoredReply::Long(long) => **long == *reply,
+        StoredReply::Long(long) => *long == *reply,
     }
 }
 

@@ -57,7 +57,7 @@ returns-in-Ready-clause-call_result g c = λ k is t p space.
     let not = not_granted files p a (gives_leaf c.translate-walk.result) (sym c.is_permitted.ensures ∙ c.if-is_permitted.false) (rw (n.walk t p space) law) none in
     let r = c.in-Ready.ensures.ready refl t p (can_reside (body_of g.S.FrameSeat.view c.translate-walk.new.self) t p c.args.request.access c.args.request.va.0 c.args.request.width here none) in
     let there = as_told files p a (body_of g.S.FrameSeat.view c.serve.new.space) r.0 (is_shared_by r.1) (r.2.agrees 0) in
-    made_later files p a k is wide x (body_of g.S.FrameSeat.view c.at_once.new.space) _ _ _ none not c.at_once.result (c.at_once.ensures.reply r.0 (q files p a) there) (r.0, c.at_once.ensures.after r.0 (q files p a) there)
+    made_later files p a k is wide x (body_of g.S.FrameSeat.view c.without_service.new.space) _ _ _ none not c.without_service.result (c.without_service.ensures.reply r.0 (q files p a) there) (r.0, c.without_service.ensures.after r.0 (q files p a) there)
     (c.in-Ready.ensures.moves ready_served t p here)
 
 pub returns-in-Ended-clause-call_result : goal.returns-in-Ended-clause-call_result
@@ -109,11 +109,11 @@ serve-requires-clause-ready g c =
     let r = c.requires.ready in
     (r.0, r.1, still_space g.S.FrameSeat.view _ _ n.view n.root n.trapframe n.layout r.0 r.1 r.2)
 
-pub at_once-requires-clause-fits : goal.at_once-requires-clause-fits
-at_once-requires-clause-fits g c = fits_after g.F.FrameAccess.rule c.serve.ensures.keeps (fits_after g.F.FrameAccess.rule c.translate-walk.ensures.keeps c.requires.fits)
+pub without_service-requires-clause-fits : goal.without_service-requires-clause-fits
+without_service-requires-clause-fits g c = fits_after g.F.FrameAccess.rule c.serve.ensures.keeps (fits_after g.F.FrameAccess.rule c.translate-walk.ensures.keeps c.requires.fits)
 
-pub at_once-requires-clause-ready : goal.at_once-requires-clause-ready
-at_once-requires-clause-ready g c =
+pub without_service-requires-clause-ready : goal.without_service-requires-clause-ready
+without_service-requires-clause-ready g c =
     let n = c.translate-walk.ensures in
     let p = c.requires.ready in
     let here = still_space g.S.FrameSeat.view _ _ n.view n.root n.trapframe n.layout p.0 p.1 p.2 in
@@ -122,7 +122,7 @@ at_once-requires-clause-ready g c =
     (r.0, made_resident (g.C.Files.files c.args.files.now) 0 (is_shared_by r.1) p.1 c.args.request.access (page_of c.args.request.va.0), r.2.agrees 0)
 
 pub returns-in-Ready-clause-keeps : goal.returns-in-Ready-clause-keeps
-returns-in-Ready-clause-keeps g c = λ others r. c.at_once.ensures.keeps others (c.serve.ensures.keeps others (c.translate-walk.ensures.keeps others r))
+returns-in-Ready-clause-keeps g c = λ others r. c.without_service.ensures.keeps others (c.serve.ensures.keeps others (c.translate-walk.ensures.keeps others r))
 
 pub returns-in-Ended-clause-keeps : goal.returns-in-Ended-clause-keeps
 returns-in-Ended-clause-keeps g c = λ others r. c.serve.ensures.keeps others (c.translate-walk.ensures.keeps others r)

@@ -4,7 +4,7 @@ use Rattle.std.specs.Prelude.{vec_capacity, vec_len}
 use Rattle.address_space.specs.Accesses.{request_of}
 use Rattle.address_space.specs.Agreement.{Body, body_of, IsSpace}
 use Rattle.hart_calls.specs.Replay.{call_of, forked}
-use Rattle.hart_calls.specs.Track.{AppendsEntry, next_of, Track}
+use Rattle.hart_calls.specs.Track.{next_of, Track}
 use Rattle.hart_calls.specs.TurnCases.{most_entries}
 use Rattle.hart_calls.proofs.AtOnce.{filed_at_once, goes_at_once, leads_at_once, no_shelf, space_at_once}
 use Rattle.hart_calls.proofs.Journals.{forks_more, one_longer, plain_forks}
@@ -54,7 +54,7 @@ invariant_of-self-2 g c =
     let n = c.new-entry.ensures in
     let called : call_of e ≡ c.next.result = n.call ∙ c.listed-listed.ensures ∙ sym c.next.ensures in
     let next : call_of e ≡ next_of t = subst (λ (z : Track). call_of e ≡ next_of z) (sym c.self.view_is) (n.call ∙ c.listed-listed.ensures) in
-    let pages = n.pages ∙ c.new.ensures.items in
+    let pages = n.pages ∙ c.none.ensures in
     let none : forked e.reply ≡ 0 = ap forked n.reply ∙ plain_forks _ m.plain in
     let few : length c.self.inside.parts.journal.items < most_entries = (let made = c.len-made.ensures in let not = c.if-made-eq-MOST_ENTRIES.false in let most = i.5 in omega (arith, made, not, most)) in
     let many = i.6 in
@@ -92,7 +92,7 @@ returns-clause-made g c =
     let n = c.new-entry.ensures in
     let called : call_of e ≡ c.next.result = n.call ∙ c.listed-listed.ensures ∙ sym c.next.ensures in
     let next : call_of e ≡ next_of t = subst (λ (z : Track). call_of e ≡ next_of z) (sym c.self.view_is) (n.call ∙ c.listed-listed.ensures) in
-    let pages = n.pages ∙ c.new.ensures.items in
+    let pages = n.pages ∙ c.none.ensures in
     λ yes slot. rw (← c.self.view_is) (goes_at_once t a c.next.result c.in-Some.ensures x y refl _ m e called n.reply pages n.file _ (record { name = refl; lists = refl; list = refl; opening = refl; journal = c.push_reserved.ensures.items; next = next }) refl c.after_access-present.ensures slot)
 
 pub returns-clause-files : goal.returns-clause-files
@@ -116,5 +116,5 @@ returns-clause-files g c =
     let n = c.new-entry.ensures in
     let called : call_of e ≡ c.next.result = n.call ∙ c.listed-listed.ensures ∙ sym c.next.ensures in
     let next : call_of e ≡ next_of t = subst (λ (z : Track). call_of e ≡ next_of z) (sym c.self.view_is) (n.call ∙ c.listed-listed.ensures) in
-    let pages = n.pages ∙ c.new.ensures.items in
+    let pages = n.pages ∙ c.none.ensures in
     λ yes shelf. rw (← c.self.view_is) (filed_at_once t a c.next.result c.in-Some.ensures x y refl _ m e called n.reply pages n.file _ (record { name = refl; lists = refl; list = refl; opening = refl; journal = c.push_reserved.ensures.items; next = next }) refl c.after_access-present.ensures shelf)

@@ -116,7 +116,7 @@ append_entry-requires-clause-leads g c =
     let is : IsEntryOf t a w k r e = record {
       call = n.call ∙ c.listed-listed.ensures ∙ sym c.requires.next;
       answer = n.reply;
-      pages = n.pages ∙ pages_are a.files w state k a.history b.history c.pages_read-pages.result.items c.uses-mark.result c.uses-mark.ensures c.pages_read-pages.ensures comes.moves.history;
+      pages = n.pages ∙ pages_are a.files w state k a.history b.history c.pages_read-pages.result c.uses-mark.result c.uses-mark.ensures c.pages_read-pages.ensures comes.moves.history;
       file = n.file ∙ c.mapped_file-file.ensures;
     } in
     let moved : c.state_after-present.result.state ≡ (call_outcome a.files w 0 state k).process = c.state_after-present.ensures ∙ ap (λ (s : ShelfState). (call_outcome s.files w 0 state k).process) c.of-before.ensures in
@@ -150,7 +150,7 @@ returns-in-Answered-clause-turned g c =
     let is : IsEntryOf t a w k r e = record {
       call = n.call ∙ c.listed-listed.ensures ∙ sym c.requires.next;
       answer = n.reply;
-      pages = n.pages ∙ pages_are a.files w state k a.history b.history c.pages_read-pages.result.items c.uses-mark.result c.uses-mark.ensures c.pages_read-pages.ensures comes.moves.history;
+      pages = n.pages ∙ pages_are a.files w state k a.history b.history c.pages_read-pages.result c.uses-mark.result c.uses-mark.ensures c.pages_read-pages.ensures comes.moves.history;
       file = n.file ∙ c.mapped_file-file.ensures;
     } in
     let moved : c.state_after-present.result.state ≡ (call_outcome a.files w 0 state k).process = c.state_after-present.ensures ∙ ap (λ (s : ShelfState). (call_outcome s.files w 0 state k).process) c.of-before.ensures in
@@ -187,7 +187,7 @@ returns-in-Answered-clause-files g c =
     let is : IsEntryOf t a w k r e = record {
       call = n.call ∙ c.listed-listed.ensures ∙ sym c.requires.next;
       answer = n.reply;
-      pages = n.pages ∙ pages_are a.files w state k a.history b.history c.pages_read-pages.result.items c.uses-mark.result c.uses-mark.ensures c.pages_read-pages.ensures comes.moves.history;
+      pages = n.pages ∙ pages_are a.files w state k a.history b.history c.pages_read-pages.result c.uses-mark.result c.uses-mark.ensures c.pages_read-pages.ensures comes.moves.history;
       file = n.file ∙ c.mapped_file-file.ensures;
     } in
     let moved : c.state_after-present.result.state ≡ (call_outcome a.files w 0 state k).process = c.state_after-present.ensures ∙ ap (λ (s : ShelfState). (call_outcome s.files w 0 state k).process) c.of-before.ensures in
@@ -248,7 +248,7 @@ append_entry-requires-in-Stopped-clause-leads g c =
     let is : IsEntryOf t a w k r e = record {
       call = n.call ∙ c.listed-listed.ensures ∙ sym c.requires.next;
       answer = n.reply ∙ c.short-reply.ensures;
-      pages = n.pages ∙ pages_are a.files w state k a.history b.history c.pages_read-pages.result.items c.uses-mark.result c.uses-mark.ensures c.pages_read-pages.ensures comes.moves.history;
+      pages = n.pages ∙ pages_are a.files w state k a.history b.history c.pages_read-pages.result c.uses-mark.result c.uses-mark.ensures c.pages_read-pages.ensures comes.moves.history;
       file = n.file ∙ c.mapped_file-file.ensures;
     } in
     let moved : c.state_after-present-in-Stopped.result.state ≡ (call_outcome a.files w 0 state k).process = c.state_after-present-in-Stopped.ensures ∙ ap (λ (z : Reply). (call_outcome (c.of-before.result.value).files (shortage_of (Some c.in-Stopped.done) k z) 0 state k).process) c.short-reply.ensures ∙ ap (λ (s : ShelfState). (call_outcome s.files w 0 state k).process) c.of-before.ensures in
@@ -281,7 +281,7 @@ returns-in-Stopped-clause-turned g c =
     let is : IsEntryOf t a w k r e = record {
       call = n.call ∙ c.listed-listed.ensures ∙ sym c.requires.next;
       answer = n.reply ∙ c.short-reply.ensures;
-      pages = n.pages ∙ pages_are a.files w state k a.history b.history c.pages_read-pages.result.items c.uses-mark.result c.uses-mark.ensures c.pages_read-pages.ensures comes.moves.history;
+      pages = n.pages ∙ pages_are a.files w state k a.history b.history c.pages_read-pages.result c.uses-mark.result c.uses-mark.ensures c.pages_read-pages.ensures comes.moves.history;
       file = n.file ∙ c.mapped_file-file.ensures;
     } in
     let moved : c.state_after-present-in-Stopped.result.state ≡ (call_outcome a.files w 0 state k).process = c.state_after-present-in-Stopped.ensures ∙ ap (λ (z : Reply). (call_outcome (c.of-before.result.value).files (shortage_of (Some c.in-Stopped.done) k z) 0 state k).process) c.short-reply.ensures ∙ ap (λ (s : ShelfState). (call_outcome s.files w 0 state k).process) c.of-before.ensures in
@@ -317,7 +317,7 @@ returns-in-Stopped-clause-files g c =
     let is : IsEntryOf t a w k r e = record {
       call = n.call ∙ c.listed-listed.ensures ∙ sym c.requires.next;
       answer = n.reply ∙ c.short-reply.ensures;
-      pages = n.pages ∙ pages_are a.files w state k a.history b.history c.pages_read-pages.result.items c.uses-mark.result c.uses-mark.ensures c.pages_read-pages.ensures comes.moves.history;
+      pages = n.pages ∙ pages_are a.files w state k a.history b.history c.pages_read-pages.result c.uses-mark.result c.uses-mark.ensures c.pages_read-pages.ensures comes.moves.history;
       file = n.file ∙ c.mapped_file-file.ensures;
     } in
     let moved : c.state_after-present-in-Stopped.result.state ≡ (call_outcome a.files w 0 state k).process = c.state_after-present-in-Stopped.ensures ∙ ap (λ (z : Reply). (call_outcome (c.of-before.result.value).files (shortage_of (Some c.in-Stopped.done) k z) 0 state k).process) c.short-reply.ensures ∙ ap (λ (s : ShelfState). (call_outcome s.files w 0 state k).process) c.of-before.ensures in
@@ -378,7 +378,7 @@ returns-in-Ended-clause-turned g c =
     let is : IsEntryOf t a w k r e = record {
       call = n.call ∙ c.listed-listed.ensures ∙ sym c.requires.next;
       answer = n.reply;
-      pages = n.pages ∙ pages_are a.files w state k a.history b.history c.pages_read-pages.result.items c.uses-mark.result c.uses-mark.ensures c.pages_read-pages.ensures comes.moves.history;
+      pages = n.pages ∙ pages_are a.files w state k a.history b.history c.pages_read-pages.result c.uses-mark.result c.uses-mark.ensures c.pages_read-pages.ensures comes.moves.history;
       file = n.file ∙ c.mapped_file-file.ensures;
     } in
     let next = subst (λ (z : Track). k ≡ next_of z) (sym c.self.view_is) c.requires.next in
@@ -412,7 +412,7 @@ returns-in-Ended-clause-files g c =
     let is : IsEntryOf t a w k r e = record {
       call = n.call ∙ c.listed-listed.ensures ∙ sym c.requires.next;
       answer = n.reply;
-      pages = n.pages ∙ pages_are a.files w state k a.history b.history c.pages_read-pages.result.items c.uses-mark.result c.uses-mark.ensures c.pages_read-pages.ensures comes.moves.history;
+      pages = n.pages ∙ pages_are a.files w state k a.history b.history c.pages_read-pages.result c.uses-mark.result c.uses-mark.ensures c.pages_read-pages.ensures comes.moves.history;
       file = n.file ∙ c.mapped_file-file.ensures;
     } in
     let next = subst (λ (z : Track). k ≡ next_of z) (sym c.self.view_is) c.requires.next in
