@@ -15,6 +15,9 @@ use sv39_entry::FrameNo;
 /// Words in a group.
 const GROUP: usize = 8;
 
+/// Words in a group of a copy: the words of both frames are kept until they are compared, and there are few registers.
+const COPY_GROUP: usize = 4;
+
 /// Whether the eight words of a held frame from `index` on were all 0 when they were loaded.
 #[inline(always)]
 fn are_zeros(table: &Words, seat: &mut SharedSeat, frame: FrameNo, index: usize) -> bool
@@ -141,7 +144,7 @@ pub fn clear(table: &Words, seat: &mut SharedSeat, frame: FrameNo, first: usize)
     clear_some(table, seat, frame, index, 512 - index);
 }
 
-/// Copies the eight words from `index` on of the held frame `from`, which the seat must know, to another frame `to`, of which
+/// Copies the four words from `index` on of the held frame `from`, which the seat must know, to another frame `to`, of which
 /// the seat is the sole holder, one by one. The seat may know other words of `to` before (`u`).
 #[inline(always)]
 fn copy_some(table: &Words, seat: &mut SharedSeat, from: FrameNo, to: FrameNo, index: usize)
@@ -150,19 +153,19 @@ fn copy_some(table: &Words, seat: &mut SharedSeat, from: FrameNo, to: FrameNo, i
     requires held { IsHeld (view_of seat.old) from.0 }
     requires sole { IsSole (view_of seat.old) to.0 }
     requires apart { from.0 ≢ to.0 }
-    requires in_page { index + 8 ≤ 512 }
+    requires in_page { index + 4 ≤ 512 }
     ensures fits { FitsIn table.now.table_id seat.new }
     ensures held { IsHeld (view_of seat.new) from.0 }
     ensures sole { IsSole (view_of seat.new) to.0 }
-    ensures view { (v u : View) → AllKnown v from.0 → ((i : ℕ) → known_word u from.0 i ≡ known_word v from.0 i) → view_of seat.old ≡ u → view_of seat.new ≡ with_many to.0 index 8 (words_known v from.0) u }
+    ensures view { (v u : View) → AllKnown v from.0 → ((i : ℕ) → known_word u from.0 i ≡ known_word v from.0 i) → view_of seat.old ≡ u → view_of seat.new ≡ with_many to.0 index 4 (words_known v from.0) u }
 {
-    'places: for place in 0..GROUP {
+    'places: for place in 0..COPY_GROUP {
         let word = load_word(table, seat, from, index + place);
         store_word(table, seat, to, index + place, word);
     }
 }
 
-/// Copies the eight words from `index` on of the held frame `from`, which the seat must know, to another frame `to`, of which
+/// Copies the four words from `index` on of the held frame `from`, which the seat must know, to another frame `to`, of which
 /// the seat is the sole holder. Both are loaded first, and compared together: most groups of two frames are zeros in both.
 #[inline(always)]
 fn copy_group(table: &Words, seat: &mut SharedSeat, from: FrameNo, to: FrameNo, index: usize)
@@ -171,14 +174,14 @@ fn copy_group(table: &Words, seat: &mut SharedSeat, from: FrameNo, to: FrameNo, 
     requires held { IsHeld (view_of seat.old) from.0 }
     requires sole { IsSole (view_of seat.old) to.0 }
     requires apart { from.0 ≢ to.0 }
-    requires in_page { index + 8 ≤ 512 }
+    requires in_page { index + 4 ≤ 512 }
     ensures fits { FitsIn table.now.table_id seat.new }
     ensures held { IsHeld (view_of seat.new) from.0 }
     ensures sole { IsSole (view_of seat.new) to.0 }
-    ensures view { (v : View) → AllKnown v from.0 → view_of seat.old ≡ with_many to.0 0 index (words_known v from.0) v → view_of seat.new ≡ with_many to.0 0 (index + 8) (words_known v from.0) v }
+    ensures view { (v : View) → AllKnown v from.0 → view_of seat.old ≡ with_many to.0 0 index (words_known v from.0) v → view_of seat.new ≡ with_many to.0 0 (index + 4) (words_known v from.0) v }
 {
     let mut same = true;
-    'places: for place in 0..GROUP {
+    'places: for place in 0..COPY_GROUP {
         let word = load_word(table, seat, from, index + place);
         let there = learn_word(table, seat, to, index + place);
         same = (word == there) & same;
@@ -200,7 +203,7 @@ pub fn copy(table: &Words, seat: &mut SharedSeat, from: FrameNo, to: FrameNo)
     ensures fits { FitsIn table.now.table_id seat.new }
     ensures view { view_of seat.new ≡ with_many to.0 0 512 (words_known (view_of seat.old) from.0) (view_of seat.old) }
 {
-    'groups: for group in 0..64 {
-        copy_group(table, seat, from, to, GROUP * group);
+    'groups: for group in 0..128 {
+        copy_group(table, seat, from, to, COPY_GROUP * group);
     }
 }

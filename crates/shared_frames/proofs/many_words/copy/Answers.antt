@@ -12,7 +12,7 @@ groups-init c = record {
 
 pub groups-preserved : goal.groups-preserved
 groups-preserved c =
-    let next : 8 * (c.groups.group + 1) ≡ 8 * c.groups.group + 8 = omega arith in
+    let next : 4 * (c.groups.group + 1) ≡ 4 * c.groups.group + 4 = omega arith in
     record {
       fits = c.copy_group.ensures.fits;
       held = c.copy_group.ensures.held;

@@ -9,5 +9,5 @@ invariant-groups l = record {
   fits : FitsIn l.table.table_id l.seat;
   held : IsHeld (view_of l.seat) l.from.0;
   sole : IsSole (view_of l.seat) l.to.0;
-  view : view_of l.seat ≡ with_many l.to.0 0 (8 * l.group) (words_known (view_of l.initial.seat) l.from.0) (view_of l.initial.seat);
+  view : view_of l.seat ≡ with_many l.to.0 0 (4 * l.group) (words_known (view_of l.initial.seat) l.from.0) (view_of l.initial.seat);
 }

@@ -38,17 +38,17 @@ places-preserved c =
           let here = i.same both.1 v known was in
           let word = c.load_word-word.ensures.known _ (many_word_apart _ _ _ _ _ _ here _ c.requires.apart _ ∙ known (c.args.index + c.places.place) (omega (arith, c.requires.in_page, c.places-test.true))) in
           rw next (many_more _ _ _ _ _ (c.args.index + c.places.place) _ _ _ (c.load_word-word.ensures.view ∙ here) (omega arith) (sym is ∙ word) c.learn_word-there.ensures.view);
-      over = λ word. ap (with_many c.args.to.0 c.args.index 8 word) c.learn_word-there.ensures.view
-          ∙ over_word c.args.to.0 c.args.index 8 word (c.args.index + c.places.place) c.learn_word-there.result (view_of c.load_word-word.new.seat) (omega arith) (omega (arith, c.places-test.true))
-          ∙ ap (with_many c.args.to.0 c.args.index 8 word) c.load_word-word.ensures.view ∙ i.over word;
+      over = λ word. ap (with_many c.args.to.0 c.args.index 4 word) c.learn_word-there.ensures.view
+          ∙ over_word c.args.to.0 c.args.index 4 word (c.args.index + c.places.place) c.learn_word-there.result (view_of c.load_word-word.new.seat) (omega arith) (omega (arith, c.places-test.true))
+          ∙ ap (with_many c.args.to.0 c.args.index 4 word) c.load_word-word.ensures.view ∙ i.over word;
     }
 
 pub returns-then-not-same-clause-view : goal.returns-then-not-same-clause-view
 returns-then-not-same-clause-view c = λ v known was.
     let i = c.places.invariant in
     let from_start : 0 + c.args.index ≡ c.args.index = omega arith in
-    let eight = c.copy_some.ensures.view v (view_of c.places.seat) known (λ q. i.apart q ∙ many_word_apart _ _ _ _ _ _ was _ c.requires.apart q) refl in
+    let four = c.copy_some.ensures.view v (view_of c.places.seat) known (λ q. i.apart q ∙ many_word_apart _ _ _ _ _ _ was _ c.requires.apart q) refl in
     let copied = with_many c.args.to.0 0 c.args.index (words_known v c.args.from.0) v in
-    eight ∙ i.over (words_known v c.args.from.0) ∙ ap (with_many c.args.to.0 c.args.index 8 (words_known v c.args.from.0)) was
-    ∙ ap (λ k. with_many c.args.to.0 k 8 (words_known v c.args.from.0) copied) (sym from_start)
-    ∙ runs_join c.args.to.0 0 c.args.index 8 (words_known v c.args.from.0) v
+    four ∙ i.over (words_known v c.args.from.0) ∙ ap (with_many c.args.to.0 c.args.index 4 (words_known v c.args.from.0)) was
+    ∙ ap (λ k. with_many c.args.to.0 k 4 (words_known v c.args.from.0) copied) (sym from_start)
+    ∙ runs_join c.args.to.0 0 c.args.index 4 (words_known v c.args.from.0) v

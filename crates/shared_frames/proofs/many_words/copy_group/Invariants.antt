@@ -11,5 +11,5 @@ invariant-places l = record {
   sole : IsSole (view_of l.seat) l.to.0;
   apart : (i : ℕ) → known_word (view_of l.seat) l.from.0 i ≡ known_word (view_of l.initial.seat) l.from.0 i;
   same : l.same ≡ true → (v : View) → AllKnown v l.from.0 → view_of l.initial.seat ≡ with_many l.to.0 0 l.index (words_known v l.from.0) v → view_of l.seat ≡ with_many l.to.0 0 (l.index + l.place) (words_known v l.from.0) v;
-  over : (word : ℕ → ℕ) → with_many l.to.0 l.index 8 word (view_of l.seat) ≡ with_many l.to.0 l.index 8 word (view_of l.initial.seat);
+  over : (word : ℕ → ℕ) → with_many l.to.0 l.index 4 word (view_of l.seat) ≡ with_many l.to.0 l.index 4 word (view_of l.initial.seat);
 }
