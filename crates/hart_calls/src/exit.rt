@@ -47,12 +47,13 @@ impl<'a, B: RunBrand> Tracked<'a, B> {
         ensures over { IsOver self.entry result }
         ensures outcome { result.outcome ≡ outcome }
     {
+        let parts = self.parts;
         let TrackedParts {
             name,
             journal,
             space,
             ..
-        } = self.parts;
+        } = parts;
         let seat = leave::<B, R>(space, store);
         Finished {
             name,

@@ -29,16 +29,17 @@ use crate::plain_call::append_entry;
 use crate::run_brand::RunBrand;
 use crate::tracked::Tracked;
 use address_space::Space;
-use cow_fork::ForkError;
+use cow_fork::{ForkError, PageList, fork_listed};
 use frame_store::{FrameAccess, FrameSeat, FrameSupply};
 use process_model::{Call, Refusal, ScalarReply};
 use shared_frames::{SharedSeat, SharedSupply};
-use std::alloc::AllocError;
+use std::alloc::{AllocError, Global};
+use std::mem;
 use std::sync::Wait;
 
 impl<'a, B: RunBrand> Tracked<'a, B> {
-    /// Allocates a place for the space of the next child, which a fork needs (`ForkSlot::Free`). `store` must be at the
-    /// frame table of the run. The process is unchanged.
+    /// Allocates a place for the space of the next child, which a fork needs (`ForkSlot::Free`), and before the first fork
+    /// room to list the process's settled pages. `store` must be at the frame table of the run. The process is unchanged.
     ///
     /// # Errors
     /// `AllocError`: the host is out of memory. The process is unchanged then too.
@@ -50,6 +51,7 @@ impl<'a, B: RunBrand> Tracked<'a, B> {
         ensures store { store.new ≡ B.table }
         ensures same { self.new ≡ self.old }
     {
+        room_for_list(self.parts.alloc, &mut self.parts.settled)?;
         let bare = bare_there(&mut self.parts.space, store);
         Place::new(self.parts.alloc, bare)
     }
@@ -104,7 +106,10 @@ impl<'a, B: RunBrand> Tracked<'a, B> {
         let number = self.children();
         let listed = self.listed();
         let mut parts = self.parts;
-        match fork_there(&mut parts.space, store) {
+        let mut settled = mem::replace(&mut parts.settled, None);
+        let forked = fork_there(&mut parts.space, store, &mut settled);
+        parts.settled = settled;
+        match forked {
             Ok(space) => {
                 let entry = answer(listed, ScalarReply::Forked(number));
                 let opening = parts.present.of_child();
@@ -142,10 +147,22 @@ impl<'a, B: RunBrand> Tracked<'a, B> {
     }
 }
 
-/// `cow_fork::fork`, for a space in a box.
+/// Allocates room for a list of settled pages, unless there is some.
+///
+/// # Errors
+/// `AllocError`: the host is out of memory.
+fn room_for_list(alloc: Global, list: &mut Option<Box<PageList>>) -> Result<(), AllocError> {
+    if list.is_none() {
+        *list = Some(Box::new(alloc, PageList::new())?);
+    }
+    Ok(())
+}
+
+/// `cow_fork::fork`, for a space in a box. The settled pages are listed in `list`, if there is one.
 fn fork_there<S: FrameSeat, F: FrameSupply<Seat = S>>(
     space: &mut Box<Space<S>>,
     store: &mut F,
+    list: &mut Option<Box<PageList>>,
 ) -> Result<Space<S>, ForkError>
     requires fits { IsSeatOf F.FrameAccess.rule store.old space.old.value.seat }
     requires ready { (t : Tables) × (p : Process) × IsSpace (body_of S.view space.old.value) t p }
@@ -156,7 +173,29 @@ fn fork_there<S: FrameSeat, F: FrameSupply<Seat = S>>(
     ensures keeps { IfOk result (λ child. (others : List S) → F.FrameAccess.rule store.old (space.old.value.seat ∷ others) → F.FrameAccess.rule store.new (space.new.value.seat ∷ child.seat ∷ others)) }
     ensures keeps_refused { IfErr result (λ _. KeepsSeats F.FrameAccess.rule store.old space.old.value.seat store.new space.new.value.seat) }
 {
-    cow_fork::fork(space, store)
+    match list {
+        Some(list) => fork_with(space, store, list),
+        None => cow_fork::fork(space, store),
+    }
+}
+
+/// `cow_fork::fork`, with a list for the settled pages, so that none is made anew.
+fn fork_with<S: FrameSeat, F: FrameSupply<Seat = S>>(
+    space: &mut Space<S>,
+    store: &mut F,
+    list: &mut PageList,
+) -> Result<Space<S>, ForkError>
+    requires fits { IsSeatOf F.FrameAccess.rule store.old space.old.seat }
+    requires ready { (t : Tables) × (p : Process) × IsSpace (body_of S.view space.old) t p }
+    ensures forked { IfOk result (λ child. HasForked (body_of S.view space.old) (body_of S.view space.new) (body_of S.view child)) }
+    ensures whole { IfErr result (λ _. (t : Tables) (p : Process) → IsSpace (body_of S.view space.old) t p → IsSpace (body_of S.view space.new) t p) }
+    ensures dry { IsNoFrameError result → (t : Tables) (p : Process) → IsSpace (body_of S.view space.old) t p → RunsDry (S.view space.old.seat) (S.view space.new.seat) (model.fork_need p) [] }
+    ensures full { IsSharersFullError result → TakesFrames (S.view space.old.seat) (S.view space.new.seat) 0 (65535 ∷ []) }
+    ensures keeps { IfOk result (λ child. (others : List S) → F.FrameAccess.rule store.old (space.old.seat ∷ others) → F.FrameAccess.rule store.new (space.new.seat ∷ child.seat ∷ others)) }
+    ensures keeps_refused { IfErr result (λ _. KeepsSeats F.FrameAccess.rule store.old space.old.seat store.new space.new.seat) }
+{
+    let settled = list.settled_pages(space, store);
+    fork_listed(space, store, settled)
 }
 
 /// Splits an empty seat off the seat of a space in a box.

@@ -14,6 +14,7 @@ use crate::journal_entry::{JournalEntry, Listed, call_at};
 use crate::model_process::{ModelProcess, begun};
 use crate::run_brand::RunBrand;
 use address_space::Space;
+use cow_fork::PageList;
 use file_shelf::PageUse;
 use process_model::{Call, Sequence};
 use shared_frames::SharedSeat;
@@ -37,6 +38,8 @@ pub(crate) struct TrackedParts<'a> {
     pub(crate) children: usize,
     /// Memory for the pages that the next call may read from files.
     pub(crate) spare: Option<Box<Vec<PageUse>>>,
+    /// Room for a list of its settled pages (those in memory), from the first fork on.
+    pub(crate) settled: Option<Box<PageList>>,
     /// In a box, because it is large and each call moves the process.
     pub(crate) space: Box<Space<SharedSeat>>,
 }
@@ -114,6 +117,7 @@ impl<'a, B: RunBrand> Tracked<'a, B> {
                 journal: Vec::new(alloc),
                 children: 0,
                 spare: None,
+                settled: None,
                 space,
             },
             of: PhantomData,

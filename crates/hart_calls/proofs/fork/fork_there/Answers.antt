@@ -1,22 +1,43 @@
 use Rattle.hart_calls.proofs.fork.fork_there.Goals as goal
 
+pub fork_with-requires-clause-ready : goal.fork_with-requires-clause-ready
+fork_with-requires-clause-ready g c = rw c.deref_mut.ensures.value c.requires.ready
+
 pub fork-requires-clause-ready : goal.fork-requires-clause-ready
-fork-requires-clause-ready g c = rw c.deref_mut.ensures.value c.requires.ready
+fork-requires-clause-ready g c = rw c.deref_mut-in-None.ensures.value c.requires.ready
 
-pub returns-clause-forked : goal.returns-clause-forked
-returns-clause-forked g c = rw (← c.deref_mut.ensures.value) c.fork.ensures.forked
+pub returns-in-Some-clause-forked : goal.returns-in-Some-clause-forked
+returns-in-Some-clause-forked g c = rw (← c.deref_mut.ensures.value) c.fork_with.ensures.forked
 
-pub returns-clause-whole : goal.returns-clause-whole
-returns-clause-whole g c = rw (← c.deref_mut.ensures.value) c.fork.ensures.whole
+pub returns-in-Some-clause-whole : goal.returns-in-Some-clause-whole
+returns-in-Some-clause-whole g c = rw (← c.deref_mut.ensures.value) c.fork_with.ensures.whole
 
-pub returns-clause-dry : goal.returns-clause-dry
-returns-clause-dry g c = rw (← c.deref_mut.ensures.value) c.fork.ensures.dry
+pub returns-in-Some-clause-dry : goal.returns-in-Some-clause-dry
+returns-in-Some-clause-dry g c = rw (← c.deref_mut.ensures.value) c.fork_with.ensures.dry
 
-pub returns-clause-full : goal.returns-clause-full
-returns-clause-full g c = rw (← c.deref_mut.ensures.value) c.fork.ensures.full
+pub returns-in-Some-clause-full : goal.returns-in-Some-clause-full
+returns-in-Some-clause-full g c = rw (← c.deref_mut.ensures.value) c.fork_with.ensures.full
 
-pub returns-clause-keeps : goal.returns-clause-keeps
-returns-clause-keeps g c = rw (← c.deref_mut.ensures.value) c.fork.ensures.keeps
+pub returns-in-Some-clause-keeps : goal.returns-in-Some-clause-keeps
+returns-in-Some-clause-keeps g c = rw (← c.deref_mut.ensures.value) c.fork_with.ensures.keeps
 
-pub returns-clause-keeps_refused : goal.returns-clause-keeps_refused
-returns-clause-keeps_refused g c = rw (← c.deref_mut.ensures.value) c.fork.ensures.keeps_refused
+pub returns-in-Some-clause-keeps_refused : goal.returns-in-Some-clause-keeps_refused
+returns-in-Some-clause-keeps_refused g c = rw (← c.deref_mut.ensures.value) c.fork_with.ensures.keeps_refused
+
+pub returns-in-None-clause-forked : goal.returns-in-None-clause-forked
+returns-in-None-clause-forked g c = rw (← c.deref_mut-in-None.ensures.value) c.fork.ensures.forked
+
+pub returns-in-None-clause-whole : goal.returns-in-None-clause-whole
+returns-in-None-clause-whole g c = rw (← c.deref_mut-in-None.ensures.value) c.fork.ensures.whole
+
+pub returns-in-None-clause-dry : goal.returns-in-None-clause-dry
+returns-in-None-clause-dry g c = rw (← c.deref_mut-in-None.ensures.value) c.fork.ensures.dry
+
+pub returns-in-None-clause-full : goal.returns-in-None-clause-full
+returns-in-None-clause-full g c = rw (← c.deref_mut-in-None.ensures.value) c.fork.ensures.full
+
+pub returns-in-None-clause-keeps : goal.returns-in-None-clause-keeps
+returns-in-None-clause-keeps g c = rw (← c.deref_mut-in-None.ensures.value) c.fork.ensures.keeps
+
+pub returns-in-None-clause-keeps_refused : goal.returns-in-None-clause-keeps_refused
+returns-in-None-clause-keeps_refused g c = rw (← c.deref_mut-in-None.ensures.value) c.fork.ensures.keeps_refused

@@ -1,8 +1,8 @@
 use Rattle.hart_calls.proofs.Beside.{body_still, fits_there}
 use Rattle.hart_calls.proofs.tracked.Tracked.child_place.Goals as goal
 
-pub invariant_of-self : goal.invariant_of-self
-invariant_of-self g c =
+pub invariant_of-self-2 : goal.invariant_of-self-2
+invariant_of-self-2 g c =
     let i = c.self.invariant in
     let e = c.bare_there-bare.ensures in (
       fits_there _ _ c.bare_there-bare.new.space.value.seat c.requires.store e.fits,

@@ -19,15 +19,15 @@ use Rattle.process_model.specs.declared.step.Reply.TheVariants as reply
 use Rattle.shared_frames.specs.SeatsOfTable.{FitsIn, fits_parted, fits_still, may_step, view_of}
 use Rattle.hart_calls.proofs.tracked.Tracked.divide.Goals as goal
 
-pub fork_there-requires-clause-fits : goal.fork_there-requires-clause-fits
-fork_there-requires-clause-fits g c = may_step _ _ c.self.inside.parts.space.value.seat c.requires.store c.self.invariant.0
+pub fork_there-forked-requires-clause-fits : goal.fork_there-forked-requires-clause-fits
+fork_there-forked-requires-clause-fits g c = may_step _ _ c.self.inside.parts.space.value.seat c.requires.store c.self.invariant.0
 
 pub new-child-requires-clause-fits : goal.new-child-requires-clause-fits
 new-child-requires-clause-fits g c =
     let keeps = c.in-Ok.ensures.keeps in
-    let still = fits_still _ _ _ c.self.inside.parts.space.value.seat c.fork_there.new.space.value.seat c.requires.store (λ others r. let k = keeps others r in (k.0, k.1.1)) c.self.invariant.0 in
+    let still = fits_still _ _ _ c.self.inside.parts.space.value.seat c.fork_there-forked.new.space.value.seat c.requires.store (λ others r. let k = keeps others r in (k.0, k.1.1)) c.self.invariant.0 in
     subst (λ (s : Space SharedSeat). FitsIn g.B.RunBrand.table s.seat) (sym c.fill-space.ensures)
-    (fits_parted _ _ _ c.self.inside.parts.space.value.seat c.fork_there.new.space.value.seat c.in-Ok.space.seat c.requires.store (still.0 ∙ sym c.requires.store) keeps c.self.invariant.0).1
+    (fits_parted _ _ _ c.self.inside.parts.space.value.seat c.fork_there-forked.new.space.value.seat c.in-Ok.space.seat c.requires.store (still.0 ∙ sym c.requires.store) keeps c.self.invariant.0).1
 
 pub new-child-requires-clause-agrees : goal.new-child-requires-clause-agrees
 new-child-requires-clause-agrees g c =
@@ -45,29 +45,29 @@ new-child-requires-clause-there g c =
 pub append_entry-requires-clause-fits : goal.append_entry-requires-clause-fits
 append_entry-requires-clause-fits g c =
     let keeps = c.in-Ok.ensures.keeps in
-    (fits_still _ _ _ c.self.inside.parts.space.value.seat c.fork_there.new.space.value.seat c.requires.store (λ others r. let k = keeps others r in (k.0, k.1.1)) c.self.invariant.0).1
+    (fits_still _ _ _ c.self.inside.parts.space.value.seat c.fork_there-forked.new.space.value.seat c.requires.store (λ others r. let k = keeps others r in (k.0, k.1.1)) c.self.invariant.0).1
 
 pub append_entry-requires-clause-agrees : goal.append_entry-requires-clause-agrees
 append_entry-requires-clause-agrees g c =
     let p = c.self.invariant.1 in
     let f = c.in-Ok.ensures.forked p.0 c.self.inside.parts.present.state p.1 in
-    (f.0, subst (λ (q : Process). IsSpace (body_of view_of c.fork_there.new.space.value) f.0 q) (sym c.after_fork-present.ensures) f.2.parent)
+    (f.0, subst (λ (q : Process). IsSpace (body_of view_of c.fork_there-forked.new.space.value) f.0 q) (sym c.after_fork-present.ensures) f.2.parent)
 
 pub append_entry-requires-in-Err-clause-fits : goal.append_entry-requires-in-Err-clause-fits
-append_entry-requires-in-Err-clause-fits g c = (fits_still _ _ _ c.self.inside.parts.space.value.seat c.fork_there.new.space.value.seat c.requires.store c.in-Err.ensures.keeps_refused c.self.invariant.0).1
+append_entry-requires-in-Err-clause-fits g c = (fits_still _ _ _ c.self.inside.parts.space.value.seat c.fork_there-forked.new.space.value.seat c.requires.store c.in-Err.ensures.keeps_refused c.self.invariant.0).1
 
 pub append_entry-requires-in-Err-clause-agrees : goal.append_entry-requires-in-Err-clause-agrees
 append_entry-requires-in-Err-clause-agrees g c =
     let p = c.self.invariant.1 in
-    (p.0, subst (λ (q : Process). IsSpace (body_of view_of c.fork_there.new.space.value) p.0 q) (sym c.kept-present.ensures) (c.in-Err.ensures.whole p.0 _ p.1))
+    (p.0, subst (λ (q : Process). IsSpace (body_of view_of c.fork_there-forked.new.space.value) p.0 q) (sym c.kept-present.ensures) (c.in-Err.ensures.whole p.0 _ p.1))
 
 pub returns-in-Ok-clause-store : goal.returns-in-Ok-clause-store
 returns-in-Ok-clause-store g c =
     let keeps = c.in-Ok.ensures.keeps in
-    (fits_still _ _ _ c.self.inside.parts.space.value.seat c.fork_there.new.space.value.seat c.requires.store (λ others r. let k = keeps others r in (k.0, k.1.1)) c.self.invariant.0).0
+    (fits_still _ _ _ c.self.inside.parts.space.value.seat c.fork_there-forked.new.space.value.seat c.requires.store (λ others r. let k = keeps others r in (k.0, k.1.1)) c.self.invariant.0).0
 
 pub returns-in-Err-clause-store : goal.returns-in-Err-clause-store
-returns-in-Err-clause-store g c = (fits_still _ _ _ c.self.inside.parts.space.value.seat c.fork_there.new.space.value.seat c.requires.store c.in-Err.ensures.keeps_refused c.self.invariant.0).0
+returns-in-Err-clause-store g c = (fits_still _ _ _ c.self.inside.parts.space.value.seat c.fork_there-forked.new.space.value.seat c.requires.store c.in-Err.ensures.keeps_refused c.self.invariant.0).0
 
 pub append_entry-requires-clause-leads : goal.append_entry-requires-clause-leads
 append_entry-requires-clause-leads g c =
@@ -102,7 +102,7 @@ returns-in-Err-clause-goes g c =
     let p = c.self.invariant.1 in
     let next = subst (λ (t : Track). next_of t ≡ call.Fork c.args.list) (sym c.self.view_is) c.requires.next in
     let lack = subst (λ (v : View). ReportsShortage (view_of c.self.inside.parts.space.value.seat) v [] c.self.inside.parts.present.state (call.Fork c.args.list) (refused 0 r)) (sym j.seat)
-    (fork_lack (view_of c.self.inside.parts.space.value.seat) (view_of c.fork_there.new.space.value.seat) c.self.inside.parts.present.state c.args.list c.in-Err.error (λ by. c.in-Err.ensures.dry (ap Err by) p.0 _ p.1) (λ by. c.in-Err.ensures.full (ap Err by))) in
+    (fork_lack (view_of c.self.inside.parts.space.value.seat) (view_of c.fork_there-forked.new.space.value.seat) c.self.inside.parts.present.state c.args.list c.in-Err.error (λ by. c.in-Err.ensures.dry (ap Err by) p.0 _ p.1) (λ by. c.in-Err.ensures.full (ap Err by))) in
     rw (← c.self.view_is)
     (fork_stays _ c.append_entry-in-Err.result c.answer-entry-in-Err.result c.args.list (slot.Free c.args.name c.args.place) r (record { call = e.call ∙ c.listed-listed.ensures ∙ c.requires.next; answer = e.reply ∙ ap (λ (z : Refusal). reply.Refused z) c.into.ensures; pages = e.pages; file = e.file }) (fork_may c.in-Err.error)
     (record { name = j.name; lists = j.lists; list = j.list; opening = j.opening; journal = j.journal; next = e.call ∙ c.listed-listed.ensures ∙ c.requires.next ∙ sym next }) (j.state ∙ c.kept-present.ensures) (fork_by_slot c.in-Err.error) lack)
