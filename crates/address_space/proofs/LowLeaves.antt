@@ -33,3 +33,7 @@ below_trapframe {x} {y} {page} same low = subst (λ z. page < trapframe_page z) 
 
 pub up_to_trapframe : {x y : Scheme} {page : ℕ} → x ≡ y → page ≤ trapframe_page y → page ≤ trapframe_page x
 up_to_trapframe {x} {y} {page} same low = subst (λ z. page ≤ trapframe_page z) (sym same) low
+
+-- the number of the leaf of a page below TRAPFRAME, by the scheme that code has
+pub number_is : {x y : Scheme} (page : ℕ) → x ≡ y → page < trapframe_page x → walk_leaf y page ≡ leaf_node page
+number_is {x} page same low = number_of_scheme page same (up_number x page (omega (arith, low, of_scheme x)))

@@ -1,8 +1,9 @@
 // Struct `SettledPage`: a settled page (one in memory) with its frame, its fork mark (the next store takes it over first)
 // and D; and calls of `Space` that find such pages by their leaves: `settled_page` one page, `next_settled` the first of a
-// range, and `next_settled_near` one after another, with one walk for those of one page table.
+// range, and `next_settled_with_last` one after another, with one walk for those of one page table.
 
-ghost use Rattle.std.specs.Prelude.{◌≡◌, ◌<◌, ◌≤◌, ℕ, IsSome, Some};
+ghost use Rattle.std.specs.FinMap.{get};
+ghost use Rattle.std.specs.Prelude.{◌≡◌, ◌<◌, ◌≤◌, ℕ, IfSome, IsSome, Some};
 ghost use Rattle.address_space.specs.Agreement.{body_of, no_extra};
 ghost use Rattle.address_space.specs.SettledLists.{IsNextSettled, IsSettled};
 ghost use Rattle.address_space.specs.SpacesInCalls.{IsSpaceInCall};
@@ -12,13 +13,12 @@ ghost use Rattle.sv39_entry.specs.Frame.{frame_at};
 ghost use Rattle.sv39_entry.specs.Word as word;
 ghost use Rattle.sv39_entry.specs.Schemes.{trapframe_page};
 ghost use Rattle.table_walk.specs.LastTables.{IsLastTable};
-ghost use Rattle.table_walk.specs.Tables.{Tables};
+ghost use Rattle.table_walk.specs.Tables.{HasTables, Tables, walk_leaf};
 
 use crate::space::Space;
-use crate::teardown::first_mapped;
 use frame_store::{FrameAccess, FrameSeat};
-use sv39_entry::{Entry, EntryFlags, FrameNo, Va, Vpn};
-use table_walk::{LastTable, leaf_of};
+use sv39_entry::{Entry, EntryFlags, FrameNo, Scheme, Va, Vpn};
+use table_walk::{LastTable, leaf_of, leaf_with_last, next_leaf_before};
 
 /// A settled page: its number, its frame, whether it has the fork mark, and whether its leaf has D (RISC-V Privileged
 /// Architecture 20211203, 4.3.1). In a shared mapping that grants writing D is the stored mark; in any other region that
@@ -92,14 +92,14 @@ impl<S: FrameSeat> Space<S> {
         ensures keeps { KeepsSeats F.rule store.old self.old.seat store.new self.new.seat }
     {
         let mut last = None;
-        self.next_settled_near(store, first, end, &mut last)
+        self.next_settled_with_last(store, first, end, &mut last)
     }
 
     /// `next_settled`, for a caller that goes on from page to page: `last` must be `None` or have been set by such a call for
     /// this space, of which no page table may have been released since. The settled page after another in one page table is
     /// found without a walk.
     #[inline(always)]
-    pub fn next_settled_near<F: FrameAccess<Seat = S>>(
+    pub fn next_settled_with_last<F: FrameAccess<Seat = S>>(
         &mut self,
         store: &mut F,
         first: u64,
@@ -119,17 +119,70 @@ impl<S: FrameSeat> Space<S> {
         ensures keeps { KeepsSeats F.rule store.old self.old.seat store.new self.new.seat }
     {
         let scheme = self.layout.scheme();
-        let end = end.number().min(self.layout.end());
-        let (page, leaf) = first_mapped(
+        let page = Vpn::new(first)?;
+        if let Some(leaf) = leaf_before(
             store,
             &mut self.seat,
             scheme,
             self.root,
-            first,
-            end,
+            page,
+            end.number(),
             last,
-        )?;
+        ) {
+            return Some(settled_by(page, leaf));
+        }
+        self.search_settled(store, page, end)
+    }
+
+    /// `next_settled` by a search through the page tables, from a page on. Stops where the process's regions end.
+    #[inline(never)]
+    fn search_settled<F: FrameAccess<Seat = S>>(
+        &mut self,
+        store: &mut F,
+        first: Vpn,
+        end: Vpn,
+    ) -> Option<SettledPage>
+        requires fits { IsSeatOf F.rule store.old self.old.seat }
+        requires ready { (t : Tables) × (p : Process) × IsSpaceInCall (body_of S.view self.old) t p no_extra }
+        requires low { end ≤ trapframe_page self.old.layout.scheme }
+        ensures page { (t : Tables) (p : Process) → IsSpaceInCall (body_of S.view self.old) t p no_extra → IsNextSettled t p first end result }
+        ensures root { self.new.root ≡ self.old.root }
+        ensures trapframe { self.new.trapframe ≡ self.old.trapframe }
+        ensures layout { self.new.layout ≡ self.old.layout }
+        ensures view { S.view self.new.seat ≡ S.view self.old.seat }
+        ensures same { store.new ≡ store.old }
+        ensures keeps { KeepsSeats F.rule store.old self.old.seat store.new self.new.seat }
+    {
+        let scheme = self.layout.scheme();
+        let end = end.number().min(self.layout.end());
+        let (page, leaf) = next_leaf_before(store, &mut self.seat, scheme, self.root, first, end)?;
         Some(settled_by(page, leaf))
+    }
+}
+
+/// Returns the leaf of a page that is below `end`, `None` if it has none or is not below. `last` is as for `leaf_with_last`.
+#[inline(always)]
+fn leaf_before<F: FrameAccess>(
+    store: &mut F,
+    seat: &mut F::Seat,
+    scheme: Scheme,
+    root: FrameNo,
+    page: Vpn,
+    end: u64,
+    last: &mut Option<LastTable>,
+) -> Option<Entry>
+    requires fits { IsSeatOf F.rule store.old seat.old }
+    requires held { (t : Tables) × HasTables scheme (F.Seat.view seat.old) root.0 t × IsLastTable scheme t last.old }
+    ensures leaf { (t : Tables) → HasTables scheme (F.Seat.view seat.old) root.0 t → IsLastTable scheme t last.old → IfSome result (λ leaf. (page < end) × (get t.leaves (walk_leaf scheme page) ≡ Some leaf)) }
+    ensures kept { (t : Tables) → HasTables scheme (F.Seat.view seat.old) root.0 t → IsLastTable scheme t last.old → IsLastTable scheme t last.new }
+    ensures view { F.Seat.view seat.new ≡ F.Seat.view seat.old }
+    ensures same { store.new ≡ store.old }
+    ensures keeps { KeepsSeats F.rule store.old seat.old store.new seat.new }
+{
+    if page.number() < end {
+        leaf_with_last(store, seat, scheme, root, page, last)
+    } else {
+        None
     }
 }
 

@@ -1,11 +1,10 @@
 // Calls that release: `Space::drop_pages` unmaps a range of pages and drops the references to their frames; `Space::destroy`
-// ends a space with its pages, tables, trapframe and frame 0. For the crate also their steps: find the first mapped page of
-// a range, drop a run of pages, release the tables of a space without pages.
+// ends a space with its pages, tables, trapframe and frame 0. For the crate also their steps: drop a run of pages, release the
+// tables of a space without pages.
 
-ghost use Rattle.std.specs.FinMap.{get};
-ghost use Rattle.std.specs.Prelude.{[], ◌≡◌, ◌^◌, ◌<◌, ◌≤◌, ℕ, IfSome, Some};
+ghost use Rattle.std.specs.Prelude.{[], ◌≡◌, ◌^◌, ◌<◌, ◌≤◌, ℕ};
 ghost use Rattle.address_space.specs.Agreement.{body_of, HoldsTrapframe, IsSpace, no_extra, IsInMemory};
-ghost use Rattle.address_space.specs.SpaceTeardown.{Drops, DropsFirst, DropsIf, DropsRun, IsEmptied, IsFirstMapped, MayDrop, IsStripped};
+ghost use Rattle.address_space.specs.SpaceTeardown.{Drops, DropsFirst, DropsIf, DropsRun, IsEmptied, MayDrop, IsStripped};
 ghost use Rattle.address_space.specs.SpacesInCalls.{IsSpaceInCall};
 ghost use Rattle.address_space.specs.Steps.{IsBare, TakesFrames};
 ghost use Rattle.frame_store.specs.Laws.{IsSeatOf, KeepsSeats};
@@ -14,69 +13,15 @@ ghost use Rattle.process_model.specs.Heap.{without_pages};
 ghost use Rattle.process_model.specs.Process.{Process};
 ghost use Rattle.sv39_entry.specs.Schemes.{trapframe_page, page_limit};
 ghost use Rattle.table_walk.specs.LastTables.{IsLastTable};
-ghost use Rattle.table_walk.specs.Tables.{HasTables, Tables, walk_leaf};
+ghost use Rattle.table_walk.specs.Tables.{HasTables, Tables};
 
 use crate::space::Space;
 use frame_store::{FrameAccess, FrameSeat};
 use sv39_entry::{Entry, FrameNo, Scheme, Va, Vpn};
-use table_walk::{LastTable, leaf_near, next_leaf_before, release_tables, unmap, unmap_near};
-
-/// Returns the first page that has a leaf, from the page number `first` up to, and without, `end`, and the leaf; `None` if
-/// there is none. Page `first` is tried by itself: in a run of settled pages it is the one. `last` is as for `leaf_near`.
-#[inline(always)]
-pub(crate) fn first_mapped<F: FrameAccess>(
-    store: &mut F,
-    seat: &mut F::Seat,
-    scheme: Scheme,
-    root: FrameNo,
-    first: u64,
-    end: u64,
-    last: &mut Option<LastTable>,
-) -> Option<(Vpn, Entry)>
-    requires fits { IsSeatOf F.rule store.old seat.old }
-    requires held { (t : Tables) × HasTables scheme (F.Seat.view seat.old) root.0 t × IsLastTable scheme t last.old }
-    requires low { end ≤ page_limit scheme }
-    ensures page { (t : Tables) → HasTables scheme (F.Seat.view seat.old) root.0 t → IsLastTable scheme t last.old → IsFirstMapped t first end result }
-    ensures kept { (t : Tables) → HasTables scheme (F.Seat.view seat.old) root.0 t → IsLastTable scheme t last.old → IsLastTable scheme t last.new }
-    ensures view { F.Seat.view seat.new ≡ F.Seat.view seat.old }
-    ensures same { store.new ≡ store.old }
-    ensures keeps { KeepsSeats F.rule store.old seat.old store.new seat.new }
-{
-    let page = Vpn::new(first)?;
-    if let Some(leaf) = leaf_before(store, seat, scheme, root, page, end, last) {
-        return Some((page, leaf));
-    }
-    next_leaf_before(store, seat, scheme, root, page, end)
-}
-
-/// Returns the leaf of a page that is below `end`, `None` if it has none or is not below. `last` is as for `leaf_near`.
-#[inline(always)]
-fn leaf_before<F: FrameAccess>(
-    store: &mut F,
-    seat: &mut F::Seat,
-    scheme: Scheme,
-    root: FrameNo,
-    page: Vpn,
-    end: u64,
-    last: &mut Option<LastTable>,
-) -> Option<Entry>
-    requires fits { IsSeatOf F.rule store.old seat.old }
-    requires held { (t : Tables) × HasTables scheme (F.Seat.view seat.old) root.0 t × IsLastTable scheme t last.old }
-    ensures leaf { (t : Tables) → HasTables scheme (F.Seat.view seat.old) root.0 t → IsLastTable scheme t last.old → IfSome result (λ leaf. (page < end) × (get t.leaves (walk_leaf scheme page) ≡ Some leaf)) }
-    ensures kept { (t : Tables) → HasTables scheme (F.Seat.view seat.old) root.0 t → IsLastTable scheme t last.old → IsLastTable scheme t last.new }
-    ensures view { F.Seat.view seat.new ≡ F.Seat.view seat.old }
-    ensures same { store.new ≡ store.old }
-    ensures keeps { KeepsSeats F.rule store.old seat.old store.new seat.new }
-{
-    if page.number() < end {
-        leaf_near(store, seat, scheme, root, page, last)
-    } else {
-        None
-    }
-}
+use table_walk::{LastTable, next_leaf_before, release_tables, unmap, unmap_with_last};
 
 /// Removes the leaf of a page that is below `end`, if it has one, and then drops the reference to the frame that it named:
-/// no leaf ever names a released frame. Returns whether there was a leaf. `last` is as for `unmap_near`.
+/// no leaf ever names a released frame. Returns whether there was a leaf. `last` is as for `unmap_with_last`.
 #[inline(always)]
 fn drop_leaf<F: FrameAccess>(
     store: &mut F,
@@ -99,7 +44,7 @@ fn drop_leaf<F: FrameAccess>(
     if end <= page.number() {
         return false;
     }
-    let Some(leaf) = unmap_near(store, seat, scheme, root, page, last) else {
+    let Some(leaf) = unmap_with_last(store, seat, scheme, root, page, last) else {
         return false;
     };
     let Some(frame) = FrameNo::from_ppn(leaf.ppn()) else {
@@ -111,7 +56,7 @@ fn drop_leaf<F: FrameAccess>(
 
 /// `drop_leaf` of the first page that has a leaf, from the page number `first` up to, and without, `end`. Returns the number
 /// of that page, `None` if there is none. Page `first` is tried by itself: in a run of settled pages it is the one. `last` is
-/// as for `unmap_near`.
+/// as for `unmap_with_last`.
 #[inline(always)]
 fn drop_first<F: FrameAccess>(
     store: &mut F,

@@ -21,7 +21,7 @@ use Rattle.table_walk.specs.Keys.{insert_other, insert_same}
 use Rattle.table_walk.specs.LastTables.{IsLastTable}
 use Rattle.table_walk.specs.Nodes.{low_leaf}
 use Rattle.table_walk.specs.Tables.{ChangesTables, HasTables, IsGrown, leaf_node, missing, Tables, walk_leaf, with_leaf}
-use Rattle.table_walk.specs.declared.near.LastTable.{LastTable}
+use Rattle.table_walk.specs.declared.last_table.LastTable.{LastTable}
 use Rattle.sv39_entry.specs.Schemes.{top_level, trampoline_page, trapframe_page, page_limit, of_scheme}
 use Rattle.sv39_entry.specs.declared.scheme.Scheme.{Scheme}
 use Rattle.address_space.specs.Agreement.{is_dirty_page, IsPageLeaf}
@@ -70,7 +70,7 @@ leaf_apart m n apart same = apart (omega (arith, same))
 pub missing_of_scheme : {x y : Scheme} (t : Tables) (page n : ℕ) → x ≡ y → missing x t page ≤ n → missing y t page ≤ n
 missing_of_scheme t page n same few = subst (λ z. missing z t page ≤ n) same few
 
--- what `map_near` ensures of the tables, for a page below the page limit, and by an equal scheme
+-- what `map_with_last` ensures of the tables, for a page below the page limit, and by an equal scheme
 abbrev pub MapsNear : Scheme → View → View → ℕ → Tables → ℕ → ℕ → ℕ → Option LastTable → Type 0
 MapsNear z v w root t page number leaf last =
     (u : Tables) × IsGrown z t u page (top_level z) × HasTables z w root (with_leaf u number leaf) × ChangesTables v w t u (missing z t page) × IsLastTable z u last

@@ -1,6 +1,6 @@
 -- Lemmas: if root, trapframe and layout (the regions) of a space are unchanged, it differs at most in its seat's view (what
 -- the seat holds and knows).
-use Rattle.std.proofs.Common.{◌≡◌, sym, ℕ, ◌/◌, ◌*◌}
+use Rattle.std.proofs.Common.{◌≡◌, sym}
 use Rattle.frame_store.specs.View.{View}
 use Rattle.address_space.specs.Agreement.{body, body_of}
 use Rattle.address_space.specs.declared.space.Space.{Space}

@@ -81,7 +81,7 @@ fn list_settled<S: FrameSeat, F: FrameAccess<Seat = S>>(
     let end = scheme.trapframe().page();
     let mut from = 0;
     let mut last = None;
-    'pages: while let Some(found) = space.next_settled_near(store, from, end, &mut last) {
+    'pages: while let Some(found) = space.next_settled_with_last(store, from, end, &mut last) {
         from = found.page.number() + 1;
         pages.push(found);
     }

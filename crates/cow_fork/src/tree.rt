@@ -17,7 +17,7 @@ ghost use Rattle.table_walk.specs.Tables.{Tables};
 use address_space::{Layout, Region, SettledPage, Space, TRAMPOLINE_FRAME, leaf_for_kernel};
 use frame_store::{FrameAccess, FrameSeat, FrameSupply};
 use sv39_entry::{Access, FrameNo, Scheme};
-use table_walk::{map, map_near, missing_is_growth, new_table};
+use table_walk::{map, map_with_last, missing_is_growth, new_table};
 
 /// Builds the child's page tables with credits of the parent's seat and returns the frame of their root. Each settled page
 /// has a leaf on the parent's frame, with the fork mark if the page had it or its region grants writing; `trapframe` is at
@@ -48,7 +48,7 @@ pub(crate) fn copy_tree<S: FrameSeat, F: FrameSupply<Seat = S>>(
         enter_region(&space.layout, page.page.number(), &mut region);
         let mark = page.fork_mark || !region.lacks_right(Access::Store);
         let leaf = region.leaf(page.frame, mark, region.is_dirty_from_start());
-        map_near(
+        map_with_last(
             store,
             &mut space.seat,
             scheme,

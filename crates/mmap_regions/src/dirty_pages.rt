@@ -42,7 +42,7 @@ pub(crate) fn count_run<S: FrameSeat, F: FrameAccess<Seat = S>>(
     let mut count = 0;
     let mut from = run.first.number();
     let mut last = None;
-    'pages: while let Some(found) = space.next_settled_near(store, from, run.end, &mut last) {
+    'pages: while let Some(found) = space.next_settled_with_last(store, from, run.end, &mut last) {
         if found.dirty {
             count += 1;
         }
@@ -76,7 +76,9 @@ pub(crate) fn write_run<S: FrameSeat, F: FrameAccess<Seat = S>, C: Files>(
     let mut bytes = [0; 4096];
     let mut from = run.first.number();
     let mut last = None;
-    'pages: while let Some(settled) = space.next_settled_near(store, from, run.end, &mut last) {
+    'pages: while let Some(settled) = space.next_settled_with_last(
+        store, from, run.end, &mut last,
+    ) {
         if settled.dirty {
             space.page_bytes(store, settled.page, &mut bytes);
             let at = (settled.page.number() - run.mapping.first) * PAGE_SIZE;

@@ -5,7 +5,7 @@ use Rattle.std.proofs.Common.{ap, subst, ◌∙◌}
 use Rattle.std.specs.FinMap.{get}
 use Rattle.sv39_entry.specs.declared.scheme.Scheme.{Scheme}
 use Rattle.table_walk.specs.Tables.{Tables, last_table}
-use Rattle.table_walk.specs.declared.near.LastTable.{LastTable}
+use Rattle.table_walk.specs.declared.last_table.LastTable.{LastTable}
 
 -- what was kept, if anything, is the frame of the last table on the way to its page
 abbrev pub IsLastTable : Scheme → Tables → Option LastTable → Type 0

@@ -1,6 +1,7 @@
 // Changes of one page's leaf in the page tables below a root: `map` puts it (and makes missing tables of reserved frames),
-// `protect` replaces it, `unmap` removes it (tables stay); and `leaf_of` looks it up. `map_near`, `unmap_near` and `leaf_near`
-// do so for page after page: pages whose leaves are in one table need one walk (`LastTable`).
+// `protect` replaces it, `unmap` removes it (tables stay); and `leaf_of` looks it up. `map_with_last`, `unmap_with_last` and
+// `leaf_with_last` do so for page after page: pages whose leaves are in one table need one walk (`LastTable`). These are
+// inlined: what they find stays in registers, and a result that goes through memory costs more than the step.
 
 ghost use Rattle.std.specs.FinMap.{get};
 ghost use Rattle.std.specs.Prelude.{◌≡◌, ◌≤◌, ℕ, option_map, IfSome, IsSome, None, Some};
@@ -18,7 +19,7 @@ ghost use Rattle.table_walk.specs.LastTables.{IsLastTable};
 ghost use Rattle.table_walk.specs.Tables.{ChangesTables, HasTables, Tables, IsGrown, last_table, walk_leaf, missing, with_leaf, without_leaf};
 ghost use Rattle.table_walk.specs.Walk.{Maps};
 
-use crate::near::{LastTable, grown_near, table_near};
+use crate::last_table::{LastTable, grown_with_last, table_with_last};
 use crate::tables::table_of;
 use frame_store::{FrameAccess, FrameSeat, FrameSupply};
 use sv39_entry::{Entry, FrameNo, Scheme, Vpn};
@@ -49,13 +50,13 @@ pub fn map<F: FrameSupply>(
     ensures free { F.alone → F.free store.new ≡ F.free store.old }
 {
     let mut last = None;
-    map_near(store, seat, scheme, root, page, leaf, &mut last);
+    map_with_last(store, seat, scheme, root, page, leaf, &mut last);
 }
 
 /// `map`, for a caller that maps page after page: `last` must be `None` or have been set by such a call for these tables,
 /// and no table may have been released since. A page whose last table it has is mapped without a walk.
 #[inline(always)]
-pub fn map_near<F: FrameSupply>(
+pub fn map_with_last<F: FrameSupply>(
     store: &mut F,
     seat: &mut F::Seat,
     scheme: Scheme,
@@ -76,7 +77,7 @@ pub fn map_near<F: FrameSupply>(
     ensures keeps { KeepsSeats F.rule store.old seat.old store.new seat.new }
     ensures free { F.alone → F.free store.new ≡ F.free store.old }
 {
-    let table = grown_near(store, seat, scheme, root, page, last);
+    let table = grown_with_last(store, seat, scheme, root, page, last);
     store.store(seat, table, page.index(0), leaf.to_word());
 }
 
@@ -125,13 +126,13 @@ pub fn leaf_of<F: FrameAccess>(
     ensures keeps { KeepsSeats F.rule store.old seat.old store.new seat.new }
 {
     let mut last = None;
-    leaf_near(store, seat, scheme, root, page, &mut last)
+    leaf_with_last(store, seat, scheme, root, page, &mut last)
 }
 
 /// `leaf_of`, for a caller that asks for page after page: `last` must be `None` or have been set by such a call for these
 /// tables, and no table may have been released since. The leaf of a page whose last table it has is read without a walk.
 #[inline(always)]
-pub fn leaf_near<F: FrameAccess>(
+pub fn leaf_with_last<F: FrameAccess>(
     store: &mut F,
     seat: &mut F::Seat,
     scheme: Scheme,
@@ -174,13 +175,13 @@ pub fn unmap<F: FrameAccess>(
     ensures counts { F.alone → (f : ℕ) → F.count store.new f ≡ F.count store.old f }
 {
     let mut last = None;
-    unmap_near(store, seat, scheme, root, page, &mut last)
+    unmap_with_last(store, seat, scheme, root, page, &mut last)
 }
 
 /// `unmap`, for a caller that unmaps page after page: `last` must be `None` or have been set by such a call for these
 /// tables, and no table may have been released since. A page whose last table it has is unmapped without a walk.
 #[inline(always)]
-pub fn unmap_near<F: FrameAccess>(
+pub fn unmap_with_last<F: FrameAccess>(
     store: &mut F,
     seat: &mut F::Seat,
     scheme: Scheme,
@@ -207,7 +208,7 @@ pub fn unmap_near<F: FrameAccess>(
 }
 
 /// Returns the last table on the way to `page`, and the page's leaf in it; `None` if the page has no leaf.
-/// `last` is as after `table_near`.
+/// `last` is as after `table_with_last`.
 #[inline(always)]
 fn leaf_in_table<F: FrameAccess>(
     store: &mut F,
@@ -226,7 +227,7 @@ fn leaf_in_table<F: FrameAccess>(
     ensures same { store.new ≡ store.old }
     ensures keeps { KeepsSeats F.rule store.old seat.old store.new seat.new }
 {
-    let table = table_near(store, seat, scheme, root, page, last)?;
+    let table = table_with_last(store, seat, scheme, root, page, last)?;
     let word = store.load(seat, table, page.index(0));
     if word == 0 {
         return None;

@@ -1,4 +1,4 @@
-use Rattle.std.proofs.Common.{◌≡◌, ℕ, [], refl, ◌∙◌, arith, ◌*◌, ◌/◌}
+use Rattle.std.proofs.Common.{◌≡◌, ℕ, [], refl, ◌∙◌, arith}
 use Rattle.frame_store.specs.View.{hold_of, IsHeld}
 use Rattle.table_walk.specs.LeafBacking.{kernel_backed}
 use Rattle.table_walk.specs.Tables.{bare_root, ChangesTables, HasTables, Tables, IsGrown, leaf_node, missing, with_leaf}

@@ -15,7 +15,7 @@ release-requires-clause-held g c =
     let leaf = sym (rw same at (c.in-Some.ensures.leaf r.0 r.1 r.3)) in
     let d = r.2 before (has_leaf r.0 _ _ leaf) in
     let names = frame_named c.in-Some.leaf _ _ c.in-Some-from_ppn.frame c.ppn.ensures.value c.from_ppn.ensures c.in-Some-from_ppn.is in
-    held_yet _ _ c.args.root.0 r.0 c.args.page _ _ d leaf names (rw same at (c.unmap_near.ensures.tables r.0 r.1 r.3)).1
+    held_yet _ _ c.args.root.0 r.0 c.args.page _ _ d leaf names (rw same at (c.unmap_with_last.ensures.tables r.0 r.1 r.3)).1
 
 pub release-requires-clause-anchored : goal.release-requires-clause-anchored
 release-requires-clause-anchored g c =
@@ -27,7 +27,7 @@ release-requires-clause-anchored g c =
     let leaf = sym (rw same at (c.in-Some.ensures.leaf r.0 r.1 r.3)) in
     let d = r.2 before (has_leaf r.0 _ _ leaf) in
     let names = frame_named c.in-Some.leaf _ _ c.in-Some-from_ppn.frame c.ppn.ensures.value c.from_ppn.ensures c.in-Some-from_ppn.is in
-    anchored_yet _ _ c.args.root.0 r.0 c.args.page _ _ d leaf names (rw same at (c.unmap_near.ensures.tables r.0 r.1 r.3)).1
+    anchored_yet _ _ c.args.root.0 r.0 c.args.page _ _ d leaf names (rw same at (c.unmap_with_last.ensures.tables r.0 r.1 r.3)).1
 
 pub returns-clause-dropped : goal.returns-clause-dropped
 returns-clause-dropped g c t h may k =
@@ -39,5 +39,5 @@ returns-clause-dropped g c t h may k =
     let some = has_leaf t _ _ leaf in
     let d = may before some in
     let names = frame_named c.in-Some.leaf _ _ c.in-Some-from_ppn.frame c.ppn.ensures.value c.from_ppn.ensures c.in-Some-from_ppn.is in
-    let unmapped = rw same at (c.unmap_near.ensures.tables t h k) in
+    let unmapped = rw same at (c.unmap_with_last.ensures.tables t h k) in
     (before, some, drops_leaf _ _ c.args.root.0 t c.args.page _ _ d leaf names unmapped.1 _ unmapped.0 c.release.ensures.view)

@@ -24,11 +24,11 @@ pages-init g c = record {
   settled = λ t p space more rest. rw c.requires.empty rest;
 }
 
-pub next_settled_near-requires-clause-fits : goal.next_settled_near-requires-clause-fits
-next_settled_near-requires-clause-fits g c = fits_after g.F.FrameAccess.rule c.pages.invariant.keeps c.requires.fits
+pub next_settled_with_last-requires-clause-fits : goal.next_settled_with_last-requires-clause-fits
+next_settled_with_last-requires-clause-fits g c = fits_after g.F.FrameAccess.rule c.pages.invariant.keeps c.requires.fits
 
-pub next_settled_near-requires-clause-ready : goal.next_settled_near-requires-clause-ready
-next_settled_near-requires-clause-ready g c =
+pub next_settled_with_last-requires-clause-ready : goal.next_settled_with_last-requires-clause-ready
+next_settled_with_last-requires-clause-ready g c =
     let r = c.requires.ready in
     let i = c.pages.invariant in
     let body = same_body g.S.FrameSeat.view c.pages.space c.args.space.now i.view i.root i.trapframe i.layout in
@@ -47,7 +47,7 @@ pages-smaller g c =
     let r = c.requires.ready in
     let i = c.pages.invariant in
     let body = same_body g.S.FrameSeat.view c.pages.space c.args.space.now i.view i.root i.trapframe i.layout in
-    let next = rw (c.in-Some.is, edge_at (r.2.lays.scheme ∙ sym c.scheme-scheme.ensures) _ _ c.page-end.ensures.number c.trapframe.ensures) at c.next_settled_near.ensures.page r.0 r.1 (space_in_call (rw body r.2)) (i.kept r.0 r.1 r.2) in
+    let next = rw (c.in-Some.is, edge_at (r.2.lays.scheme ∙ sym c.scheme-scheme.ensures) _ _ c.page-end.ensures.number c.trapframe.ensures) at c.next_settled_with_last.ensures.page r.0 r.1 (space_in_call (rw body r.2)) (i.kept r.0 r.1 r.2) in
     let edge = ap trapframe_page r.2.lays.scheme in
     let less : trapframe_page c.args.space.now.layout.scheme - (c.number-from.result + 1) < trapframe_page c.args.space.now.layout.scheme - c.pages.from =
     omega (arith, c.number-from.ensures.value, next.0, next.1, edge) in
@@ -57,7 +57,7 @@ pub pages-preserved : goal.pages-preserved
 pages-preserved g c =
     let r = c.requires.ready in
     let i = c.pages.invariant in
-    let n = c.next_settled_near.ensures in
+    let n = c.next_settled_with_last.ensures in
     let body = same_body g.S.FrameSeat.view c.pages.space c.args.space.now i.view i.root i.trapframe i.layout in
     let near_next = rw (c.in-Some.is, edge_at (r.2.lays.scheme ∙ sym c.scheme-scheme.ensures) _ _ c.page-end.ensures.number c.trapframe.ensures) at n.page r.0 r.1 (space_in_call (rw body r.2)) (i.kept r.0 r.1 r.2) in
     let items = c.push.ensures.items in
@@ -86,8 +86,8 @@ pub returns-clause-settled : goal.returns-clause-settled
 returns-clause-settled g c t p space =
     let i = c.pages.invariant in
     let body = same_body g.S.FrameSeat.view c.pages.space c.args.space.now i.view i.root i.trapframe i.layout in
-    let none = rw (c.in_default.is, edge_at (space.lays.scheme ∙ sym c.scheme-scheme.ensures) _ _ c.page-end.ensures.number c.trapframe.ensures) at c.next_settled_near.ensures.page t p (space_in_call (rw body space)) (i.kept t p space) in
+    let none = rw (c.in_default.is, edge_at (space.lays.scheme ∙ sym c.scheme-scheme.ensures) _ _ c.page-end.ensures.number c.trapframe.ensures) at c.next_settled_with_last.ensures.page t p (space_in_call (rw body space)) (i.kept t p space) in
     subst (AreSettled t p 0 (trapframe_page p.scheme)) (append-nil c.pages.pages.items) (i.settled t p space [] none)
 
 pub returns-clause-keeps : goal.returns-clause-keeps
-returns-clause-keeps g c others r = c.next_settled_near.ensures.keeps others (c.pages.invariant.keeps others r)
+returns-clause-keeps g c others r = c.next_settled_with_last.ensures.keeps others (c.pages.invariant.keeps others r)

@@ -59,17 +59,17 @@ leaf-leaf-requires g c =
     let r = c.requires.ready in
     record { leafy = leafy_at r.1 r.2.order c.page-item.result.page _ (here g (goal.at.leaf-leaf-requires g c).After-enter_region r.0 r.1 r.2) }
 
-pub map_near-requires-clause-fits : goal.map_near-requires-clause-fits
-map_near-requires-clause-fits g c = fits_after g.F.FrameAccess.rule c.pages.invariant.keeps c.requires.fits
+pub map_with_last-requires-clause-fits : goal.map_with_last-requires-clause-fits
+map_with_last-requires-clause-fits g c = fits_after g.F.FrameAccess.rule c.pages.invariant.keeps c.requires.fits
 
-pub map_near-requires-clause-anchored : goal.map_near-requires-clause-anchored
-map_near-requires-clause-anchored g c =
+pub map_with_last-requires-clause-anchored : goal.map_with_last-requires-clause-anchored
+map_with_last-requires-clause-anchored g c =
     let r = c.requires.ready in
     let k = (c.pages.invariant.copied r.0 r.1 r.2).0 in
     still_anchored _ _ _ r.0 k.0 r.1 _ _ k.1 k.2 _ r.2 k.3
 
-pub map_near-requires-clause-tables : goal.map_near-requires-clause-tables
-map_near-requires-clause-tables g c =
+pub map_with_last-requires-clause-tables : goal.map_with_last-requires-clause-tables
+map_with_last-requires-clause-tables g c =
     let r = c.requires.ready in
     let k = (c.pages.invariant.copied r.0 r.1 r.2).0 in
     let a = c.page-item.result in
@@ -81,8 +81,8 @@ map_near-requires-clause-tables g c =
     let near = last_of_scheme k.0 c.pages.last same (c.pages.invariant.copied r.0 r.1 r.2).1 in
     (k.0, tables_of_scheme same k.3.tables, near, missing_of_scheme k.0 a.page _ same (enough _ _ _ r.0 k.0 r.1 _ _ k.1 k.2 _ r.2 k.3 a next law))
 
-pub map_near-requires-clause-backed : goal.map_near-requires-clause-backed
-map_near-requires-clause-backed g c =
+pub map_with_last-requires-clause-backed : goal.map_with_last-requires-clause-backed
+map_with_last-requires-clause-backed g c =
     let r = c.requires.ready in
     let k = (c.pages.invariant.copied r.0 r.1 r.2).0 in
     let a = c.page-item.result in
@@ -98,7 +98,7 @@ map_near-requires-clause-backed g c =
 pub pages-preserved : goal.pages-preserved
 pages-preserved g c =
     let i = c.pages.invariant in
-    let m = c.map_near.ensures in
+    let m = c.map_with_last.ensures in
     let a = c.page-item.result in
     let r = region_of c.enter_region.new.region in
     let mark_is : c.if-page.mark ≡ (a.fork_mark || r.writes) = elim c.if-page.branch [
@@ -124,7 +124,7 @@ pages-preserved g c =
           let mark_was = mark_is ∙ ap (λ b. b || r.writes) (next.3).fork_mark in
           let made = child_leaf p a.page (next.3).page r c.leaf-leaf.result (a.frame).0 c.if-page.mark c.is_dirty_from_start.result at mark_was c.is_dirty_from_start.ensures c.leaf-leaf.ensures.leaf in
           let same = can.lays.scheme ∙ sym c.scheme-scheme.ensures in
-          let n = maps_near p.scheme c.scheme-scheme.result _ _ _ k.0 a.page c.leaf-leaf.result c.map_near.new.last same small
+          let n = maps_near p.scheme c.scheme-scheme.result _ _ _ k.0 a.page c.leaf-leaf.result c.map_with_last.new.last same small
           (m.tables k.0 (tables_of_scheme same k.3.tables) (last_of_scheme k.0 c.pages.last same far.1)) in
           let tabled = c.missing_is_growth.ensures.grown p.scheme k.0 n.0 k.2 a.page k.3.tabled n.1 in
           let more = copies_more _ _ _ t k.0 p _ _ k.1 k.2 _ can k.3 a next law _ n.0 c.leaf-leaf.result r at made n.1 n.2 n.3 tabled in

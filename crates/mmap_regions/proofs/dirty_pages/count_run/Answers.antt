@@ -31,11 +31,11 @@ pages-init g c =
       count = λ t p space run. rw from (sym (ap length (run_begins p (region_of c.args.run.now.mapping) c.args.run.now.first)));
     }
 
-pub next_settled_near-requires-clause-fits : goal.next_settled_near-requires-clause-fits
-next_settled_near-requires-clause-fits g c = fits_after g.F.FrameAccess.rule c.pages.invariant.keeps c.requires.fits
+pub next_settled_with_last-requires-clause-fits : goal.next_settled_with_last-requires-clause-fits
+next_settled_with_last-requires-clause-fits g c = fits_after g.F.FrameAccess.rule c.pages.invariant.keeps c.requires.fits
 
-pub next_settled_near-requires-clause-ready : goal.next_settled_near-requires-clause-ready
-next_settled_near-requires-clause-ready g c =
+pub next_settled_with_last-requires-clause-ready : goal.next_settled_with_last-requires-clause-ready
+next_settled_with_last-requires-clause-ready g c =
     let r = c.requires.ready in
     let i = c.pages.invariant in
     let body = same_body g.S.FrameSeat.view c.pages.space c.args.space.now i.view i.root i.trapframe i.layout in
@@ -46,7 +46,7 @@ pages-smaller g c =
     let r = c.requires.ready in
     let i = c.pages.invariant in
     let body = same_body g.S.FrameSeat.view c.pages.space c.args.space.now i.view i.root i.trapframe i.layout in
-    let next = rw c.in-Some.is at c.next_settled_near.ensures.page r.0 r.1 (space_in_call (rw body r.2)) (i.kept r.0 r.1 r.2) in
+    let next = rw c.in-Some.is at c.next_settled_with_last.ensures.page r.0 r.1 (space_in_call (rw body r.2)) (i.kept r.0 r.1 r.2) in
     let number = c.number-from-in-Some.ensures.value in
     let less : c.args.run.now.end - (c.number-from-in-Some.result + 1) < c.args.run.now.end - c.pages.from = omega (arith, next.0, next.1, number) in
     less
@@ -56,7 +56,7 @@ pages-preserved g c =
     let r = c.requires.ready in
     let i = c.pages.invariant in
     let body = same_body g.S.FrameSeat.view c.pages.space c.args.space.now i.view i.root i.trapframe i.layout in
-    let near = rw c.in-Some.is at c.next_settled_near.ensures.page r.0 r.1 (space_in_call (rw body r.2)) (i.kept r.0 r.1 r.2) in
+    let near = rw c.in-Some.is at c.next_settled_with_last.ensures.page r.0 r.1 (space_in_call (rw body r.2)) (i.kept r.0 r.1 r.2) in
     let number = c.number-from-in-Some.ensures.value in
     let after = i.after in
     record {
@@ -66,15 +66,15 @@ pages-preserved g c =
         | then-found w ↦ let is = w.count-is in omega (arith, is, i.few, near.0, number)
         | else-found w ↦ let is = w.count-is in omega (arith, is, i.few, near.0, number)
       ];
-      root = c.next_settled_near.ensures.root ∙ i.root;
-      trapframe = c.next_settled_near.ensures.trapframe ∙ i.trapframe;
-      layout = c.next_settled_near.ensures.layout ∙ i.layout;
-      view = c.next_settled_near.ensures.view ∙ i.view;
-      same = c.next_settled_near.ensures.same ∙ i.same;
-      keeps = λ others s. c.next_settled_near.ensures.keeps others (i.keeps others s);
-      kept = λ t p space. c.next_settled_near.ensures.kept t p (space_in_call (rw body space)) (i.kept t p space);
+      root = c.next_settled_with_last.ensures.root ∙ i.root;
+      trapframe = c.next_settled_with_last.ensures.trapframe ∙ i.trapframe;
+      layout = c.next_settled_with_last.ensures.layout ∙ i.layout;
+      view = c.next_settled_with_last.ensures.view ∙ i.view;
+      same = c.next_settled_with_last.ensures.same ∙ i.same;
+      keeps = λ others s. c.next_settled_with_last.ensures.keeps others (i.keeps others s);
+      kept = λ t p space. c.next_settled_with_last.ensures.kept t p (space_in_call (rw body space)) (i.kept t p space);
       count = λ t p space run.
-          let next = rw c.in-Some.is at c.next_settled_near.ensures.page t p (space_in_call (rw body space)) (i.kept t p space) in
+          let next = rw c.in-Some.is at c.next_settled_with_last.ensures.page t p (space_in_call (rw body space)) (i.kept t p space) in
           let file = some_of c.file.result c.if-is_none.ensures in
           let at = sym c.file.ensures ∙ file.1 in
           rw number (elim c.if-found.branch [
@@ -87,8 +87,8 @@ pub returns-clause-count : goal.returns-clause-count
 returns-clause-count g c t p space run =
     let i = c.pages.invariant in
     let body = same_body g.S.FrameSeat.view c.pages.space c.args.space.now i.view i.root i.trapframe i.layout in
-    let next = rw c.in_default.is at c.next_settled_near.ensures.page t p (space_in_call (rw body space)) (i.kept t p space) in
+    let next = rw c.in_default.is at c.next_settled_with_last.ensures.page t p (space_in_call (rw body space)) (i.kept t p space) in
     i.count t p space run ∙ sym (ap length (over t p (run_of c.args.run.now) run c.pages.from next i.after i.within))
 
 pub returns-clause-keeps : goal.returns-clause-keeps
-returns-clause-keeps g c others r = c.next_settled_near.ensures.keeps others (c.pages.invariant.keeps others r)
+returns-clause-keeps g c others r = c.next_settled_with_last.ensures.keeps others (c.pages.invariant.keeps others r)

@@ -14,7 +14,7 @@ word : (g : given.Over) (c : After-load-word g) (t : Tables) → HasTables c.arg
     → c.load-word.result ≡ unwrap_or (get t.leaves (walk_leaf c.args.scheme c.args.page)) 0
 word g c t h k =
     let table : get t.tables (last_table c.args.scheme c.args.page) ≡ Some c.in_ok-table.table.0 = sym (c.in_ok-table.ensures.table t h k) in
-    c.load-word.ensures.known _ (rw (c.table_near.ensures.view, c.index.ensures.value) (leaf_word_is _ _ t h c.args.page _ table))
+    c.load-word.ensures.known _ (rw (c.table_with_last.ensures.view, c.index.ensures.value) (leaf_word_is _ _ t h c.args.page _ table))
 
 pub returns-then-word-eq0-clause-leaf : goal.returns-then-word-eq0-clause-leaf
 returns-then-word-eq0-clause-leaf g c t h k =

@@ -1,15 +1,8 @@
-use Rattle.std.proofs.Common.{sym, ℕ, ◌≡◌, ◌<◌, ◌∙◌, arith}
+use Rattle.std.proofs.Common.{sym, ◌∙◌}
 use Rattle.address_space.proofs.SettledPages.{names_frame, no_leaf, page_is}
 use Rattle.address_space.proofs.space.Space.settled_page.Goals as goal
-use Rattle.address_space.proofs.LowLeaves.{up_number, below_trapframe, number_of_scheme}
-use Rattle.table_walk.specs.Tables.{walk_leaf, leaf_node}
+use Rattle.address_space.proofs.LowLeaves.{below_trapframe, number_is}
 use Rattle.table_walk.specs.LowPages.{tables_of_scheme}
-use Rattle.sv39_entry.specs.Schemes.{trapframe_page, of_scheme}
-use Rattle.sv39_entry.specs.declared.scheme.Scheme.{Scheme}
-
--- the number of the page's leaf by the scheme that code has
-number_is : {x y : Scheme} (page : ℕ) → x ≡ y → page < trapframe_page x → walk_leaf y page ≡ leaf_node page
-number_is {x} page same low = number_of_scheme page same (up_number x page (omega (arith, low, of_scheme x)))
 
 pub returns-in_err-leaf-clause-page : goal.returns-in_err-leaf-clause-page
 returns-in_err-leaf-clause-page g c t p space =

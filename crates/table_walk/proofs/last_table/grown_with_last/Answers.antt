@@ -1,5 +1,5 @@
 use Rattle.table_walk.proofs.KeptTables.{grown_here, none_here}
-use Rattle.table_walk.proofs.near.grown_near.Goals as goal
+use Rattle.table_walk.proofs.last_table.grown_with_last.Goals as goal
 
 pub returns-in-Some-clause-tables : goal.returns-in-Some-clause-tables
 returns-in-Some-clause-tables g c t h k =

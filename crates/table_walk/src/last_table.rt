@@ -1,6 +1,6 @@
 // `LastTable`, a struct: the last table on the way to a page, kept from one call to the next, so that pages of one such table
-// need one walk. For the crate the two ways to that table: by look-ups (`table_near`), and with missing tables made
-// (`grown_near`).
+// need one walk. For the crate the two ways to that table: by look-ups (`table_with_last`), and with missing tables made
+// (`grown_with_last`).
 
 ghost use Rattle.std.specs.FinMap.{get};
 ghost use Rattle.std.specs.Prelude.{◌≡◌, ◌≤◌, IfSome, option_map, Some};
@@ -20,8 +20,8 @@ use sv39_entry::{FrameNo, Scheme, Vpn};
 /// common (RISC-V Privileged Architecture 20211203, 4.3.2): of these, only the first needs a walk.
 #[derive(Clone, Copy)]
 pub struct LastTable {
-    pub page: Vpn,
-    pub frame: FrameNo,
+    page: Vpn,
+    frame: FrameNo,
 }
 
 /// Returns the frame of the kept table if it is the last one on the way to `page` too.
@@ -39,7 +39,7 @@ fn kept_table(last: Option<LastTable>, page: Vpn) -> Option<FrameNo>
 /// Returns the last table on the way to `page`, from `last` if it keeps that table, else by a walk; `None` if it is missing.
 /// `last` then keeps the table that was returned, or what it kept before.
 #[inline(always)]
-pub(crate) fn table_near<F: FrameAccess>(
+pub(crate) fn table_with_last<F: FrameAccess>(
     store: &mut F,
     seat: &mut F::Seat,
     scheme: Scheme,
@@ -61,7 +61,7 @@ pub(crate) fn table_near<F: FrameAccess>(
     walk_and_keep(store, seat, scheme, root, page, last)
 }
 
-/// `table_near` by a walk: a function of its own, so that the way without a walk is short enough to be inlined.
+/// `table_with_last` by a walk: a function of its own, so that the way without a walk is short enough to be inlined.
 #[inline(never)]
 fn walk_and_keep<F: FrameAccess>(
     store: &mut F,
@@ -87,7 +87,7 @@ fn walk_and_keep<F: FrameAccess>(
 /// Makes the tables that are missing on the way to `page`, each with one credit, and returns the last table on the way, which
 /// `last` then keeps. Walks only if `last` keeps another table, or none.
 #[inline(always)]
-pub(crate) fn grown_near<F: FrameSupply>(
+pub(crate) fn grown_with_last<F: FrameSupply>(
     store: &mut F,
     seat: &mut F::Seat,
     scheme: Scheme,
@@ -108,7 +108,7 @@ pub(crate) fn grown_near<F: FrameSupply>(
     grow_and_keep(store, seat, scheme, root, page, last)
 }
 
-/// `grown_near` by a walk: a function of its own, so that the way without a walk is short enough to be inlined.
+/// `grown_with_last` by a walk: a function of its own, so that the way without a walk is short enough to be inlined.
 #[inline(never)]
 fn grow_and_keep<F: FrameSupply>(
     store: &mut F,

@@ -7,9 +7,9 @@ use Rattle.table_walk.specs.Tables.{ChangesTables, HasTables, Tables, last_table
 use Rattle.table_walk.specs.Keys.{remove_same, remove_other}
 use Rattle.table_walk.proofs.Grown.{no_change}
 use Rattle.table_walk.proofs.LeafChanges.{drop_none, drop_page, maps_nothing, others_stay, word_changes}
-use Rattle.table_walk.proofs.change.unmap_near.Given as given
-use Rattle.table_walk.proofs.change.unmap_near.Goals as goal
-use Rattle.table_walk.proofs.change.unmap_near.Goals.{After-from_residual, After-store}
+use Rattle.table_walk.proofs.change.unmap_with_last.Given as given
+use Rattle.table_walk.proofs.change.unmap_with_last.Goals as goal
+use Rattle.table_walk.proofs.change.unmap_with_last.Goals.{After-from_residual, After-store}
 
 -- there is no leaf
 

@@ -1,4 +1,4 @@
-use Rattle.table_walk.proofs.near.grow_and_keep.Goals as goal
+use Rattle.table_walk.proofs.last_table.grow_and_keep.Goals as goal
 
 pub returns-clause-tables : goal.returns-clause-tables
 returns-clause-tables g c t h =

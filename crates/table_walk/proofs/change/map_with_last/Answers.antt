@@ -8,20 +8,20 @@ use Rattle.table_walk.specs.Tables.{ChangesTables, HasTables, Tables, IsGrown, l
 use Rattle.table_walk.proofs.Grown.{still_anchored}
 use Rattle.table_walk.specs.Keys.{insert_same, insert_other}
 use Rattle.table_walk.proofs.LeafChanges.{maps_leaf, others_stay, put_page, word_changes}
-use Rattle.table_walk.proofs.change.map_near.Given as given
-use Rattle.table_walk.proofs.change.map_near.Goals as goal
-use Rattle.table_walk.proofs.change.map_near.Goals.{After-store}
+use Rattle.table_walk.proofs.change.map_with_last.Given as given
+use Rattle.table_walk.proofs.change.map_with_last.Goals as goal
+use Rattle.table_walk.proofs.change.map_with_last.Goals.{After-store}
 
 stored : (g : given.Over) (c : After-store g) → g.F.Seat.FrameSeat.view c.store.new.seat
-    ≡ with_word c.grown_near-table.result.0 (vpn c.args.page 0) c.args.leaf (g.F.Seat.FrameSeat.view c.grown_near-table.new.seat)
+    ≡ with_word c.grown_with_last-table.result.0 (vpn c.args.page 0) c.args.leaf (g.F.Seat.FrameSeat.view c.grown_with_last-table.new.seat)
 stored g c = search rules
 
 changed : (g : given.Over) (c : After-store g) (t : Tables) → HasTables c.args.scheme (g.F.Seat.FrameSeat.view c.args.seat.now) c.args.root.0 t → IsLastTable c.args.scheme t c.args.last.now
     → (u : Tables) × IsGrown c.args.scheme t u c.args.page (top_level c.args.scheme)
     × HasTables c.args.scheme (g.F.Seat.FrameSeat.view c.store.new.seat) c.args.root.0 (with_leaf u (walk_leaf c.args.scheme c.args.page) c.args.leaf)
-    × ChangesTables (g.F.Seat.FrameSeat.view c.args.seat.now) (g.F.Seat.FrameSeat.view c.store.new.seat) t u (missing c.args.scheme t c.args.page) × IsLastTable c.args.scheme u c.grown_near-table.new.last
+    × ChangesTables (g.F.Seat.FrameSeat.view c.args.seat.now) (g.F.Seat.FrameSeat.view c.store.new.seat) t u (missing c.args.scheme t c.args.page) × IsLastTable c.args.scheme u c.grown_with_last-table.new.last
 changed g c t h k =
-    let x = c.grown_near-table.ensures.tables t h k in
+    let x = c.grown_with_last-table.ensures.tables t h k in
     let u = x.0 in
     let changes = word_changes _ _ t u _ x.3 (last_table c.args.scheme c.args.page) _ (vpn c.args.page 0) c.args.leaf x.4 in (
       u,
