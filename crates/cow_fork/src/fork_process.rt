@@ -1,7 +1,7 @@
-// The calls `fork` and `fork_listed` by copy-on-write (MIT 6.1810, copy-on-write lab), and the enum `ForkError`, why one is
-// refused. A fork reserves frames, takes references to those to be shared, builds the child's page tables, sets the parent's
-// fork marks (the next store takes the page over), and splits the child's seat (an owner's capability at a frame store) off
-// the parent's.
+// The calls `fork`, `fork_with` and `fork_listed` by copy-on-write (MIT 6.1810, copy-on-write lab), and the enum `ForkError`,
+// why one is refused. A fork reserves frames, takes references to those to be shared, builds the child's page tables, sets
+// the parent's fork marks (the next store takes the page over), and splits the child's seat (an owner's capability at a frame
+// store) off the parent's.
 
 ghost use Rattle.std.specs.Prelude.{[], ◌∷◌, ◌≡◌, ◌-◌, ◌↔◌, ◌<◌, ◌≤◌, if◌then◌else◌, IfErr, IfOk, is_ok, length, List, map, ℕ};
 ghost use Rattle.address_space.specs.Agreement.{body, body_of, IsSpace};
@@ -109,6 +109,34 @@ pub fn fork<S: FrameSeat, F: FrameSupply<Seat = S>>(
     ensures keeps_refused { IfErr result (λ _. KeepsSeats F.rule store.old space.old.seat store.new space.new.seat) }
 {
     let mut list = PageList::new();
+    fork_with(space, store, &mut list)
+}
+
+/// `fork`, which lists the settled pages in `list`, so that a caller that forks again and again needs one list.
+///
+/// # Errors
+/// Those of `fork`, in the same cases.
+pub fn fork_with<S: FrameSeat, F: FrameSupply<Seat = S>>(
+    space: &mut Space<S>,
+    store: &mut F,
+    list: &mut PageList,
+) -> Result<Space<S>, ForkError>
+    requires fits { IsSeatOf F.rule store.old space.old.seat }
+    requires ready { (t : Tables) × (p : Process) × IsSpace (body_of S.view space.old) t p }
+    ensures forked { IfOk result (λ child. HasForked (body_of S.view space.old) (body_of S.view space.new) (body_of S.view child)) }
+    ensures whole { IfErr result (λ _. (t : Tables) (p : Process) → IsSpace (body_of S.view space.old) t p → IsSpace (body_of S.view space.new) t p) }
+    ensures dry { IsNoFrameError result → (t : Tables) (p : Process) → IsSpace (body_of S.view space.old) t p → RunsDry (S.view space.old.seat) (S.view space.new.seat) (model.fork_need p) [] }
+    ensures full { IsSharersFullError result → TakesFrames (S.view space.old.seat) (S.view space.new.seat) 0 (65535 ∷ []) }
+    ensures short { F.alone → (t : Tables) (p : Process) → IsSpace (body_of S.view space.old) t p → IsNoFrameError result ↔ (F.free store.old < model.fork_need p) }
+    ensures sharers { F.alone → IsSharersFullError result → (f : ℕ) × IsHeld (S.view space.old.seat) f × (F.count store.old f < 65535 → ⊥) }
+    ensures free { F.alone → (t : Tables) (p : Process) → IsSpace (body_of S.view space.old) t p → (IsSharersFullError result → ⊥) →
+        F.free store.new ≡ F.free store.old - (if is_ok result then model.fork_need p else 0) }
+    ensures root { space.new.root ≡ space.old.root }
+    ensures trapframe { space.new.trapframe ≡ space.old.trapframe }
+    ensures layout { space.new.layout ≡ space.old.layout }
+    ensures keeps { IfOk result (λ child. (others : List S) → F.rule store.old (space.old.seat ∷ others) → F.rule store.new (space.new.seat ∷ child.seat ∷ others)) }
+    ensures keeps_refused { IfErr result (λ _. KeepsSeats F.rule store.old space.old.seat store.new space.new.seat) }
+{
     let settled = list.settled_pages(space, store);
     fork_listed(space, store, settled)
 }

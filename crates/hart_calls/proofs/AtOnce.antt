@@ -7,7 +7,7 @@ use Rattle.address_space.specs.Accesses.{IsGranted}
 use Rattle.address_space.specs.Agreement.{Body, IsSpace}
 use Rattle.file_shelf.specs.ShelfStates.{CanRefuse, HasMoves, ShelfState, stays}
 use Rattle.hart_calls.specs.AtOnce.{IsMadeAtOnce}
-use Rattle.hart_calls.specs.CallKinds.{IsAccess, IsPlainCall}
+use Rattle.hart_calls.specs.CallKinds.{IsAccess}
 use Rattle.hart_calls.specs.CallOutcomes.{file_of, reads_of, writes_of}
 use Rattle.hart_calls.specs.CallResults.{address_of, by_reply, RefusesPromise}
 use Rattle.hart_calls.specs.Replay.{call_of, forks, IsReplayStep}
@@ -16,7 +16,8 @@ use Rattle.hart_calls.specs.Track.{AppendsEntry, Track}
 use Rattle.hart_calls.specs.TurnCases.{ContinuesTurn, KeepsFilesOn}
 use Rattle.hart_calls.specs.declared.fork_slot.ForkSlot.{ForkSlot}
 use Rattle.hart_calls.specs.declared.journal_entry.JournalEntry.{JournalEntry}
-use Rattle.hart_calls.proofs.Accessed.{granted, made_at_once, process_at_once}
+use Rattle.hart_calls.proofs.Accessed.{granted, is_access_call, made_at_once, process_at_once}
+use Rattle.hart_calls.proofs.Served.{is_plain_access, maps_none}
 use Rattle.hart_calls.proofs.Turning.{filed, goes, IsEntryOf, leads}
 use Rattle.process_model.specs.Bytes.{is_width}
 use Rattle.process_model.specs.Files.{File}
@@ -41,20 +42,6 @@ module _ (p : Process) (a : AccessRequest) (c : Call) (is : IsAccess c a) (wide 
     result = λ s. (made_at_once s.files p a c is wide x y (λ ms. HasMoves s ms s) (RefusesPromise HasMoves CanRefuse s) (λ n. n ≤ s.room) (granted s.files p a leaf both law).0 (granted s.files p a leaf both law).1 r told_r space (stays s)).1;
   }
 
--- an access is neither fork nor exit
-pub is_plain_call : (c : Call) (a : AccessRequest) → IsAccess c a → IsPlainCall c
-is_plain_call (call.Fetch address) a is = tt
-is_plain_call (call.Load address width) a is = tt
-is_plain_call (call.Store address width value) a is = tt
-is_plain_call (call.Exec image) a is = tt
-is_plain_call (call.Sbrk delta) a is = tt
-is_plain_call (call.Mmap len protection flags file) a is = tt
-is_plain_call (call.Munmap address len) a is = tt
-is_plain_call (call.CopyIn address count) a is = tt
-is_plain_call (call.CopyOut address bytes) a is = tt
-is_plain_call (call.Exit status) a is = is
-is_plain_call (call.Fork list) a is = is
-
 -- nothing was read or written where the files' history is the same
 no_moves : (s : ShelfState) (ms : List PageMove) → HasMoves s ms s → ms ≡ []
 no_moves s [] became = refl
@@ -63,20 +50,6 @@ no_moves s (m ∷ ms) became = absurd (let long = ap (λ (hs : List PageMove). l
 first_none : (xs ys : List PageMove) → xs ++ ys ≡ [] → xs ≡ []
 first_none [] ys none = refl
 first_none (x ∷ xs) ys none = absurd (cc)
-
--- an access maps no file
-no_file : (c : Call) (a : AccessRequest) → IsAccess c a → (files : List File) → None ≡ file_of files c
-no_file (call.Fetch address) a is files = refl
-no_file (call.Load address width) a is files = refl
-no_file (call.Store address width value) a is files = refl
-no_file (call.Exec image) a is files = refl
-no_file (call.Sbrk delta) a is files = refl
-no_file (call.Mmap len protection flags file) a is files = absurd is
-no_file (call.Munmap address len) a is files = refl
-no_file (call.CopyIn address count) a is files = refl
-no_file (call.CopyOut address bytes) a is files = refl
-no_file (call.Exit status) a is files = refl
-no_file (call.Fork list) a is files = refl
 
 module _ (t : Track) (a : AccessRequest) (c : Call) (is : IsAccess c a) (x y : Body) (seen : x.view ≡ t.seat) (r : Reply) (m : IsMadeAtOnce x y t.state a c r)
     (e : JournalEntry) (called : call_of e ≡ c) (answer : e.reply ≡ r) (pages : e.pages ≡ []) (file : e.file ≡ None) where
@@ -88,18 +61,18 @@ module _ (t : Track) (a : AccessRequest) (c : Call) (is : IsAccess c a) (x y : B
     call = called;
     answer = answer;
     pages = pages ∙ sym (first_none (reads_of s.files shortage t.state c) (writes_of s.files shortage t.state c) (no_moves s _ (m.result s).moves));
-    file = file ∙ no_file c a is s.files;
+    file = file ∙ maps_none c (is_access_call c a is) s.files;
   }
 
   pub leads_at_once : (s : ShelfState) (q : Process) → q ≡ (user_access t.state a).process → IsReplayStep s.files (forks t.journal) t.state e q
-  leads_at_once s q state = leads t c (is_plain_call c a is) s s shortage r e (entry_at s) x y seen (m.result s) q (state ∙ m.process s)
+  leads_at_once s q state = leads t c (is_plain_access c (is_access_call c a is)) s s shortage r e (entry_at s) x y seen (m.result s) q (state ∙ m.process s)
 
   pub space_at_once : (s : ShelfState) (q : Process) → q ≡ (user_access t.state a).process → (u : Tables) × IsSpace y u q
   space_at_once s q state = ((m.result s).space.0, subst (λ (z : Process). IsSpace y (m.result s).space.0 z) (sym (state ∙ m.process s)) (m.result s).space.1)
 
   module _ (u : Track) (adds : AppendsEntry t u e) (left : u.seat ≡ y.view) (state : u.state ≡ (user_access t.state a).process) where
     pub goes_at_once : (s : ForkSlot) → ContinuesTurn t u None s
-    goes_at_once slot = goes t c (is_plain_call c a is) no_shelf no_shelf shortage r e (entry_at no_shelf) x y seen (m.result no_shelf) u adds left (state ∙ m.process no_shelf) m.plain slot
+    goes_at_once slot = goes t c (is_plain_access c (is_access_call c a is)) no_shelf no_shelf shortage r e (entry_at no_shelf) x y seen (m.result no_shelf) u adds left (state ∙ m.process no_shelf) m.plain slot
 
     pub filed_at_once : (s : ShelfState) → KeepsFilesOn t u s s
-    filed_at_once s = filed t c (is_plain_call c a is) s s shortage r e (entry_at s) x y seen (m.result s) u adds left (state ∙ m.process s) m.plain
+    filed_at_once s = filed t c (is_plain_access c (is_access_call c a is)) s s shortage r e (entry_at s) x y seen (m.result s) u adds left (state ∙ m.process s) m.plain

@@ -29,7 +29,7 @@ use crate::plain_call::append_entry;
 use crate::run_brand::RunBrand;
 use crate::tracked::Tracked;
 use address_space::Space;
-use cow_fork::{ForkError, PageList, fork_listed};
+use cow_fork::{ForkError, PageList, fork_with};
 use frame_store::{FrameAccess, FrameSeat, FrameSupply};
 use process_model::{Call, Refusal, ScalarReply};
 use shared_frames::{SharedSeat, SharedSupply};
@@ -177,25 +177,6 @@ fn fork_there<S: FrameSeat, F: FrameSupply<Seat = S>>(
         Some(list) => fork_with(space, store, list),
         None => cow_fork::fork(space, store),
     }
-}
-
-/// `cow_fork::fork`, with a list for the settled pages, so that none is made anew.
-fn fork_with<S: FrameSeat, F: FrameSupply<Seat = S>>(
-    space: &mut Space<S>,
-    store: &mut F,
-    list: &mut PageList,
-) -> Result<Space<S>, ForkError>
-    requires fits { IsSeatOf F.FrameAccess.rule store.old space.old.seat }
-    requires ready { (t : Tables) × (p : Process) × IsSpace (body_of S.view space.old) t p }
-    ensures forked { IfOk result (λ child. HasForked (body_of S.view space.old) (body_of S.view space.new) (body_of S.view child)) }
-    ensures whole { IfErr result (λ _. (t : Tables) (p : Process) → IsSpace (body_of S.view space.old) t p → IsSpace (body_of S.view space.new) t p) }
-    ensures dry { IsNoFrameError result → (t : Tables) (p : Process) → IsSpace (body_of S.view space.old) t p → RunsDry (S.view space.old.seat) (S.view space.new.seat) (model.fork_need p) [] }
-    ensures full { IsSharersFullError result → TakesFrames (S.view space.old.seat) (S.view space.new.seat) 0 (65535 ∷ []) }
-    ensures keeps { IfOk result (λ child. (others : List S) → F.FrameAccess.rule store.old (space.old.seat ∷ others) → F.FrameAccess.rule store.new (space.new.seat ∷ child.seat ∷ others)) }
-    ensures keeps_refused { IfErr result (λ _. KeepsSeats F.FrameAccess.rule store.old space.old.seat store.new space.new.seat) }
-{
-    let settled = list.settled_pages(space, store);
-    fork_listed(space, store, settled)
 }
 
 /// Splits an empty seat off the seat of a space in a box.

@@ -1,6 +1,7 @@
 // Crate-internal functions `next_word`, `clear` and `copy`: calls on many words of one frame, each word by one atomic
-// operation or two. Words are taken in groups of eight, whose loops the compiler unrolls: between two atomic operations it
-// keeps nothing that another thread might change, so a loop's own work would cost as much as the words.
+// operation or two. Words are taken in groups of eight, copied ones in groups of four. The compiler unrolls the loop of a
+// group: between two atomic operations it keeps nothing that another thread might change, so a loop's own work would cost as
+// much as the words.
 
 ghost use Rattle.std.specs.Prelude.{◌≡◌, ◌≢◌, ℕ, ◌+◌, ◌-◌, ◌≤◌, true};
 ghost use Rattle.frame_store.specs.NextWord.{AreZeros, IsNextWord};

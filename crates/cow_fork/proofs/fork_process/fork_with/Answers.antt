@@ -8,9 +8,9 @@ use Rattle.process_model.specs.Frames as model
 use Rattle.process_model.specs.Process.{Process}
 use Rattle.table_walk.specs.Tables.{Tables}
 use Rattle.cow_fork.specs.Forks.{HasForked}
-use Rattle.cow_fork.proofs.fork_process.fork.Given as given
-use Rattle.cow_fork.proofs.fork_process.fork.Goals as goal
-use Rattle.cow_fork.proofs.fork_process.fork.Goals.{After-settled_pages-settled}
+use Rattle.cow_fork.proofs.fork_process.fork_with.Given as given
+use Rattle.cow_fork.proofs.fork_process.fork_with.Goals as goal
+use Rattle.cow_fork.proofs.fork_process.fork_with.Goals.{After-settled_pages-settled}
 
 -- ---- listing the pages changes nothing
 
