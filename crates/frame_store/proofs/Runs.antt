@@ -1,6 +1,6 @@
 -- Lemmas: the bounds that `Memory` keeps for each frame (`Runs`: all words outside them are 0) are right after words of
--- one frame and its bounds have changed (`runs_by`), after it was cleared from an index on, and after it was filled; and
--- if a search finds only zeros between the bounds, all words of its range are 0 (`zeros_by`).
+-- one frame and its bounds have changed (`runs_by`), after it was cleared from an index on, filled, or copied from another;
+-- and if a search finds only zeros between the bounds, all words of its range are 0 (`zeros_by`).
 use Rattle.std.proofs.Common.{◌≡◌, ◌≢◌, ℕ, ◌+◌, ◌-◌, ◌*◌, ◌<◌, ◌≤◌, inl, inr, List, length, slice_index, arith, refl, ◌∙◌}
 use Rattle.std.specs.Prelude.{slice_set, min, max}
 use Rattle.std.proofs.lemmas.Bool.{cases_eq, cases_lt}
@@ -100,3 +100,15 @@ module _ (words lows highs : List ℕ) (f : ℕ) (r : Runs words lows highs) (ro
       (λ g ne. get_or-set_other lows f g _ 0 ne) (λ g ne. get_or-set_other highs f g _ 0 ne) (omega (arith, low))
       (λ i from lt. absurd (omega (arith, low, lt)))
       (λ i from lt. puts_here words lows highs f r words' 0 n word (omega (arith, small)) p i (λ a b. omega (arith, b, here, from)) ∙ r.behind f i (omega (arith, here, from)) lt)
+
+-- a frame is copied, with its bounds
+module _ (words lows highs : List ℕ) (from f : ℕ) (r : Runs words lows highs) (room : 512 * f + 512 ≤ length words) (words' : List ℕ) (p : PutsMany words words' f 0 512 (λ i. slice_index words (512 * from + i))) where
+  pub runs_copied : Runs words' (slice_set lows f (slice_index lows from)) (slice_set highs f (slice_index highs from))
+  runs_copied =
+      let low : slice_index (slice_set lows f (slice_index lows from)) f ≡ slice_index lows from = get_or-set_same lows f _ 0 (in_lows words lows highs f r room) in
+      let high : slice_index (slice_set highs f (slice_index highs from)) f ≡ slice_index highs from = get_or-set_same highs f _ 0 (in_highs words lows highs f r room) in
+      runs_by words lows highs words' (slice_set lows f (slice_index lows from)) (slice_set highs f (slice_index highs from)) f r p.long (length-set lows f _) (length-set highs f _)
+      (puts_apart words lows highs f r words' 0 512 _ (omega arith) p)
+      (λ g ne. get_or-set_other lows f g _ 0 ne) (λ g ne. get_or-set_other highs f g _ 0 ne) (omega (arith, low, r.small from))
+      (λ i none lt. p.inside i none (omega (arith, low, lt, r.small from)) ∙ r.before from i none (omega (arith, low, lt)))
+      (λ i above lt. p.inside i (omega arith) (omega (arith, lt)) ∙ r.behind from i (omega (arith, high, above)) lt)

@@ -1,9 +1,9 @@
 // `Memory`, a crate-internal struct: the 512 words of each frame of `PlainFrames`, and for each frame two bounds between
-// which its nonzero words lie, so that searches skip zeros. Functions: read a word, search for the next nonzero word
+// which its nonzero words lie, so that searches and clears skip zeros. Functions: read a word, search for the next nonzero word
 // (`next`) or for one that names no frame of zeros (`next_busy`), store, clear, fill and copy.
 
 ghost use Rattle.std.specs.Int.{from_le_bytes, w64};
-ghost use Rattle.std.specs.Prelude.{◌≡◌, ◌+◌, ◌-◌, ◌*◌, ◌/◌, ◌<◌, ◌≤◌, ◌≢◌, false, IfOk, length, drop, replicate, slice_index, slice_set, take, true};
+ghost use Rattle.std.specs.Prelude.{◌≡◌, ◌+◌, ◌-◌, ◌*◌, ◌/◌, ◌<◌, ◌≤◌, ◌≢◌, ℕ, false, IfOk, length, drop, replicate, slice_index, slice_set, take, true};
 ghost use Rattle.frame_store.specs.ZeroWords.{IsIdle, IsNextBusy, IsNextIn, NamesBlank, PutsMany, ZerosIn};
 
 use crate::bytes::put_words;
@@ -17,7 +17,8 @@ const WORDS: usize = 512;
 
 /// The words of all frames, frame by frame; contracts see this list. For each frame, two indices bound its nonzero words: a
 /// store moves them apart, and a search that reads zeros moves them together. So once a search has found a whole frame to be
-/// zeros, no search reads its words until the frame is written again.
+/// zeros, no search reads its words until the frame is written again; and to clear a frame, only the words between the
+/// bounds are zeroed.
 #[derive(Drop)]
 pub(crate) struct Memory {
     words: Vec<u64>,
@@ -178,14 +179,16 @@ impl Memory {
         self.highs[frame.0 as usize] = self.highs[frame.0 as usize].max(place + 1);
     }
 
-    /// Zeroes the words of a frame from index `first` on.
+    /// Zeroes the words of a frame from index `first` on. Those outside the frame's bounds are zeros already.
     pub(crate) fn clear(&mut self, frame: FrameNo, first: usize)
         requires room { 512 * frame.0 + 512 ≤ length self.old }
         requires in_page { first ≤ 512 }
         ensures { PutsMany self.old self.new frame.0 first (512 - first) (λ _. 0) }
     {
         let base = WORDS * frame.0 as usize;
-        self.words[base + first..base + WORDS].fill(0);
+        let to = WORDS.min(self.highs[frame.0 as usize] as usize);
+        let from = to.min(first.max(self.lows[frame.0 as usize] as usize));
+        self.words[base + from..base + to].fill(0);
         self.highs[frame.0 as usize] = self.highs[frame.0 as usize].min(first as u16);
         if first > 0 {
             return;
@@ -205,16 +208,43 @@ impl Memory {
         self.highs[frame.0 as usize] = self.highs[frame.0 as usize].max((bytes.len() / 8) as u16);
     }
 
-    /// Copies all words of the frame `from` to the frame `to`.
+    /// Copies all words of the frame `from` to another frame, `to`.
     pub(crate) fn copy(&mut self, from: FrameNo, to: FrameNo)
         requires from { 512 * from.0 + 512 ≤ length self.old }
         requires to { 512 * to.0 + 512 ≤ length self.old }
+        requires apart { from.0 ≢ to.0 }
         ensures { PutsMany self.old self.new to.0 0 512 (λ i. slice_index self.old (512 * from.0 + i)) }
     {
-        let source = WORDS * from.0 as usize;
-        let target = WORDS * to.0 as usize;
-        self.words.copy_within(source..source + WORDS, target);
+        copy_words(self.words.as_mut_slice(), from.0 as usize, to.0 as usize);
         self.lows[to.0 as usize] = self.lows[from.0 as usize];
         self.highs[to.0 as usize] = self.highs[from.0 as usize];
+    }
+}
+
+/// Copies the words of a frame, which begin at `start` in `from`, to those that begin at `at` in `to`: in one piece, which is
+/// faster than word by word.
+fn put_frame(to: &mut [u64], at: usize, from: &[u64], start: usize)
+    requires from { start + 512 ≤ length from.now }
+    requires to { at + 512 ≤ length to.old }
+    ensures len { length to.new ≡ length to.old }
+    ensures inside { (q : ℕ) → q < 512 → slice_index to.new (at + q) ≡ slice_index from.now (start + q) }
+    ensures outside { (p : ℕ) → (at ≤ p → p < at + 512 → ⊥) → slice_index to.new p ≡ slice_index to.old p }
+{
+    to[at..at + WORDS].copy_from_slice(&from[start..start + WORDS]);
+}
+
+/// Copies all words of the frame with number `from` to another one, `to`.
+fn copy_words(words: &mut [u64], from: usize, to: usize)
+    requires from { 512 * from + 512 ≤ length words.old }
+    requires to { 512 * to + 512 ≤ length words.old }
+    requires apart { from ≢ to }
+    ensures { PutsMany words.old words.new to 0 512 (λ i. slice_index words.old (512 * from + i)) }
+{
+    if from < to {
+        let (front, back) = words.split_at_mut(WORDS * to);
+        put_frame(back, 0, front, WORDS * from);
+    } else {
+        let (front, back) = words.split_at_mut(WORDS * from);
+        put_frame(front, WORDS * to, back, 0);
     }
 }
