@@ -32,6 +32,10 @@ too_few need free few = elim (cases_lt free need) [
   | inr enough ↦ absurd (let wrong = few enough in cc)
 ]
 
+pub few_if_err : {A E : Type 0} (r : Result A E) (need free : ℕ) → IsOk r ↔ (need ≤ free) → IfErr r (λ _. free < need)
+few_if_err (Ok a) need free exact = tt
+few_if_err (Err e) need free exact = too_few need free exact.1
+
 pub none_gone : (r : Result (Unit {0}) ResidenceError) (need a b : ℕ) → IsErr r → a ≡ b - 0 → a ≡ b - taken_of r need
 none_gone (Ok x) need a b err is = absurd (cc)
 none_gone (Err e) need a b err is = is

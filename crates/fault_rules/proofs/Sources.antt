@@ -1,6 +1,6 @@
--- Lemmas on the bytes with which a page begins: a source that is no file has zeros and reads no page; a whole page is not
--- padded; and a page of a process lies in its region, whose bytes of a file are in reach (`HoldsPage`).
-use Rattle.std.proofs.Common.{◌≡◌, ℕ, true, false, ◌-◌, ◌<◌, ◌≤◌, inl, inr, refl, ap, sym, subst, ◌∙◌, arith, List, [], ◌∷◌, Option, Some, length, option_map, replicate, take}
+-- Lemmas on the bytes with which a page begins: a source that is no file has zeros and reads no page; a file has those of its
+-- page, which are read; a whole page is not padded; and a page of a process lies in its region, whose bytes of a file are in reach (`HoldsPage`).
+use Rattle.std.proofs.Common.{◌≡◌, ℕ, true, false, ◌+◌, ◌*◌, ◌-◌, ◌<◌, ◌≤◌, inl, inr, refl, ap, sym, subst, ◌∙◌, arith, List, [], ◌∷◌, Option, Some, length, option_map, replicate, take}
 use Rattle.std.proofs.lemmas.Grind.{common_steps}
 use Rattle.std.proofs.lemmas.List.{append-nil, take_all}
 use Rattle.std.proofs.lemmas.Option.{same_Some}
@@ -10,8 +10,9 @@ use Rattle.address_space.specs.declared.region.Source.{Source as From}
 use Rattle.address_space.specs.declared.region.Source.TheVariants as from
 use Rattle.fault_rules.specs.MadeResident.{moves_from}
 use Rattle.process_model.specs.Bytes.{padded}
-use Rattle.process_model.specs.Files.{File}
+use Rattle.process_model.specs.Files.{File, file_page}
 use Rattle.process_model.specs.Order.{HasNoFile, HasOrder, IsInReach, is_file, IsMapping}
+use Rattle.process_model.specs.PageMoves.{page_read}
 use Rattle.process_model.specs.Process.{Process, heap_of, regions}
 use Rattle.process_model.specs.RegionRows.{each_at, first_or_second, held, here_or_later}
 use Rattle.process_model.specs.Regions.{end_of, file, holds_page, image, Region, region_at, Source, zeros}
@@ -28,6 +29,17 @@ pub no_file_moves : (files : List File) (s : From) (at : ℕ) → ((n offset : �
 no_file_moves files from.Zeros at none = refl
 no_file_moves files from.Image at none = refl
 no_file_moves files (from.File n offset) at none = absurd (none n offset refl)
+
+-- ---- a source that is a file
+
+module _ (files : List File) (r : Region) (n offset at page : ℕ) (is : r.source ≡ file n offset) (there : at ≡ offset + 4096 * (page - r.first)) where
+  -- a page begins with the bytes of its file from this place on
+  pub file_begins : source_page files r.source (4096 * (page - r.first)) ≡ file_page files n at
+  file_begins = ap (λ s. source_page files s (4096 * (page - r.first))) is ∙ ap (file_page files n) (sym there)
+
+  -- and they are what is read for it
+  pub file_moves : moves_from files r.source (4096 * (page - r.first)) ≡ page_read n at (file_page files n at) ∷ []
+  file_moves = ap (λ s. moves_from files s (4096 * (page - r.first))) is ∙ ap (λ a. page_read n a (file_page files n a) ∷ []) (sym there)
 
 -- ---- bytes of a page
 

@@ -2,27 +2,29 @@
 // its first frame, with zeros or bytes of its file; a settled page is taken over for a store (copy-on-write). Enum
 // `ResidenceError`: too few frames, or the files refused the promise (reservation) of a page read.
 
-ghost use Rattle.std.specs.Prelude.{[], ◌≡◌, ◌≢◌, ◌-◌, ◌<◌, ◌≤◌, ◌↔◌, Err, if◌then◌else◌, IfOk, false, IsOk, length, None, Some};
+ghost use Rattle.std.specs.Prelude.{[], ◌≡◌, ◌≢◌, ◌+◌, ◌-◌, ◌*◌, ◌^◌, ◌<◌, ◌≤◌, ◌↔◌, ℕ, Err, if◌then◌else◌, IfErr, IfOk, is_ok, false, IsOk, length, List, None, Some};
 ghost use Rattle.address_space.specs.Agreement.{body_of, IsSpace};
 ghost use Rattle.address_space.specs.Layouts.{region_of};
 ghost use Rattle.fault_rules.specs.MadeResident.{CanMakeResident, HasMadeResident, IsNoFrameError, resident_reads, LacksFrames, taken_of, WhenMadeResident};
 ghost use Rattle.fault_rules.specs.declared.residence.ResidenceError.TheVariants.{Unpromised};
 ghost use Rattle.file_cabinet.specs.declared.promise.PromiseError.{PromiseError};
 ghost use Rattle.frame_store.specs.Laws.{IsSeatOf, KeepsSeats};
+ghost use Rattle.process_model.specs.Bytes.{padded};
 ghost use Rattle.process_model.specs.Files.{File};
 ghost use Rattle.process_model.specs.PageMap.{get};
-ghost use Rattle.process_model.specs.Process.{Process};
-ghost use Rattle.process_model.specs.Regions.{lacks_right};
-ghost use Rattle.process_model.specs.Residence.{leaves_mark};
+ghost use Rattle.process_model.specs.Process.{Process, regions};
+ghost use Rattle.process_model.specs.Regions as model;
+ghost use Rattle.process_model.specs.Regions.{lacks_right, region_at};
+ghost use Rattle.process_model.specs.Residence.{leaves_mark, source_page};
 ghost use Rattle.sv39_entry.specs.declared.access.Access.TheVariants.{Store};
 ghost use Rattle.table_walk.specs.Tables.{Tables};
 
-use crate::settle::{initial_bytes, settle_as};
+use crate::settle::settle_as;
 use crate::take_over::take_over;
 use address_space::{Region, RegionKind, Source, Space};
 use file_cabinet::{Files, PromiseError};
 use frame_store::{FrameSeat, FrameSupply, NoFrame};
-use sv39_entry::{Access, Vpn};
+use sv39_entry::{Access, PAGE_SIZE, Vpn};
 
 /// Why a page is not made resident.
 #[derive(Clone, Copy, PartialEq, Eq, Debug)]
@@ -135,24 +137,40 @@ fn settle_initial<S: FrameSeat, F: FrameSupply<Seat = S>, C: Files>(
     let Some(region) = space.layout.region_at(page.number()) else {
         unreachable!()
     };
-    if let Source::File { .. } = region.source {
-        return settle_from_file(space, store, files, page, access);
-    }
-    settle_as(space, store, page, &[], is_to_mark(&region, access))?;
-    Ok(())
+    let Source::File { file, offset } = region.source else {
+        settle_bytes(space, store, page, access, &region, &[])?;
+        return Ok(());
+    };
+    let at = place_in_file(&region, offset, page.number());
+    settle_from_file(
+        space,
+        store,
+        files,
+        page,
+        access,
+        &region,
+        file as usize,
+        at,
+    )
 }
 
-/// `settle_initial` for a page of a file, whose bytes are read into an array first.
+/// `settle_initial` for a page of a file, which begins at byte `at` of it: by the file's bytes where they lie, or by an array
+/// into which they are read.
 fn settle_from_file<S: FrameSeat, F: FrameSupply<Seat = S>, C: Files>(
     space: &mut Space<S>,
     store: &mut F,
     files: &mut C,
     page: Vpn,
     access: Access,
+    region: &Region,
+    file: usize,
+    at: usize,
 ) -> Result<(), ResidenceError>
     requires fits { IsSeatOf F.rule store.old space.old.seat }
     requires ready { (t : Tables) × (p : Process) × CanMakeResident (body_of S.view space.old) t p access page }
     requires unsettled { (t : Tables) (p : Process) → IsSpace (body_of S.view space.old) t p → get p.settled page ≡ None }
+    requires region { (t : Tables) (p : Process) → IsSpace (body_of S.view space.old) t p → region_at (regions p) page ≡ Some (region_of region.now) }
+    requires source { (offset : ℕ) × ((region_of region.now).source ≡ model.file file offset) × (at ≡ offset + 4096 * (page - region.now.first)) }
     ensures resident { IfOk result (λ _. HasMadeResident (body_of S.view space.old) (body_of S.view space.new) (C.files files.old) access page (λ f c. F.alone → c ≡ F.count store.old f)) }
     ensures dry { IsNoFrameError result → LacksFrames (body_of S.view space.old) (body_of S.view space.new) access page }
     ensures whole { IsNoFrameError result → (t : Tables) (p : Process) → IsSpace (body_of S.view space.old) t p → IsSpace (body_of S.view space.new) t p }
@@ -170,13 +188,59 @@ fn settle_from_file<S: FrameSeat, F: FrameSupply<Seat = S>, C: Files>(
     ensures layout { space.new.layout ≡ space.old.layout }
     ensures keeps { KeepsSeats F.rule store.old space.old.seat store.new space.new.seat }
 {
-    let Some(region) = space.layout.region_at(page.number()) else {
-        unreachable!()
-    };
+    files.promise(1)?;
+    if let Some(bytes) = files.lent_page(file, at) {
+        settle_bytes(space, store, page, access, region, bytes)?;
+        return Ok(());
+    }
     let mut bytes = [0; 4096];
-    initial_bytes(files, &region, page.number(), &mut bytes)?;
-    settle_as(space, store, page, &bytes, is_to_mark(&region, access))?;
+    files.read_page(file, at, &mut bytes);
+    settle_bytes(space, store, page, access, region, &bytes)?;
     Ok(())
+}
+
+/// Settles an unsettled page of a region with the bytes, at most 4,096, with which it begins, and zeros after them; with the
+/// stored mark if the access is a store and stores are written back to a file.
+///
+/// # Errors
+/// `NoFrame`: as for `make_resident`.
+fn settle_bytes<S: FrameSeat, F: FrameSupply<Seat = S>>(
+    space: &mut Space<S>,
+    store: &mut F,
+    page: Vpn,
+    access: Access,
+    region: &Region,
+    bytes: &[u8],
+) -> Result<(), NoFrame>
+    requires fits { IsSeatOf F.rule store.old space.old.seat }
+    requires ready { (t : Tables) × (p : Process) × CanMakeResident (body_of S.view space.old) t p access page }
+    requires unsettled { (t : Tables) (p : Process) → IsSpace (body_of S.view space.old) t p → get p.settled page ≡ None }
+    requires region { (t : Tables) (p : Process) → IsSpace (body_of S.view space.old) t p → region_at (regions p) page ≡ Some (region_of region.now) }
+    requires inside { length bytes.now ≤ 4096 }
+    ensures resident { IfOk result (λ _. (files : List File) → padded 4096 bytes.now ≡ source_page files (region_of region.now).source (4096 * (page - region.now.first)) → HasMadeResident (body_of S.view space.old) (body_of S.view space.new) files access page (λ f c. F.alone → c ≡ F.count store.old f)) }
+    ensures dry { IfErr result (λ _. LacksFrames (body_of S.view space.old) (body_of S.view space.new) access page) }
+    ensures whole { IfErr result (λ _. (t : Tables) (p : Process) → IsSpace (body_of S.view space.old) t p → IsSpace (body_of S.view space.new) t p) }
+    ensures enough { F.alone → WhenMadeResident (body_of S.view space.old) access page (F.count store.old) (λ need. IsOk result → need ≤ F.free store.old) }
+    ensures short { F.alone → WhenMadeResident (body_of S.view space.old) access page (F.count store.old) (λ need. IfErr result (λ _. F.free store.old < need)) }
+    ensures free { F.alone → WhenMadeResident (body_of S.view space.old) access page (F.count store.old) (λ need. F.free store.new ≡ F.free store.old - (if is_ok result then need else 0)) }
+    ensures root { space.new.root ≡ space.old.root }
+    ensures trapframe { space.new.trapframe ≡ space.old.trapframe }
+    ensures layout { space.new.layout ≡ space.old.layout }
+    ensures keeps { KeepsSeats F.rule store.old space.old.seat store.new space.new.seat }
+{
+    let mark = is_to_mark(region, access);
+    settle_as(space, store, page, bytes, mark)
+}
+
+/// Returns the byte of its file, which is mapped from byte `offset` on, with which a page of the region begins. The page is
+/// given by its number.
+fn place_in_file(region: &Region, offset: u64, page: u64) -> usize
+    requires from { region.now.first ≤ page }
+    requires to { page < region.now.first + region.now.pages }
+    requires reach { offset + 4096 * region.now.pages < 2 ^ 64 }
+    ensures { result ≡ offset + 4096 * (page - region.now.first) }
+{
+    (offset + (page - region.first) * PAGE_SIZE) as usize
 }
 
 /// Whether an unsettled page of the region gets the stored mark for an access that the region grants: for a store to a

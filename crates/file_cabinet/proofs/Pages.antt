@@ -14,6 +14,10 @@ use Rattle.process_model.specs.Files.{written_over}
 pub zeros_of_nothing : (n offset : ℕ) → replicate n 0 ≡ padded n (drop offset [])
 zeros_of_nothing n offset = let none = drop-nil {A = ℕ} offset in rw none (grind (arith, common_steps))
 
+-- what is past the front of n bytes is not in a page of n bytes
+pub padded_front : (n : ℕ) (bytes : List ℕ) → padded n (take n bytes) ≡ padded n bytes
+padded_front n bytes = grind (arith, common_steps)
+
 -- what lies behind an offset, which may be past the end
 pub rest_of : (bytes : List ℕ) (offset start : ℕ) → start ≡ min offset (length bytes) → take (length bytes - start) (drop start bytes) ≡ drop offset bytes
 rest_of bytes offset start is = between_to_end bytes start (length bytes) (omega arith) ∙ ap (λ i. drop i bytes) is ∙ drop_min offset bytes

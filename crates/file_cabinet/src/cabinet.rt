@@ -1,5 +1,5 @@
 // `Cabinet`, a struct: the files of a single thread, in host memory, with `new`, `bytes` and the calls of the trait
-// `Files` (promise, read and write a page, length, writable). A promise, so that these page reads and writes cannot fail,
+// `Files` (promise, read, lend and write a page, length, writable). A promise, so that these page reads and writes cannot fail,
 // is never refused.
 
 ghost use Rattle.std.specs.Prelude.{◌≡◌, ◌≤◌, All, IfOk, IsTrue, length, map, option_copied, option_map, slice_get};
@@ -92,6 +92,10 @@ impl Files for Cabinet {
             return;
         };
         held.read(offset, bytes);
+    }
+
+    fn lent_page(&self, file: usize, offset: usize) -> Option<&[u8]> {
+        Some(self.file(file)?.page(offset))
     }
 
     fn write_page(&mut self, file: usize, offset: usize, bytes: &[u8; 4096]) {

@@ -1,9 +1,10 @@
 // The trait `Files`: files of a fixed length that are read and written in pages of 4,096 bytes. `promise` comes first, so
-// that the promised reads and writes cannot fail (`read_page`, `write_page`); only a promise may be refused. Also the
-// length of a file, whether it may be written, and the laws of all files.
+// that the promised reads and writes cannot fail (`read_page`, `lent_page`, `write_page`); only a promise may be refused. Also
+// the length of a file, whether it may be written, and the laws of all files.
 
-ghost use Rattle.std.specs.Prelude.{◌≡◌, ◌+◌, ◌<◌, ◌≤◌, ◌∷◌, ◌++◌, [], ℕ, IfErr, IfOk, length, List, option_map, slice_get};
+ghost use Rattle.std.specs.Prelude.{◌≡◌, ◌+◌, ◌<◌, ◌≤◌, ◌∷◌, ◌++◌, [], ℕ, IfErr, IfOk, IfSome, length, List, option_map, slice_get};
 ghost use Rattle.file_cabinet.specs.declared.promise.PromiseError.{PromiseError};
+ghost use Rattle.process_model.specs.Bytes.{padded};
 ghost use Rattle.process_model.specs.Files.{File, file_page, is_writable};
 ghost use Rattle.process_model.specs.PageMoves.{files_after, page_read, page_write, PageMove};
 
@@ -41,6 +42,21 @@ pub trait Files {
         ensures bytes { bytes.new ≡ file_page (files self.old) file offset }
         ensures rest { room self.old ≤ 1 + room self.new }
         ensures moves { becomes self.old (page_read file offset (file_page (files self.old) file offset) ∷ []) self.new };
+
+    /// Lends the bytes of a file from byte `offset` on, at most 4,096, where they lie: those that `read_page` reads, without the
+    /// zeros past the file's end. This is a read of that page, and needs a promised page, of which it uses up none. `None`, and
+    /// nothing is read, if there is no such file, or if these files lend none, as files do that keep a history of page reads;
+    /// then `read_page` reads the page.
+    fn lent_page(&self, file: usize, offset: usize) -> Option<&[u8]>
+        requires promised { 0 < room self.now }
+        ensures short { IfSome result (λ bytes. length bytes.now ≤ 4096) }
+        ensures bytes { IfSome result (λ bytes. padded 4096 bytes.now ≡ file_page (files self.now) file offset) }
+        ensures moves { IfSome result (λ _. becomes self.now (page_read file offset (file_page (files self.now) file offset) ∷ []) self.now) }
+    {
+        let _ = file;
+        let _ = offset;
+        None
+    }
 
     /// Writes 4,096 bytes to a file, from byte `offset` on and up to its length; none if there is no such file. Whether the
     /// file may be written is not asked. Needs a promised page, and uses up at most one.

@@ -1,7 +1,7 @@
 // `HeldFile`, a crate-internal struct: one file of a cabinet, its bytes in host memory and whether it may be written; it
 // is made as declared, and read and written in pages of 4,096 bytes from any offset.
 
-ghost use Rattle.std.specs.Prelude.{◌≡◌, drop, IfOk};
+ghost use Rattle.std.specs.Prelude.{◌≡◌, ◌≤◌, drop, IfOk, length, take};
 ghost use Rattle.process_model.specs.Bytes.{padded};
 ghost use Rattle.process_model.specs.Files.{written_over};
 ghost use Rattle.process_model.specs.Script.{file_of};
@@ -56,15 +56,23 @@ impl HeldFile {
         self.writable
     }
 
+    /// Returns the bytes of the file from byte `offset` on, at most 4,096.
+    pub fn page(&self, offset: usize) -> &[u8]
+        ensures short { length result.now ≤ 4096 }
+        ensures bytes { result.now ≡ take 4096 (drop offset (self.now).bytes) }
+    {
+        let bytes = self.contents.as_slice();
+        let rest = &bytes[offset.min(bytes.len())..];
+        &rest[..rest.len().min(4096)]
+    }
+
     /// Reads 4,096 bytes of the file, from byte `offset` on, into `page`, with zeros past the file's end.
     pub fn read(&self, offset: usize, page: &mut [u8; 4096])
         ensures { page.new ≡ padded 4096 (drop offset (self.now).bytes) }
     {
-        let bytes = self.contents.as_slice();
-        let rest = &bytes[offset.min(bytes.len())..];
-        let count = rest.len().min(page.len());
-        page[..count].copy_from_slice(&rest[..count]);
-        page[count..].fill(0);
+        let held = self.page(offset);
+        page[..held.len()].copy_from_slice(held);
+        page[held.len()..].fill(0);
     }
 
     /// Writes 4,096 bytes to the file, from byte `offset` on and up to its length, which stays.

@@ -1,6 +1,6 @@
-// Tests that `Cabinet` (the files of a machine) keeps the lengths and modes of sixteen files, and reads and writes pages at
-// the ends of files, past them, and of files that do not exist: rows of file, offset, place and byte. And builders of files
-// for other tests (`cabinet`, `three_files`).
+// Tests that `Cabinet` (the files of a machine) keeps the lengths and modes of sixteen files, and reads, lends and writes
+// pages at the ends of files, past them, and of files that do not exist: rows of file, offset, place and byte. And builders
+// of files for other tests (`cabinet`, `three_files`).
 
 ghost use Rattle.std.specs.Prelude.{◌≡◌};
 ghost use Rattle.process_model.specs.Script.{fits_file};
@@ -128,6 +128,14 @@ fn reads_pages(rt: HostRuntime) -> Result<(), Fail> {
         files.read_page(file, offset, &mut page);
         let there = page.get(place).copied();
         assert_eq!(rt; there, Some(byte), "file {file} from {offset} at {place}");
+        let lent = files
+            .lent_page(file, offset)
+            .map(|bytes| bytes.get(place).copied());
+        let rest = files
+            .length(file)
+            .map(|length| length.saturating_sub(offset));
+        let wanted = rest.map(|rest| if place < rest { Some(byte) } else { None });
+        assert_eq!(rt; lent, wanted, "file {file} from {offset} at {place}, lent");
     }
     Ok(())
 }

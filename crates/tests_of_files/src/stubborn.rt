@@ -50,6 +50,10 @@ impl<F: Files> Files for RefusingFiles<F> {
         self.files.read_page(file, offset, bytes);
     }
 
+    fn lent_page(&self, file: usize, offset: usize) -> Option<&[u8]> {
+        self.files.lent_page(file, offset)
+    }
+
     fn write_page(&mut self, file: usize, offset: usize, bytes: &[u8; 4096]) {
         self.files.write_page(file, offset, bytes);
     }
