@@ -1,7 +1,7 @@
 // `read_run` and `write_run`: functions that read and write a run of bytes within one frame of any frame store, from any
 // offset and of any length up to the frame's end, one word at a time.
 
-ghost use Rattle.std.specs.Prelude.{◌≡◌, ◌+◌, ◌≤◌, ℕ, drop, length, List, take};
+ghost use Rattle.std.specs.Prelude.{◌≡◌, ◌+◌, ◌-◌, ◌<◌, ◌≤◌, ℕ, drop, length, List, min, take};
 ghost use Rattle.frame_bytes.specs.Contents.{ChangesWords, HasBytes};
 ghost use Rattle.frame_store.specs.Laws.{IsSeatOf, KeepsSeats};
 ghost use Rattle.frame_store.specs.View.{IsHeld, IsSole};
@@ -33,12 +33,28 @@ pub fn read_run<F: FrameAccess>(
     let mut done = 0;
     'words: while done < bytes.len() {
         let place = offset + done;
-        let skipped = place % 8;
-        let count = (8 - skipped).min(bytes.len() - done);
         let word = store.load(seat, frame, place / 8).to_le_bytes();
-        overwrite(bytes, done, &word[skipped..skipped + count]);
-        done += count;
+        done += put_part(bytes, done, &word, place % 8);
     }
+}
+
+/// Writes the bytes of a word from index `skipped` on over those of `bytes` from index `at` on, as many as there are of both.
+/// Returns how many. A whole word, as most words of a run, is tried first.
+#[inline(always)]
+fn put_part(bytes: &mut [u8], at: usize, word: &[u8; 8], skipped: usize) -> usize
+    requires inside { at < length bytes.old }
+    requires in_word { skipped < 8 }
+    ensures count { result ≡ min (8 - skipped) (length bytes.old - at) }
+    ensures bytes { bytes.new ≡ write_bytes bytes.old at (take result (drop skipped word.now)) }
+{
+    let left = bytes.len() - at;
+    if skipped == 0 && left >= 8 {
+        bytes[at..at + 8].copy_from_slice(word);
+        return 8;
+    }
+    let count = (8 - skipped).min(left);
+    overwrite(bytes, at, &word[skipped..skipped + count]);
+    count
 }
 
 /// Writes `bytes` into a frame from byte `offset` on; the other bytes of the frame stay. The run must end inside the

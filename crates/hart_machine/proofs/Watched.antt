@@ -4,7 +4,7 @@
 use Rattle.std.proofs.Common.{◌≡◌, ◌⊎◌, ◌↔◌, ℕ, Bool, true, false, ◌+◌, ◌<◌, ◌≤◌, inl, inr, refl, ap, subst, sym, ◌∙◌, arith, Option, None, Some}
 use Rattle.std.specs.Prelude.{if◌then◌else◌, is_some, min, not, ◌&&◌}
 use mathlib.Core.Bool.{beq}
-use Rattle.std.proofs.lemmas.Bool.{and_parts, cases_eq, cases_lt}
+use Rattle.std.proofs.lemmas.Bool.{and_parts, cases_eq, cases_lt, true≢false}
 use Rattle.std.proofs.lemmas.Option.{same_Some}
 use Rattle.address_space.specs.Accesses.{gives_leaf, IsGranted}
 use Rattle.address_space.specs.SettledLists.{IsNextSettled, IsSettledPage}
@@ -145,6 +145,16 @@ module _ (p q : Process) (access : Access) (address : ℕ) (b c d e : Bool)
       | inr at ↦ subst (IsGranted p access) (sym at) (next.0 ((same is).1 ∙ next_after.1 (subst (IsGranted q access) at granted)))
     ];
   }
+
+-- where the access is granted on both pages, neither becomes resident
+pub none_gained : (p q : Process) (access : Access) (address : ℕ) → IsGranted p access address → IsGranted p access (address + 4096) → TellsResidence false p q access address
+none_gained p q access address first next = record {
+  some = λ is. absurd (true≢false (sym is));
+  none = λ is a here granted. elim here [
+    | inl at ↦ subst (IsGranted p access) (sym at) first
+    | inr at ↦ subst (IsGranted p access) (sym at) next
+  ];
+}
 
 -- ---- the service of a fault
 

@@ -143,6 +143,9 @@ impl SlotProcess {
     {
         let before = self.residence(frames, va, Access::Load);
         let reply = self.send(frames, files, va, count);
+        if before.0 && before.1 {
+            return (reply, false);
+        }
         let after = self.residence(frames, va, Access::Load);
         (reply, before.0 != after.0 || before.1 != after.1)
     }
@@ -187,6 +190,9 @@ impl SlotProcess {
     {
         let before = self.residence(frames, va, Access::Store);
         let reply = self.receive(frames, files, va, bytes);
+        if before.0 && before.1 {
+            return (reply, false);
+        }
         let after = self.residence(frames, va, Access::Store);
         (reply, before.0 != after.0 || before.1 != after.1)
     }

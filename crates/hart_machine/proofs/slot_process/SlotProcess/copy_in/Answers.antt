@@ -5,7 +5,7 @@ use Rattle.frame_store.specs.Plain.{PlainStateRule}
 use Rattle.sv39_entry.specs.declared.access.Access.TheVariants.{Load}
 use Rattle.hart_machine.specs.SlotProcesses.{IsSlotProcess}
 use Rattle.hart_machine.specs.declared.slot_process.SlotProcess.{SlotProcess}
-use Rattle.hart_machine.proofs.Watched.{alike, tells_residence, unlike}
+use Rattle.hart_machine.proofs.Watched.{alike, none_gained, tells_residence, unlike}
 use Rattle.hart_machine.proofs.slot_process.SlotProcess.copy_in.Goals as goal
 use Rattle.hart_machine.proofs.slot_process.SlotProcess.copy_in.Goals.{then-before-after, else-before-after}
 
@@ -39,3 +39,11 @@ returns-clause-keeps c others r =
     let b = c.residence-before.ensures in
     let a = c.residence-after.ensures in
     rw (a.same, a.frames) (c.send-reply.ensures.keeps others (rw (b.frames, b.same) r))
+
+pub returns-then-before-2-clause-changed : goal.returns-then-before-2-clause-changed
+returns-then-before-2-clause-changed c t u p q slot_process after =
+    let b = c.residence-before.ensures in
+    none_gained p q Load c.args.va.0 ((b.first t p slot_process).0 c.if-before.true) ((b.next t p slot_process).0 c.if-before-2.true)
+
+pub returns-then-before-2-clause-keeps : goal.returns-then-before-2-clause-keeps
+returns-then-before-2-clause-keeps c others r = let b = c.residence-before.ensures in c.send-reply.ensures.keeps others (rw (b.frames, b.same) r)

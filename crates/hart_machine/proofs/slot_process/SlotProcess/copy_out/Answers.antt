@@ -5,7 +5,7 @@ use Rattle.frame_store.specs.Plain.{PlainStateRule}
 use Rattle.sv39_entry.specs.declared.access.Access.TheVariants.{Store}
 use Rattle.hart_machine.specs.SlotProcesses.{IsSlotProcess}
 use Rattle.hart_machine.specs.declared.slot_process.SlotProcess.{SlotProcess}
-use Rattle.hart_machine.proofs.Watched.{alike, tells_residence, unlike}
+use Rattle.hart_machine.proofs.Watched.{alike, none_gained, tells_residence, unlike}
 use Rattle.hart_machine.proofs.slot_process.SlotProcess.copy_out.Goals as goal
 
 pub receive-reply-requires-clause-ready : goal.receive-reply-requires-clause-ready
@@ -44,3 +44,11 @@ returns-else-before-after-clause-keeps c others r =
     let b = c.residence-before.ensures in
     let a = c.residence-after.ensures in
     rw (a.same, a.frames) (c.receive-reply.ensures.keeps others (rw (b.frames, b.same) r))
+
+pub returns-then-before-2-clause-changed : goal.returns-then-before-2-clause-changed
+returns-then-before-2-clause-changed c t u p q slot_process after =
+    let b = c.residence-before.ensures in
+    none_gained p q Store c.args.va.0 ((b.first t p slot_process).0 c.if-before.true) ((b.next t p slot_process).0 c.if-before-2.true)
+
+pub returns-then-before-2-clause-keeps : goal.returns-then-before-2-clause-keeps
+returns-then-before-2-clause-keeps c others r = let b = c.residence-before.ensures in c.receive-reply.ensures.keeps others (rw (b.frames, b.same) r)
