@@ -19,7 +19,8 @@ pub fn put(text: &mut Vec<u8>, piece: &[u8])
     }
 }
 
-/// Appends `number` to `text` in decimal digits, at most 20. Requires room (unused capacity) for 20 bytes.
+/// Appends `number` to `text` in decimal digits, at most 20. Requires room (unused capacity) for 20 bytes. One digit or two,
+/// as in `fault 13`, are pushed at once.
 #[inline(always)]
 pub fn put_decimal(text: &mut Vec<u8>, number: u64)
     requires room { vec_len text.old + 20 ≤ vec_capacity text.old }
@@ -29,6 +30,11 @@ pub fn put_decimal(text: &mut Vec<u8>, number: u64)
 {
     if number < 10 {
         text.push_reserved(b'0' + number as u8);
+        return;
+    }
+    if number < 100 {
+        text.push_reserved(b'0' + (number / 10) as u8);
+        text.push_reserved(b'0' + (number % 10) as u8);
         return;
     }
     let mut buffer = Buffer::new();

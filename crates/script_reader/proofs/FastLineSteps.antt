@@ -1,15 +1,18 @@
 -- Lemmas for the reader's fast path: the command that it makes of a word and the fields after it is the model's
 -- (`SaysCommand`), and a line whose command it adds to a draft (what the lines so far declare and command) is added as the
 -- model adds it. `said` and `no_comment` serve files for threads too.
-use Rattle.std.proofs.Common.{◌≡◌, ℕ, suc, ◌≤◌, List, [], ◌∷◌, ◌++◌, length, Option, None, Some, Ok, false, true, eqb, refl, sym, ap, ◌∙◌, append_assoc, inl, inr, subst}
+use Rattle.std.proofs.Common.{◌≡◌, ℕ, suc, ◌≤◌, List, [], ◌∷◌, ◌++◌, length, ◌<◌, ◌^◌, pos, Option, None, Some, Ok, false, true, eqb, refl, sym, ap, ◌∙◌, append_assoc, inl, inr, subst, arith}
 use Rattle.std.specs.Prelude.{◌&&◌, Err, IfSome, OnOk, Result, codes, is_some, nat_le, nat_lt}
-use Rattle.std.proofs.lemmas.Bool.{and_parts, cases_Bool, eq-eqb, eqb-true, le-leb}
+use Rattle.std.proofs.lemmas.Bool.{and_parts, cases_Bool, eq-eqb, eqb-true, le-leb, lt-ltb}
 use Rattle.std.proofs.lemmas.List.{append-nil}
 use Rattle.process_model.specs.Bytes.{is_width}
 use Rattle.process_model.specs.Copies.{longest_copy}
-use Rattle.process_model.specs.Fields.{Row, command_table, four_numbers, kinds_for, one_number, row, row_among, three_numbers, two_numbers, values_from, values_of}
+use Rattle.process_model.specs.Fields.{Row, command_table, four_numbers, kinds_for, one_number, row, row_among, said_or, three_numbers, two_numbers, value_of, values_from, values_of}
 use Rattle.process_model.specs.Lines.{fields_of}
+use Rattle.process_model.specs.Numbers.{if_below, number_of, signed_of}
 use Rattle.process_model.specs.Script.{Draft, comes_first, in_order, is_ascii, is_comment, item_line, item_of, line_of, longest_line, most_commands, with_line}
+use Rattle.process_model.specs.declared.script.Cause.{Cause}
+use Rattle.process_model.specs.declared.script.Cause.TheVariants as cause
 use Rattle.process_model.specs.declared.script.Command.{Command}
 use Rattle.process_model.specs.declared.script.Command.TheVariants as command
 use Rattle.process_model.specs.declared.script.FieldKind.{FieldKind}
@@ -21,6 +24,7 @@ use Rattle.process_model.specs.declared.script.Keyword.{Keyword}
 use Rattle.process_model.specs.declared.script.Keyword.TheVariants as word
 use Rattle.process_model.specs.declared.script.Tail.TheVariants as tail
 use Rattle.process_model.specs.declared.step.Step.TheVariants as step
+use Rattle.script_reader.proofs.Digits.{from_none}
 use Rattle.script_reader.specs.FastLines.{AddsCommand}
 use Rattle.script_reader.specs.FastPath.{EndsWith, IsNext, ReadsFields, SaysCommand}
 
@@ -82,8 +86,37 @@ says_copy_in line m n h a k short x y z =
     says (codes "copyin") line (row (codes "copyin") word.CopyIn three_numbers tail.Nothing) three_numbers (value.Number h ∷ value.Number a ∷ value.Number k ∷ []) _ refl refl
     (λ s. rw (le-leb k longest_copy short) refl) refl (m, x, (n, y, z))
 
-none_some : (r : Row) → None ≡ Some r → ⊥
-none_some r e = cc
+-- an unsigned number below 2^31 is also read as a signed one, and as the status of `exit`
+
+none_some : {A : Type 0} (x : A) → None ≡ Some x → ⊥
+none_some x e = cc
+
+abbrev number_in : Result FieldValue Cause → ℕ
+number_in (Ok (value.Number n)) = n
+number_in _ = 0
+
+no_sign : (digits : List ℕ) → number_of (45 ∷ digits) ≡ None
+no_sign [] = refl
+no_sign (b ∷ digits) = ap (if_below (2 ^ 64)) (from_none 10 digits)
+
+signed_number : (field : List ℕ) (n : ℕ) → number_of field ≡ Some n → n < 2 ^ 31 → signed_of field ≡ Some (pos n)
+signed_number [] n is small = absurd cc
+signed_number (b ∷ field) n is small =
+    elim (cases_Bool (eqb b 45)) [
+      | inl sign ↦ absurd (none_some n (sym (no_sign field) ∙ subst (λ (a : ℕ). number_of (a ∷ field) ≡ Some n) (eqb-true b 45 sign) is))
+      | inr digit ↦ rw (digit, is, lt-ltb n (2 ^ 63) (omega arith)) refl
+    ]
+
+said_signed : (field : List ℕ) (n : ℕ) (read : Option ℕ) → number_of field ≡ read → said_or cause.Number value.Number read ≡ Ok (value.Number n) → n < 2 ^ 31 → value_of kind.Signed field ≡ Ok (value.Signed (pos n))
+said_signed field n None is reads small = absurd cc
+said_signed field n (Some m) is reads small = rw (signed_number field n (is ∙ ap (λ (k : ℕ). Some k) (ap number_in reads)) small) refl
+
+pub says_exit : (line m : List ℕ) (h k : ℕ) → k < 2 ^ 31 → Next line m h → ReadsFields m one_number (value.Number k ∷ []) → SaysCommand (codes "exit") line (command.One (step.Exit h (pos k)))
+says_exit line m h k small x y =
+    let n : IsNext m y.0 kind.Number (value.Number k) = y.1 in
+    let status : IsNext m y.0 kind.Signed (value.Signed (pos k)) = record { field = n.field; fields = n.fields; value = said_signed n.field k (number_of n.field) refl n.value small } in
+    says (codes "exit") line (row (codes "exit") word.Exit (kind.Number ∷ kind.Signed ∷ []) tail.Nothing) (kind.Number ∷ kind.Signed ∷ []) (value.Number h ∷ value.Signed (pos k) ∷ []) _ refl refl
+    (λ s. rw (lt-ltb k (2 ^ 31) small) refl) refl (m, x, (y.0, status, y.2))
 
 -- a word of a table is no comment, if no word of the table begins with `#`
 pub no_comment : (table : List Row) → ((text : List ℕ) → row_among table (35 ∷ text) ≡ None) → (text : List ℕ) (r : Row) → row_among table text ≡ Some r → is_comment text ≡ false

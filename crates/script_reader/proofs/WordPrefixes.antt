@@ -39,9 +39,11 @@ first_word (b ∷ bs) rest is ends = word_alone b bs rest is ends
 pub word_cut : (w : FastWord) (rest : List ℕ) → ends_field rest ≡ true → fields_of (letters w ++ rest) ≡ letters w ∷ fields_of rest
 word_cut quick.Load rest ends = first_word (codes "load") rest refl ends
 word_cut quick.Store rest ends = first_word (codes "store") rest refl ends
+word_cut quick.Switch rest ends = first_word (codes "switch") rest refl ends
 word_cut quick.Fetch rest ends = first_word (codes "fetch") rest refl ends
 word_cut quick.Fix rest ends = first_word (codes "fix") rest refl ends
 word_cut quick.Enter rest ends = first_word (codes "enter") rest refl ends
+word_cut quick.Exit rest ends = first_word (codes "exit") rest refl ends
 word_cut quick.Leave rest ends = first_word (codes "leave") rest refl ends
 word_cut quick.On rest ends = first_word (codes "on") rest refl ends
 word_cut quick.Fill rest ends = first_word (codes "fill") rest refl ends
@@ -49,3 +51,5 @@ word_cut quick.Next rest ends = first_word (codes "next") rest refl ends
 word_cut quick.Trap rest ends = first_word (codes "trap") rest refl ends
 word_cut quick.Fork rest ends = first_word (codes "fork") rest refl ends
 word_cut quick.CopyIn rest ends = first_word (codes "copyin") rest refl ends
+word_cut quick.Mmap rest ends = first_word (codes "mmap") rest refl ends
+word_cut quick.Munmap rest ends = first_word (codes "munmap") rest refl ends

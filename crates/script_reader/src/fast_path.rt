@@ -1,7 +1,7 @@
-// Fast path of the script reader: `FastWord`, an enum of twelve common words (`load`, `store`, `fetch`, `fix`, `enter`,
-// `leave`, `on`, `fill`, `next`, `trap`, `fork`, `copyin`), and parsers that make a command of such a word and the numbers
-// after it in one pass. `None` is no fault: the line, of another form or with a fault, is then read field by field. The
-// words (`word_prefix`) and the ends of lines (`one`, `is_over`) serve files for threads too.
+// Fast path of the script reader: `FastWord`, an enum of sixteen common words (`load`, `store`, `switch`, `fetch`, `fix`,
+// `enter`, `exit`, `leave`, `on`, `fill`, `next`, `trap`, `fork`, `copyin`, `mmap`, `munmap`), and parsers that make a command
+// of such a word and the fields after it in one pass. `None` is no fault: the line, of another form or with a fault, is then
+// read field by field. The words (`word_prefix`) and the ends of lines (`one`, `is_over`) serve files for threads too.
 
 ghost use Rattle.std.specs.Prelude.{◌≡◌, IfSome, codes, true, [], ◌∷◌, ◌++◌};
 ghost use Rattle.process_model.specs.Fields.{one_number, two_numbers};
@@ -11,7 +11,7 @@ ghost use Rattle.script_reader.specs.FastPath.{EndsWith, ReadsFields, SaysComman
 ghost use Rattle.script_reader.specs.FastWords.{letters};
 
 use crate::lines::first_field;
-use crate::number_prefixes::{next_address, next_entry, next_number};
+use crate::number_prefixes::{next_address, next_entry, next_number, next_slot};
 use process_model::{Command, LONGEST_COPY, Step, is_width};
 
 /// True only if no field is left in the line.
@@ -118,6 +118,21 @@ pub fn store(line: &[u8]) -> Option<Command>
     }))
 }
 
+/// Parses the fields of `switch`: hart and slot, a number or `-` for none.
+fn switch(line: &[u8]) -> Option<Command>
+    ensures { IfSome result (λ c. SaysCommand (codes "switch") line.now c) }
+{
+    let (hart, line) = next_number(line)?;
+    let (slot, line) = next_slot(line)?;
+    if !is_over(line) {
+        return None;
+    }
+    Some(Command::One(Step::Switch {
+        hart: hart as usize,
+        slot,
+    }))
+}
+
 fn trap(line: &[u8]) -> Option<Command>
     ensures { IfSome result (λ c. SaysCommand (codes "trap") line.now c) }
 {
@@ -163,6 +178,41 @@ fn copy_in(line: &[u8]) -> Option<Command>
     }))
 }
 
+/// Parses the fields of `mmap`: hart, length, protection, flags and file. The step checks the arguments.
+fn mmap(line: &[u8]) -> Option<Command>
+    ensures { IfSome result (λ c. SaysCommand (codes "mmap") line.now c) }
+{
+    let (hart, line) = next_number(line)?;
+    let (length, line) = next_address(line)?;
+    let (protection, line) = next_number(line)?;
+    let (flags, line) = next_number(line)?;
+    let file = one(line)?;
+    Some(Command::One(Step::Mmap {
+        hart: hart as usize,
+        length,
+        protection,
+        flags,
+        file,
+    }))
+}
+
+/// Parses the fields of `munmap`: hart, address and length. The step checks the arguments.
+fn munmap(line: &[u8]) -> Option<Command>
+    ensures { IfSome result (λ c. SaysCommand (codes "munmap") line.now c) }
+{
+    let (hart, line) = next_number(line)?;
+    let (address, line) = next_address(line)?;
+    let (length, line) = next_address(line)?;
+    if !is_over(line) {
+        return None;
+    }
+    Some(Command::One(Step::Munmap {
+        hart: hart as usize,
+        address,
+        length,
+    }))
+}
+
 fn on(line: &[u8]) -> Option<Command>
     ensures { IfSome result (λ c. SaysCommand (codes "on") line.now c) }
 {
@@ -178,6 +228,20 @@ fn enter(line: &[u8]) -> Option<Command>
 {
     let hart = one(line)?;
     Some(Command::Enter { hart })
+}
+
+/// Parses the fields of `exit`: hart and status. A status with a sign, or above 2^31 - 1, is left to be read field by field.
+fn exit(line: &[u8]) -> Option<Command>
+    ensures { IfSome result (λ c. SaysCommand (codes "exit") line.now c) }
+{
+    let (hart, line) = next_number(line)?;
+    let Ok(status) = i32::try_from(one(line)?) else {
+        return None;
+    };
+    Some(Command::One(Step::Exit {
+        hart: hart as usize,
+        status,
+    }))
 }
 
 fn leave(line: &[u8]) -> Option<Command>
@@ -199,9 +263,11 @@ fn fix(line: &[u8]) -> Option<Command>
 pub enum FastWord {
     Load,
     Store,
+    Switch,
     Fetch,
     Fix,
     Enter,
+    Exit,
     Leave,
     On,
     Fill,
@@ -209,6 +275,8 @@ pub enum FastWord {
     Trap,
     Fork,
     CopyIn,
+    Mmap,
+    Munmap,
 }
 
 /// Returns the word of the fast path with whose letters the line begins, and what follows them. `None`:
@@ -220,9 +288,11 @@ pub fn word_prefix(line: &[u8]) -> Option<(FastWord, &[u8])>
     match line {
         [b'l', b'o', b'a', b'd', rest @ ..] => Some((FastWord::Load, rest)),
         [b's', b't', b'o', b'r', b'e', rest @ ..] => Some((FastWord::Store, rest)),
+        [b's', b'w', b'i', b't', b'c', b'h', rest @ ..] => Some((FastWord::Switch, rest)),
         [b'f', b'e', b't', b'c', b'h', rest @ ..] => Some((FastWord::Fetch, rest)),
         [b'f', b'i', b'x', rest @ ..] => Some((FastWord::Fix, rest)),
         [b'e', b'n', b't', b'e', b'r', rest @ ..] => Some((FastWord::Enter, rest)),
+        [b'e', b'x', b'i', b't', rest @ ..] => Some((FastWord::Exit, rest)),
         [b'l', b'e', b'a', b'v', b'e', rest @ ..] => Some((FastWord::Leave, rest)),
         [b'o', b'n', rest @ ..] => Some((FastWord::On, rest)),
         [b'f', b'i', b'l', b'l', rest @ ..] => Some((FastWord::Fill, rest)),
@@ -230,6 +300,8 @@ pub fn word_prefix(line: &[u8]) -> Option<(FastWord, &[u8])>
         [b't', b'r', b'a', b'p', rest @ ..] => Some((FastWord::Trap, rest)),
         [b'f', b'o', b'r', b'k', rest @ ..] => Some((FastWord::Fork, rest)),
         [b'c', b'o', b'p', b'y', b'i', b'n', rest @ ..] => Some((FastWord::CopyIn, rest)),
+        [b'm', b'm', b'a', b'p', rest @ ..] => Some((FastWord::Mmap, rest)),
+        [b'm', b'u', b'n', b'm', b'a', b'p', rest @ ..] => Some((FastWord::Munmap, rest)),
         _ => None,
     }
 }
@@ -241,9 +313,11 @@ pub fn fast_command(word: FastWord, line: &[u8]) -> Option<Command>
     match word {
         FastWord::Load => load(line),
         FastWord::Store => store(line),
+        FastWord::Switch => switch(line),
         FastWord::Fetch => fetch(line),
         FastWord::Fix => fix(line),
         FastWord::Enter => enter(line),
+        FastWord::Exit => exit(line),
         FastWord::Leave => leave(line),
         FastWord::On => on(line),
         FastWord::Fill => fill(line),
@@ -251,5 +325,7 @@ pub fn fast_command(word: FastWord, line: &[u8]) -> Option<Command>
         FastWord::Trap => trap(line),
         FastWord::Fork => fork(line),
         FastWord::CopyIn => copy_in(line),
+        FastWord::Mmap => mmap(line),
+        FastWord::Munmap => munmap(line),
     }
 }

@@ -1,6 +1,6 @@
-// Fast path of the script reader: parsers of a line's next field as a number (`next_number`, `next_address`) or a buffer
-// entry `@N` (`next_entry`), which find the value and the end of the field in one pass; and `is_end`, whether a field ends
-// here. `None` is no fault: the line is then read field by field.
+// Fast path of the script reader: parsers of a line's next field as a number (`next_number`, `next_address`), a slot
+// (`next_slot`) or a buffer entry `@N` (`next_entry`), which find the value and the end of the field in one pass; and `is_end`,
+// whether a field ends here. `None` is no fault: the line is then read field by field.
 
 ghost use Rattle.std.specs.Prelude.{◌≡◌, ◌+◌, ◌*◌, ◌<◌, ◌≤◌, ◌∷◌, ℕ, List, IfSome, Some, length, true};
 ghost use Rattle.process_model.specs.Lines.{ends_field, fields_of};
@@ -248,6 +248,32 @@ pub fn next_address(line: &[u8]) -> Option<(u64, &[u8])>
         return hexadecimal_prefix(digits);
     }
     next_number(line)
+}
+
+/// What follows the `-` that a text begins with.
+fn behind_dash(text: &[u8]) -> Option<&[u8]>
+    ensures { IfSome result (λ rest. text.now ≡ 45 ∷ rest.now) }
+{
+    match text {
+        [b'-', rest @ ..] => Some(rest),
+        _ => None,
+    }
+}
+
+/// Parses the next field of a line as a slot, `-` for none after at most one space, or a number: returns it and what follows
+/// it. `None`: to be read field by field.
+pub fn next_slot(line: &[u8]) -> Option<(Option<usize>, &[u8])>
+    ensures { IfSome result (λ found. IsNext line.now found.1.now kind.Slot (value.Optional found.0)) }
+{
+    if let Some(rest) = behind_dash(behind_blank(line)) {
+        return if is_end(rest) {
+            Some((None, rest))
+        } else {
+            None
+        };
+    }
+    let (slot, rest) = next_number(line)?;
+    Some((Some(slot as usize), rest))
 }
 
 /// What follows the `@` that a text begins with.
