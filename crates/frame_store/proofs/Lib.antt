@@ -1,7 +1,9 @@
+pub mod Overwritten
 pub mod PlainSteps
 pub mod Runs
 pub mod Seating
 pub mod SeatSteps
 pub mod Seen
+pub mod Turned
 pub mod Unused
 pub mod Words

@@ -1,7 +1,9 @@
 -- Predicates for the words that `Memory` holds (all frames of plain frames in one list, 512 words for each): ranges of
 -- zeros, words that name, as a PTE, a frame of zeros, the results of searches for the next nonzero word, the two bounds
--- that `Memory` keeps for each frame (`Runs`), and an update of adjacent words (`PutsMany`).
-use Rattle.std.specs.Prelude.{◌≡◌, ◌≢◌, ◌⊎◌, ℕ, ◌+◌, ◌*◌, ◌<◌, ◌≤◌, List, length, slice_index, Option, None, Some}
+-- that `Memory` keeps for each frame (`Runs`), and an update of adjacent words (`PutsMany`). And the list that
+-- `FrameWords` stands for (`by_frame`).
+use Rattle.std.specs.Prelude.{◌≡◌, ◌≢◌, ◌⊎◌, ℕ, ◌+◌, ◌-◌, ◌*◌, ◌/◌, ◌%◌, ◌<◌, ◌≤◌, List, length, map, slice_index, Option, None, Some}
+use Rattle.std.specs.List.{range_with_len}
 use Rattle.sv39_entry.specs.Frame.{frame_at}
 use Rattle.sv39_entry.specs.Word.{ppn}
 use Rattle.sv39_entry.specs.declared.frame.FrameNo.{FrameNo}
@@ -45,6 +47,7 @@ pub record Runs (words lows highs : List ℕ) : Type 0 where
   pub sized : length words ≡ 512 * length lows
   pub same : length highs ≡ length lows
   pub small : (f : ℕ) → slice_index lows f ≤ 512
+  pub within : (f : ℕ) → slice_index highs f ≤ 512
   pub before : (f : ℕ) → ZerosIn words f 0 (slice_index lows f)
   pub behind : (f : ℕ) → ZerosIn words f (slice_index highs f) 512
 
@@ -53,3 +56,11 @@ pub record PutsMany (old new : List ℕ) (f first n : ℕ) (word : ℕ → ℕ) 
   pub long : length new ≡ length old
   pub inside : (q : ℕ) → first ≤ q → q < first + n → slice_index new (512 * f + q) ≡ word q
   pub outside : (p : ℕ) → (512 * f + first ≤ p → p < 512 * f + (first + n) → ⊥) → slice_index new p ≡ slice_index old p
+
+-- where word p of n frames is, frame by frame, in a list whose blocks of 512 words are the frames from the last one down
+abbrev pub turned : ℕ → ℕ → ℕ
+turned n p = 512 * (n - 1 - p / 512) + p % 512
+
+-- the words of n frames, those of frame 0 first, by such a list; words that it lacks are 0
+abbrev pub by_frame : ℕ → List ℕ → List ℕ
+by_frame n list = map (λ p. slice_index list (turned n p)) (range_with_len 0 (512 * n))

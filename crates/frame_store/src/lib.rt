@@ -11,6 +11,7 @@
 
 mod access;
 mod bytes;
+mod frame_words;
 mod knowledge;
 mod memory;
 mod opening;

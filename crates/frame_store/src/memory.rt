@@ -1,12 +1,12 @@
-// `Memory`, a crate-internal struct: the 512 words of each frame of `PlainFrames`, and for each frame two bounds between
-// which its nonzero words lie, so that searches and clears skip zeros. Functions: read a word, search for the next nonzero word
-// (`next`) or for one that names no frame of zeros (`next_busy`), store, clear, fill and copy.
+// `Memory`, a crate-internal struct: the 512 words of each frame of `PlainFrames` (`FrameWords`), and for each frame two bounds
+// between which its nonzero words lie, so that searches and clears skip zeros. Functions: read a word, search for the next
+// nonzero word (`next`) or for one that names no frame of zeros (`next_busy`), store, clear, fill and copy.
 
 ghost use Rattle.std.specs.Int.{from_le_bytes, w64};
-ghost use Rattle.std.specs.Prelude.{◌≡◌, ◌+◌, ◌-◌, ◌*◌, ◌/◌, ◌<◌, ◌≤◌, ◌≢◌, ℕ, false, IfOk, length, drop, replicate, slice_index, slice_set, take, true};
+ghost use Rattle.std.specs.Prelude.{◌≡◌, ◌+◌, ◌-◌, ◌*◌, ◌/◌, ◌<◌, ◌≤◌, ◌≢◌, ℕ, false, IfOk, length, drop, replicate, slice_get, slice_index, slice_set, take, true};
 ghost use Rattle.frame_store.specs.ZeroWords.{IsIdle, IsNextBusy, IsNextIn, NamesBlank, PutsMany, ZerosIn};
 
-use crate::bytes::put_words;
+use crate::frame_words::FrameWords;
 use crate::zeros::zeros_in_front;
 use std::alloc::{AllocError, Global};
 use std::marker::Model;
@@ -21,7 +21,7 @@ const WORDS: usize = 512;
 /// bounds are zeroed.
 #[derive(Drop)]
 pub(crate) struct Memory {
-    words: Vec<u64>,
+    words: FrameWords,
     /// The words of a frame before this index are 0.
     lows: Vec<u16>,
     /// The words of a frame from this index on are 0.
@@ -34,19 +34,12 @@ impl Model for Memory {
 
     ghost Value = { List ℕ };
 
-    ghost view = { λ s. s.words.items };
+    ghost view = { λ s. s.words };
 
-    ghost invariant = { λ s. Runs s.words.items s.lows.items s.highs.items };
+    ghost invariant = { λ s. Runs s.words s.lows.items s.highs.items };
 }
 
 impl Memory {
-    /// Returns all words, frame by frame.
-    pub(crate) fn as_slice(&self) -> &[u64]
-        ensures { result.now ≡ self.now }
-    {
-        self.words.as_slice()
-    }
-
     /// Returns `frames` frames, at most 1,024, whose words are all 0.
     ///
     /// # Errors
@@ -55,7 +48,7 @@ impl Memory {
         requires few { frames ≤ 1024 }
         ensures zeros { IfOk result (λ m. m ≡ replicate (512 * frames) 0) }
     {
-        let words = Vec::from_elem(alloc, 0, WORDS * frames)?;
+        let words = FrameWords::new(alloc, frames)?;
         let lows = Vec::from_elem(alloc, WORDS as u16, frames)?;
         let highs = Vec::from_elem(alloc, 0, frames)?;
         Ok(Memory { words, lows, highs })
@@ -67,7 +60,18 @@ impl Memory {
         requires in_page { index < 512 }
         ensures { result ≡ slice_index self.now (512 * frame.0 + index) }
     {
-        self.words[WORDS * frame.0 as usize + index]
+        self.words.word(frame, index)
+    }
+
+    /// Returns the word at `index` of a frame; `None` if there is no frame of this number.
+    pub(crate) fn get(&self, frame: FrameNo, index: usize) -> Option<u64>
+        requires in_page { index < 512 }
+        ensures { result ≡ slice_get self.now (frame.0 * 512 + index) }
+    {
+        if frame.0 as usize >= self.lows.len() {
+            return None;
+        }
+        Some(self.word(frame, index))
     }
 
     /// Returns the index and value of the first word of a frame that is not 0, from index `first` on and before `last`;
@@ -84,14 +88,17 @@ impl Memory {
         if to <= from {
             return None;
         }
-        let base = WORDS * frame.0 as usize;
-        let at = from + zeros_in_front(&self.words[base + from..base + to]);
-        if at == to {
+        let Some(part) = self.words.part(frame, from, to) else {
+            return None;
+        };
+        let zeros = zeros_in_front(part);
+        if zeros == part.len() {
             self.learn(frame, first, last);
             return None;
         }
-        self.learn(frame, first, at);
-        Some((at, self.words[base + at]))
+        let word = part[zeros];
+        self.learn(frame, first, from + zeros);
+        Some((from + zeros, word))
     }
 
     /// Tightens a bound of a frame, if possible, by its words from index `first` on and before `end`, which are 0. The words
@@ -126,13 +133,18 @@ impl Memory {
         requires in_page { last ≤ 512 }
         ensures { IsNextBusy self.now frame.0 first last result }
     {
-        let base = WORDS * frame.0 as usize;
         let from = first.max(self.lows[frame.0 as usize] as usize);
         let to = last.min(self.highs[frame.0 as usize] as usize);
-        'words: for index in from..to {
-            let word = self.words[base + index];
+        if to <= from {
+            return None;
+        }
+        let Some(part) = self.words.part(frame, from, to) else {
+            return None;
+        };
+        'words: for place in 0..part.len() {
+            let word = part[place];
             if !self.is_idle(word) {
-                return Some((index, word));
+                return Some((from + place, word));
             }
         }
         None
@@ -170,7 +182,7 @@ impl Memory {
         requires in_page { index < 512 }
         ensures { self.new ≡ slice_set self.old (512 * frame.0 + index) value }
     {
-        self.words[WORDS * frame.0 as usize + index] = value;
+        self.words.put(frame, index, value);
         if value == 0 {
             return;
         }
@@ -185,10 +197,9 @@ impl Memory {
         requires in_page { first ≤ 512 }
         ensures { PutsMany self.old self.new frame.0 first (512 - first) (λ _. 0) }
     {
-        let base = WORDS * frame.0 as usize;
-        let to = WORDS.min(self.highs[frame.0 as usize] as usize);
+        let to = self.highs[frame.0 as usize] as usize;
         let from = to.min(first.max(self.lows[frame.0 as usize] as usize));
-        self.words[base + from..base + to].fill(0);
+        self.words.zero(frame, from, to);
         self.highs[frame.0 as usize] = self.highs[frame.0 as usize].min(first as u16);
         if first > 0 {
             return;
@@ -202,8 +213,10 @@ impl Memory {
         requires in_page { length bytes.now ≤ 4096 }
         ensures { PutsMany self.old self.new frame.0 0 (length bytes.now / 8) (λ i. from_le_bytes w64 (take 8 (drop (8 * i) bytes.now))) }
     {
-        let base = WORDS * frame.0 as usize;
-        put_words(&mut self.words[base..base + WORDS], bytes);
+        if bytes.len() < 8 {
+            return;
+        }
+        self.words.fill(frame, bytes);
         self.lows[frame.0 as usize] = 0;
         self.highs[frame.0 as usize] = self.highs[frame.0 as usize].max((bytes.len() / 8) as u16);
     }
@@ -215,36 +228,8 @@ impl Memory {
         requires apart { from.0 ≢ to.0 }
         ensures { PutsMany self.old self.new to.0 0 512 (λ i. slice_index self.old (512 * from.0 + i)) }
     {
-        copy_words(self.words.as_mut_slice(), from.0 as usize, to.0 as usize);
+        self.words.copy(from, to);
         self.lows[to.0 as usize] = self.lows[from.0 as usize];
         self.highs[to.0 as usize] = self.highs[from.0 as usize];
-    }
-}
-
-/// Copies the words of a frame, which begin at `start` in `from`, to those that begin at `at` in `to`: in one piece, which is
-/// faster than word by word.
-fn put_frame(to: &mut [u64], at: usize, from: &[u64], start: usize)
-    requires from { start + 512 ≤ length from.now }
-    requires to { at + 512 ≤ length to.old }
-    ensures len { length to.new ≡ length to.old }
-    ensures inside { (q : ℕ) → q < 512 → slice_index to.new (at + q) ≡ slice_index from.now (start + q) }
-    ensures outside { (p : ℕ) → (at ≤ p → p < at + 512 → ⊥) → slice_index to.new p ≡ slice_index to.old p }
-{
-    to[at..at + WORDS].copy_from_slice(&from[start..start + WORDS]);
-}
-
-/// Copies all words of the frame with number `from` to another one, `to`.
-fn copy_words(words: &mut [u64], from: usize, to: usize)
-    requires from { 512 * from + 512 ≤ length words.old }
-    requires to { 512 * to + 512 ≤ length words.old }
-    requires apart { from ≢ to }
-    ensures { PutsMany words.old words.new to 0 512 (λ i. slice_index words.old (512 * from + i)) }
-{
-    if from < to {
-        let (front, back) = words.split_at_mut(WORDS * to);
-        put_frame(back, 0, front, WORDS * from);
-    } else {
-        let (front, back) = words.split_at_mut(WORDS * from);
-        put_frame(front, WORDS * to, back, 0);
     }
 }

@@ -2,7 +2,7 @@
 // frames), with `new`, `report` (how many frames are free, held, shared) and the calls of `FrameAccess` and
 // `FrameSupply`. `PlainSeat`: a seat (an owner's capability) at it.
 
-ghost use Rattle.std.specs.Prelude.{◌≡◌, ◌<◌, ◌≤◌, ◌∷◌, [], count_by, IfOk, length, slice_index, sum};
+ghost use Rattle.std.specs.Prelude.{◌≡◌, ◌+◌, ◌*◌, ◌<◌, ◌≤◌, ◌∷◌, [], count_by, IfOk, length, slice_get, slice_index, sum};
 ghost use Rattle.frame_store.specs.Plain.{PlainStateRule, held_within, is_shared, is_zero, initial_plain_state, report_of, to_back, to_front};
 ghost use Rattle.frame_store.specs.View.{opening_view};
 
@@ -94,11 +94,12 @@ impl PlainFrames {
         Ok((store, seat))
     }
 
-    /// Returns the words of all frames, 512 of each, those of frame 0 first.
-    pub fn words(&self) -> &[u64]
-        ensures { result.now ≡ self.now.words }
+    /// Returns the word at `index`, below 512, of a frame; `None` if there is no frame of this number.
+    pub fn word(&self, frame: FrameNo, index: usize) -> Option<u64>
+        requires in_page { index < 512 }
+        ensures { result ≡ slice_get self.now.words (frame.0 * 512 + index) }
     {
-        self.words.as_slice()
+        self.words.get(frame, index)
     }
 
     /// Returns the reference counts of all frames, by their numbers.

@@ -26,6 +26,7 @@ use address_space::Region;
 use arrayvec::ArrayVec;
 use process_model::{Phase, Policy};
 use sv39_entry::{Access, FrameNo, Rule, Satp, Scheme, Va};
+use table_walk::StoredWords;
 
 impl Machine {
     /// Returns the number of harts; they are numbered from 0.
@@ -122,11 +123,11 @@ impl Machine {
         }
     }
 
-    /// Returns the words of all frames, 512 of each, those of frame 0 first.
-    pub fn words(&self) -> &[u64]
-        ensures { result.now ≡ self.now.frames.words }
+    /// Returns the words of all frames as a memory for walks.
+    pub fn words(&self) -> StoredWords<'_>
+        ensures { result ≡ self.now.frames.words }
     {
-        self.frames.words()
+        StoredWords::new(&self.frames)
     }
 
     /// Returns the reference counts of all frames, by their numbers.

@@ -7,7 +7,6 @@ use hart_machine::Machine;
 use line_traces::{RegionLine, buffer_of, frame_page};
 use script_reader::{first_field, number};
 use std::alloc::AllocError;
-use table_walk::PlainWords;
 use walk_lines::{TableLine, TableTitle, table_entries};
 
 /// What is told of a question before a machine was booted.
@@ -100,7 +99,7 @@ fn put_tables(out: &mut String, machine: &Machine, slot: usize) -> Result<(), Al
     let scheme = machine.scheme();
     let title = TableTitle { root: root.ppn() };
     writeln!(out, "{title}")?;
-    let mut words = PlainWords::new(machine.words());
+    let mut words = machine.words();
     for entry in table_entries(alloc, &mut words, scheme, root.ppn())?.as_slice() {
         let line = TableLine {
             scheme,

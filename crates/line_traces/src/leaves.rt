@@ -9,7 +9,6 @@ use serde::Serialize;
 use std::alloc::{AllocError, Global};
 use std::fmt;
 use sv39_entry::{Entry, Kind};
-use table_walk::PlainWords;
 use walk_lines::{Hex, LeafLine, TableEntry, table_entries};
 
 /// A leaf that a line changed: what it was and what it is; none if there was none, or is none.
@@ -36,7 +35,7 @@ pub fn leaves_of(
     let Some(root) = machine.root(slot) else {
         return Ok(leaves);
     };
-    let mut words = PlainWords::new(machine.words());
+    let mut words = machine.words();
     let entries = table_entries(alloc, &mut words, machine.scheme(), root.ppn())?;
     for entry in entries.as_slice() {
         if Entry::from_word(entry.word).kind() == Kind::Leaf {

@@ -10,7 +10,7 @@ use serde::{Described, Serialize, Serializer};
 use std::alloc::{AllocError, Global};
 use std::fmt;
 use sv39_entry::{Entry, FrameNo, Kind, Scheme, Va};
-use table_walk::PlainWords;
+use table_walk::StoredWords;
 use walk_lines::{Flags, Hex, WalkEntry, walk_entries};
 
 /// A word that a page table walk read.
@@ -110,21 +110,20 @@ pub fn reference_count(counts: &[u16], word: Option<u64>) -> Option<u16>
     }
 }
 
-/// Returns the words that the walk of an address reads from a root on, the root's first. `words` are those of all frames, 512 of
-/// each, and `counts` the frames' reference counts.
+/// Returns the words that the walk of an address reads from a root on, the root's first. `words` are those of all frames,
+/// and `counts` the frames' reference counts.
 ///
 /// # Errors
 /// `AllocError`: the host is out of memory.
 pub fn walk_of(
     alloc: Global,
-    words: &[u64],
+    mut words: StoredWords<'_>,
     counts: &[u16],
     scheme: Scheme,
     root: u64,
     va: Va,
 ) -> Result<Vec<WalkLine>, AllocError> {
-    let mut memory = PlainWords::new(words);
-    let entries = walk_entries(&mut memory, scheme, root, va);
+    let entries = walk_entries(&mut words, scheme, root, va);
     let mut lines = Vec::new(alloc);
     for entry in entries.as_slice() {
         lines.push(WalkLine {

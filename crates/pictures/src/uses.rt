@@ -6,7 +6,6 @@ ghost use Rattle.process_model.specs.World.{World};
 use hart_machine::Machine;
 use std::alloc::{AllocError, Global};
 use sv39_entry::{Entry, FrameNo, Kind, Scheme};
-use table_walk::PlainWords;
 use walk_lines::{TableEntry, table_entries};
 
 /// What the page tables of a process have in a frame.
@@ -38,7 +37,7 @@ pub fn entries_of(
 {
     match machine.root(slot) {
         Some(root) => {
-            let mut words = PlainWords::new(machine.words());
+            let mut words = machine.words();
             table_entries(alloc, &mut words, machine.scheme(), root.ppn())
         }
         None => Ok(Vec::new(alloc)),
