@@ -162,13 +162,17 @@ impl Layout {
     pub fn copied(&self) -> Layout
         ensures { result ≡ self.now }
     {
-        Layout {
+        // the lists are filled where they lie: to move one costs more than to copy the few regions in it
+        let mut copy = Layout {
             scheme: self.scheme,
-            parts: copied(&self.parts),
-            mappings: copied(&self.mappings),
+            parts: ArrayVec::new(),
+            mappings: ArrayVec::new(),
             heap_base: self.heap_base,
             size: self.size,
-        }
+        };
+        copy_regions(&mut copy.parts, &self.parts);
+        copy_regions(&mut copy.mappings, &self.mappings);
+        copy
     }
 
     /// Returns the region that holds the page with this number, a part, the heap or a mapping; `None` if none does.
@@ -260,15 +264,14 @@ impl Layout {
     }
 }
 
-/// Returns an equal list of regions.
-fn copied<const CAP: usize>(list: &ArrayVec<Region, CAP>) -> ArrayVec<Region, CAP>
-    ensures { result.items ≡ list.now.items }
+/// Copies a list of regions to an empty one.
+fn copy_regions<const CAP: usize>(copy: &mut ArrayVec<Region, CAP>, list: &ArrayVec<Region, CAP>)
+    requires { copy.old.items ≡ [] }
+    ensures { copy.new.items ≡ list.now.items }
 {
-    let mut copy = ArrayVec::new();
     if copy.try_extend_from_slice(list.as_slice()).is_err() {
         unreachable!()
     }
-    copy
 }
 
 /// Returns how many regions at the front of the list begin at page `first` or below.

@@ -1,6 +1,6 @@
--- Fork of the process in a slot, a place in the process table: parent and child after it (`HasForkedProcess`), and the reply
--- by the result (`forked_or_refused`).
-use Rattle.std.specs.Prelude.{◌≡◌, ℕ, Err, Ok, Result, Some}
+-- Fork of the process in a slot, a place in the process table: parent and child after it (`HasForkedProcess`), the child as it
+-- comes into its slot (`in_slot`), and the reply by the result (`forked_or_refused`).
+use Rattle.std.specs.Prelude.{◌≡◌, ℕ, Err, None, Ok, Result, Some}
 use Rattle.process_model.specs.PageMap as pages
 use Rattle.process_model.specs.Process.{Page, Process}
 use Rattle.process_model.specs.Residence.{child_of, marked}
@@ -9,6 +9,9 @@ use Rattle.process_model.specs.declared.step.Reply.{Reply}
 use Rattle.process_model.specs.declared.step.Reply.TheVariants.{Forked, Refused}
 use Rattle.table_walk.specs.Tables.{Tables}
 use Rattle.address_space.specs.Agreement.{IsFrameOfPage}
+use Rattle.address_space.specs.Layouts.{Layout}
+use Rattle.cow_fork.specs.declared.fork_process.Child.{Child}
+use Rattle.frame_store.specs.View.{View}
 use Rattle.hart_machine.specs.SlotProcesses.{IsSlotProcess}
 use Rattle.hart_machine.specs.declared.slot_process.SlotProcess.{SlotProcess}
 
@@ -16,6 +19,10 @@ use Rattle.hart_machine.specs.declared.slot_process.SlotProcess.{SlotProcess}
 abbrev pub forked_or_refused : {A : Type 0} → Result (ℕ × A) Refusal → Reply
 forked_or_refused (Ok x) = Forked x.0
 forked_or_refused (Err e) = Refused e
+
+-- a child with this layout, as the process in a slot; no access is pending
+abbrev pub in_slot : Child View → Layout → SlotProcess
+in_slot child layout = record { space = record { seat = child.seat; root = child.root; trapframe = child.trapframe; layout = layout }; pending = None }
 
 -- parent and child are those of the model, and both have each settled page on the frame that the parent had
 pub record HasForkedProcess (y z : SlotProcess) (t : Tables) (p : Process) : Type 0 where

@@ -8,7 +8,7 @@ ghost use Rattle.frame_store.specs.Laws.{IsSeatOf, KeepsSeats};
 ghost use Rattle.frame_store.specs.Plain.{PlainStateRule};
 ghost use Rattle.frame_store.specs.View.{IsHeld, View};
 ghost use Rattle.hart_machine.specs.Buffers.{SameBuffers};
-ghost use Rattle.hart_machine.specs.ForkEffect.{forked_or_refused, HasForkedProcess};
+ghost use Rattle.hart_machine.specs.ForkEffect.{forked_or_refused, HasForkedProcess, in_slot};
 ghost use Rattle.hart_machine.specs.SlotProcesses.{body_in, IsSlotProcess, view_of};
 ghost use Rattle.hart_machine.specs.Marks.{AreMarked, child_in, marked_with};
 ghost use Rattle.hart_machine.specs.Worlds.{IsWorld, KeepsTables, IsModelOutcome};
@@ -25,9 +25,9 @@ ghost use Rattle.table_walk.specs.Tables.{Tables};
 use crate::machine::Machine;
 use crate::slot_process::SlotProcess;
 use crate::stale_marks::{StepEffect, slot_if};
-use address_space::SettledPage;
-use cow_fork::fork_listed;
-use frame_store::PlainFrames;
+use address_space::{SettledPage, Space};
+use cow_fork::{Child, fork_listed};
+use frame_store::{PlainFrames, PlainSeat};
 use process_model::{Refusal, ScalarReply};
 
 impl Machine {
@@ -75,14 +75,23 @@ impl Machine {
         let settled = slot_process.settled_pages(frames, list);
         let unmarked = slot_process.has_unmarked(settled);
         let child = slot_process.fork(frames, settled)?;
-        self.slots[place] = Some(child);
+        let layout = slot_process.space.layout.copied();
+        self.slots[place] = Some(SlotProcess {
+            space: Space {
+                seat: child.seat,
+                root: child.root,
+                trapframe: child.trapframe,
+                layout,
+            },
+            pending: None,
+        });
         Ok((place, slot_if(slot, unmarked)))
     }
 }
 
 impl SlotProcess {
-    /// Forks the process, whose settled pages are `settled`, and returns the child. No access is pending then, in parent and
-    /// child.
+    /// Forks the process, whose settled pages are `settled`, and returns the child, to which a copy of the parent's layout
+    /// belongs. No access is pending then.
     ///
     /// # Errors
     /// `NoFrame`: exactly when fewer than `fork_need` frames are free. The process is then what it was.
@@ -90,24 +99,20 @@ impl SlotProcess {
         &mut self,
         frames: &mut PlainFrames,
         settled: &[SettledPage],
-    ) -> Result<SlotProcess, Refusal>
+    ) -> Result<Child<PlainSeat>, Refusal>
         requires fits { IsSeatOf PlainStateRule frames.old (view_of self.old) }
         requires ready { (t : Tables) × (p : Process) × IsSlotProcess self.old t p }
         requires settled { (t : Tables) (p : Process) → IsSpace (body_in self.old) t p → AreSettled t p 0 (trapframe_page p.scheme) settled.now }
         requires few { (f : ℕ) → IsHeld (view_of self.old) f → slice_index frames.old.counts f < 65535 }
-        ensures forked { IfOk result (λ child. (t : Tables) (p : Process) → IsSlotProcess self.old t p → HasForkedProcess self.new child t p) }
+        ensures forked { IfOk result (λ child. (t : Tables) (p : Process) → IsSlotProcess self.old t p → HasForkedProcess self.new (in_slot child self.new.space.layout) t p) }
         ensures trapframe { self.new.space.trapframe ≡ self.old.space.trapframe }
         ensures enough { IfOk result (λ _. (t : Tables) (p : Process) → IsSlotProcess self.old t p → frames.old.free < fork_need p → ⊥) }
         ensures dry { IfErr result (λ e. (e ≡ refusal.NoFrame) × ((t : Tables) (p : Process) → IsSlotProcess self.old t p → frames.old.free < fork_need p)) }
         ensures whole { IfErr result (λ _. (t : Tables) (p : Process) → IsSlotProcess self.old t p → IsSlotProcess self.new t p) }
-        ensures keeps { IfOk result (λ child. (others : List View) → PlainStateRule frames.old (view_of self.old ∷ others) → PlainStateRule frames.new (view_of self.new ∷ view_of child ∷ others)) }
+        ensures keeps { IfOk result (λ child. (others : List View) → PlainStateRule frames.old (view_of self.old ∷ others) → PlainStateRule frames.new (view_of self.new ∷ child.seat ∷ others)) }
         ensures keeps_refused { IfErr result (λ _. KeepsSeats PlainStateRule frames.old (view_of self.old) frames.new (view_of self.new)) }
     {
-        let space = fork_listed(&mut self.space, frames, settled)?;
-        let child = SlotProcess {
-            space,
-            pending: None,
-        };
+        let child = fork_listed(&mut self.space, frames, settled)?;
         self.pending = None;
         Ok(child)
     }

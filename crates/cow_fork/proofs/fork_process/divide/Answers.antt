@@ -1,4 +1,4 @@
-use Rattle.std.proofs.Common.{◌≡◌, ℕ, sym, subst, ◌∙◌, List, map}
+use Rattle.std.proofs.Common.{◌≡◌, ℕ, ap, sym, subst, ◌∙◌, List, map}
 use Rattle.address_space.specs.Agreement.{body, body_of}
 use Rattle.address_space.specs.SpacesInCalls.{IsSpaceInCall, RewritesLeaves}
 use Rattle.frame_store.specs.Laws.{fits_after}
@@ -107,7 +107,10 @@ returns-clause-divided g c v t p can =
     let m = c.mark_pages.ensures.marked t p _ (forking_now g at v t p can) can.settled in
     let all = divides v _ _ _ _ _ t m.0 k.0 p _ _ _ can.space k.1 (forking_marked g now t m.0 p (λ f. times f (map (λ (x : FrameNo). x.0) c.build_child.new.frames.items)) m.1) (turned_marked g now t m.0 p (λ f. times f (map (λ (x : FrameNo). x.0) c.build_child.new.frames.items)) m.2) _ _
     (rw c.as_slice.ensures.value at c.split-seat.ensures.left) (rw c.as_slice.ensures.value at c.split-seat.ensures.right) in
-    (m.0, k.0, rw (c.copied.ensures, marked_root g now, marked_trapframe g now, marked_layout g now) all)
+    (m.0, k.0, rw (marked_root g now, marked_trapframe g now, marked_layout g now) all)
 
 pub returns-clause-keeps : goal.returns-clause-keeps
 returns-clause-keeps g c others r = c.split-seat.ensures.keeps others (c.mark_pages.ensures.keeps others (c.build_child.ensures.keeps others r))
+
+pub returns-clause-free : goal.returns-clause-free
+returns-clause-free g c alone = ap g.F.FrameAccess.free c.split-seat.ensures.same ∙ c.mark_pages.ensures.free alone ∙ c.build_child.ensures.free alone

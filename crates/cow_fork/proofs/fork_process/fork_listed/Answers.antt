@@ -1,5 +1,5 @@
 use Rattle.std.proofs.Common.{ap, inl, inr, Err, refl, subst, arith, sym, ◌∙◌}
-use Rattle.address_space.specs.Agreement.{body_of}
+use Rattle.address_space.specs.Agreement.{body, body_of}
 use Rattle.frame_store.specs.Laws.{fits_after}
 use Rattle.cow_fork.specs.Forks.{Forks}
 use Rattle.cow_fork.proofs.Refusals.{all_held, can_divide, dry_whole, either_refusal, few_pages, going_once, runs_dry, same_error, space_anchored, whole_again, takes_counted}
@@ -95,7 +95,12 @@ returns-clause-forked g c t p space =
     refl e.root e.trapframe e.layout (c.fork_need-need.ensures.need t p (space.lays.scheme ∙ sym c.scheme-scheme.ensures) space.stands.shows.low (c.requires.settled t p space)) c.in_default.ensures.prepared in
     let all = c.divide.ensures.divided _ t p can in
     let before = body_between _ _ c.prepare.new.space c.args.space.now refl e.root e.trapframe e.layout in
-    (all.0, all.1, subst (λ b. Forks b (body_of g.S.FrameSeat.view c.divide.new.space) (body_of g.S.FrameSeat.view c.divide.result) t all.0 all.1 p) before all.2)
+    let child = c.divide.result in (
+      all.0,
+      all.1,
+      subst (λ l. Forks (body_of g.S.FrameSeat.view c.args.space.now) (body_of g.S.FrameSeat.view c.divide.new.space) (body (g.S.FrameSeat.view child.seat) child.root.0 child.trapframe.0 l) t all.0 all.1 p) e.layout
+          (subst (λ b. Forks b (body_of g.S.FrameSeat.view c.divide.new.space) (body (g.S.FrameSeat.view child.seat) child.root.0 child.trapframe.0 c.prepare.new.space.layout) t all.0 all.1 p) before all.2),
+    )
 
 pub returns-clause-short : goal.returns-clause-short
 returns-clause-short g c alone t p space =

@@ -12,6 +12,7 @@ use Rattle.process_model.specs.Steps.{plain_step}
 use Rattle.process_model.specs.World.{refuses}
 use Rattle.process_model.specs.declared.step.Refusal.TheVariants.{NoFrame, NoSlot}
 use Rattle.process_model.specs.declared.step.Step.TheVariants as step
+use Rattle.hart_machine.specs.ForkEffect.{in_slot}
 use Rattle.hart_machine.specs.SlotProcesses.{body_in, IsSlotProcess, view_of}
 use Rattle.hart_machine.specs.declared.machine.Machine.{Machine}
 use Rattle.hart_machine.specs.declared.slot_process.SlotProcess.{SlotProcess}
@@ -177,10 +178,10 @@ returns-clause-made c w is =
     let u = c.settled_pages-settled in
     let y = c.fork.new in
     let e = c.in_ok-child.ensures in
-    forks_wet m w is c.args.hart s caller x y.self there y.frames c.in-Some.place to c.in_ok-child.child
+    rw c.copied-layout.ensures (forks_wet m w is c.args.hart s caller x y.self there y.frames c.in-Some.place to (in_slot c.in_ok-child.child y.self.space.layout)
     (λ t p a. e.forked t p (subst (λ (z : SlotProcess). IsSlotProcess z t p) (sym u.ensures.same) a))
     (λ t p a few. e.enough t p (subst (λ (z : SlotProcess). IsSlotProcess z t p) (sym u.ensures.same) a) (subst (λ (b : PlainState). b.free < fork_need p) (sym u.ensures.frames) few))
-    (λ others rule. e.keeps others (subst (λ (z : SlotProcess). PlainStateRule u.new.frames (view_of z ∷ others)) (sym u.ensures.same) (subst (λ (b : PlainState). PlainStateRule b (view_of x ∷ others)) (sym u.ensures.frames) rule)))
+    (λ others rule. e.keeps others (subst (λ (z : SlotProcess). PlainStateRule u.new.frames (view_of z ∷ others)) (sym u.ensures.same) (subst (λ (b : PlainState). PlainStateRule b (view_of x ∷ others)) (sym u.ensures.frames) rule))))
 
 pub returns-clause-changed : goal.returns-clause-changed
 returns-clause-changed c w is =
@@ -220,5 +221,5 @@ returns-clause-tables c w is =
     let parent = slot_keeps_by m between w.slots (slice_set w.slots s (Some (marked q.0))) s x y.self q.0 (marked q.0) (is.tables s) has.after q.2 has.parent there q.1 refl refl refl
     (λ unchanged. followed_same x y.self (is.tables s) has.after q.0 (marked q.0) q.2 has.parent unchanged refl frame refl w.counter (λ n a at. is.counted s n q.0 a q.1 at)
     (λ n f z at low. let old = was_alike q.0 (marked q.0) unchanged n z at in has.on_parent n f old.0 old.1)) in
-    then_born m between _ w.slots _ _ c.in-Some.place c.in_ok-child.child (child_of q.0) parent (free_place m w is c.in-Some.place to) refl refl
+    then_born m between _ w.slots _ _ c.in-Some.place _ (child_of q.0) parent (free_place m w is c.in-Some.place to) refl refl
     (fork_sets m w is c.args.hart s caller x y.self there y.frames c.in-Some.place to q.0 q.1 (λ few. e.enough (is.tables s) q.0 before (subst (λ (b : PlainState). b.free < fork_need q.0) (sym u.ensures.frames) few)))
