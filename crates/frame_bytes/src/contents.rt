@@ -109,15 +109,11 @@ pub(crate) fn store_in_word<F: FrameAccess>(
     store.store(seat, frame, index, u64::from_le_bytes(word));
 }
 
-/// Overwrites the bytes from index `at` on with `part`. Eight bytes are copied as one word.
+/// Overwrites the bytes from index `at` on with `part`.
 pub(crate) fn overwrite(bytes: &mut [u8], at: usize, part: &[u8])
     requires { at + length part.now ≤ length bytes.old }
     ensures { bytes.new ≡ write_bytes bytes.old at part.now }
 {
-    if part.len() == 8 {
-        bytes[at..at + 8].copy_from_slice(part);
-        return;
-    }
     bytes[at..at + part.len()].copy_from_slice(part);
 }
 

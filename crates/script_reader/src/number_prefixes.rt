@@ -154,7 +154,8 @@ fn hexadecimal_prefix(text: &[u8]) -> Option<(u64, &[u8])>
 
 /// Parses the decimal digits that a text begins with, at least one, up to the end of the field: returns their
 /// number, below 2^64, and what follows them. `None` too if a digit follows a number of 2^60 or more:
-/// such a number may be below 2^64, and is then read field by field.
+/// such a number may be below 2^64, and is then read field by field. Inlined, so that the result need not go through memory.
+#[inline(always)]
 fn decimal_prefix(text: &[u8]) -> Option<(u64, &[u8])>
     ensures { IfSome result (λ found. IsEndedPrefix 10 text.now found.1.now found.0) }
 {
@@ -239,15 +240,19 @@ pub fn next_number(line: &[u8]) -> Option<(u64, &[u8])>
 }
 
 /// Parses the next field of a line as a number, for addresses and values: returns it and what follows it. `None`: to be read
-/// field by field. `0x` and digits after at most one space are tried first.
+/// field by field. `0x` and digits, or decimal digits, after at most one space are tried first.
 #[inline(always)]
 pub fn next_address(line: &[u8]) -> Option<(u64, &[u8])>
     ensures { IfSome result (λ found. IsNext line.now found.1.now kind.Number (value.Number found.0)) }
 {
-    if let Some(digits) = behind_prefix(behind_blank(line)) {
+    let text = behind_blank(line);
+    if let Some(digits) = behind_prefix(text) {
         return hexadecimal_prefix(digits);
     }
-    next_number(line)
+    if let Some(found) = decimal_prefix(text) {
+        return Some(found);
+    }
+    any_number(line)
 }
 
 /// What follows the `-` that a text begins with.

@@ -14,7 +14,8 @@ use sv39_entry::{Entry, EntryFlags, Kind, Scheme, Va};
 /// Walks the tables below the root with physical page number `root`, and returns what it finds for a virtual address,
 /// whatever the rights (the standard, 4.3.2, steps 1 to 4 and 6): `Leaf`; `Outside` if a word of a table on the way lies
 /// outside the memory; else `NoLeaf`, also if the address is not canonical. Each table on the way must be readable
-/// (`Words::readable`).
+/// (`Words::readable`). Inlined, so that what the walk finds need not go through memory.
+#[inline(always)]
 pub fn lookup<M: Words>(words: &mut M, scheme: Scheme, root: u64, va: Va) -> Found
     requires { CanWalk scheme (M.readable words.old) (M.memory words.old) root (page_of va.0) }
     ensures found { Finds scheme (M.memory words.old) root va.0 result }
@@ -31,7 +32,7 @@ pub fn lookup<M: Words>(words: &mut M, scheme: Scheme, root: u64, va: Va) -> Fou
 
 /// `lookup` of a canonical address. The level of the root's entries is a constant of the call, so that the walk of each
 /// scheme is compiled for itself, with as many steps as it has levels.
-#[inline]
+#[inline(always)]
 fn lookup_from<M: Words, const TOP: u32>(words: &mut M, scheme: Scheme, root: u64, va: Va) -> Found
     requires walk { CanWalk scheme (M.readable words.old) (M.memory words.old) root (page_of va.0) }
     requires canonical { is_canonical scheme va.0 ≡ true }

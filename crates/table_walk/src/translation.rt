@@ -66,7 +66,9 @@ pub fn has_byte<M: Words>(words: &M, address: u64) -> bool
 
 /// Translates an access by the tables below a root, which the seat must have. If each of their leaves names a frame, the
 /// result is what the tables say: the leaf at level 0 and the physical address, or a page fault with its cause if the page
-/// has no leaf, the address is not canonical, or the leaf's rights do not permit the access. Changes nothing.
+/// has no leaf, the address is not canonical, or the leaf's rights do not permit the access. Changes nothing. Inlined, as
+/// `lookup` is.
+#[inline(always)]
 pub fn translate_held<F: FrameAccess>(
     store: &mut F,
     seat: &mut F::Seat,

@@ -1,4 +1,4 @@
-use Rattle.std.proofs.Common.{◌≡◌, ℕ, List, refl, ◌+◌, ◌-◌, ◌%◌, ◌<◌, ◌≤◌, ◌∙◌, take, drop, length, slice_index, add_assoc, ap, sym, subst, arith}
+use Rattle.std.proofs.Common.{◌≡◌, ℕ, List, refl, ◌+◌, ◌%◌, ◌<◌, ◌≤◌, ◌∙◌, take, drop, length, slice_index, add_assoc, ap, sym, subst, arith}
 use Rattle.std.specs.Int.{w64, to_le_bytes}
 use Rattle.frame_bytes.specs.Contents.{HasBytes}
 use Rattle.process_model.specs.Bytes.{write_bytes}
