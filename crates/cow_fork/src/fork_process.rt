@@ -1,7 +1,7 @@
 // The calls `fork`, `fork_with` and `fork_listed` by copy-on-write (MIT 6.1810, copy-on-write lab); the enum `ForkError`, why
-// one is refused; and the struct `Child`, what `fork_listed` makes. A fork reserves frames, takes references to those to be shared, builds the child's page tables, sets
-// the parent's fork marks (the next store takes the page over), and splits the child's seat (an owner's capability at a frame
-// store) off the parent's.
+// one is refused; and the struct `Child`, what `fork_listed` makes. A fork reserves frames, takes references to those to be
+// shared, builds the child's page tables, sets the parent's fork marks (the next store takes the page over), and splits the
+// child's seat (an owner's capability at a frame store) off the parent's.
 
 ghost use Rattle.std.specs.Prelude.{[], ◌∷◌, ◌≡◌, ◌-◌, ◌↔◌, ◌<◌, ◌≤◌, if◌then◌else◌, IfErr, IfOk, is_ok, length, List, map, ℕ};
 ghost use Rattle.address_space.specs.Agreement.{body, body_of, IsSpace};

@@ -143,6 +143,7 @@ impl SlotProcess {
     {
         let before = self.residence(frames, va, Access::Load);
         let reply = self.send(frames, files, va, count);
+        // a resident page stays resident: then there is nothing to ask
         if before.0 && before.1 {
             return (reply, false);
         }
@@ -190,6 +191,7 @@ impl SlotProcess {
     {
         let before = self.residence(frames, va, Access::Store);
         let reply = self.receive(frames, files, va, bytes);
+        // a resident page stays resident: then there is nothing to ask
         if before.0 && before.1 {
             return (reply, false);
         }
