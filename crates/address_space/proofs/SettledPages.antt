@@ -18,7 +18,7 @@ use Rattle.sv39_entry.specs.declared.frame.FrameNo.{FrameNo}
 use Rattle.sv39_entry.specs.Schemes.{trampoline_page, trapframe_page, of_scheme}
 use Rattle.table_walk.specs.Tables.{Tables, leaf_node}
 use Rattle.address_space.specs.Agreement.{body, no_extra}
-use Rattle.address_space.specs.SpaceTeardown.{AreUnmapped, IsFirstMapped}
+use Rattle.address_space.specs.SpaceTeardown.{AreUnmapped, IsFirstLeaf, IsFirstMapped}
 use Rattle.address_space.specs.Layouts.{Layout}
 use Rattle.address_space.specs.ProcessLeaves.{frame_is}
 use Rattle.address_space.specs.SettledLists.{AreUnsettled, IsNextSettled, IsSettledPage}
@@ -52,6 +52,11 @@ module _ (v : View) (root trapframe : ℕ) (l : Layout) (t : Tables) (p : Proces
       | inl below ↦ unsettled first (min up end) bare n from (omega (arith, below, less))
       | inr above ↦ none_above n (pages.get p.settled n) above refl
     ]
+
+    -- the first leaf before that page, too, is the first of all
+    pub first_leaf : (first up : ℕ) (o : Option (ℕ × ℕ)) → IsFirstMapped t first (min up end) o → IsFirstLeaf t p first up o
+    first_leaf first up None bare = unsettled_above first up bare
+    first_leaf first up (Some found) is = (is.0, omega (arith, is.1), is.2, is.3)
 
   -- a leaf below the trapframe's is a settled page's
   of_leaf : (page w : ℕ) → page < (trapframe_page p.scheme) → get t.leaves (leaf_node page) ≡ Some w → (s : Page) × (pages.get p.settled page ≡ Some s)

@@ -13,6 +13,7 @@ use Rattle.sv39_entry.specs.Schemes.{trampoline_page, trapframe_page}
 use Rattle.sv39_entry.specs.declared.scheme.Scheme.{Scheme}
 use Rattle.table_walk.specs.Tables.{HasTables, Tables, leaf_node, without_leaf}
 use Rattle.address_space.specs.Agreement.{Body, code_rights, data_rights, HasKernelLeaf, HoldsTrapframe, IsFrameOfPage, no_extra, OwnsFrames, IsInMemory}
+use Rattle.address_space.specs.SettledLists.{AreUnsettled}
 use Rattle.address_space.specs.Steps.{TakesFrames}
 
 -- no page from `first` up to, and without, `end` has a leaf
@@ -23,6 +24,11 @@ AreUnmapped t first end = (n : ℕ) → first ≤ n → n < end → get t.leaves
 abbrev pub IsFirstMapped : Tables → ℕ → ℕ → Option (ℕ × ℕ) → Type 0
 IsFirstMapped t first end None = AreUnmapped t first end
 IsFirstMapped t first end (Some p) = (first ≤ p.0) × (p.0 < end) × (get t.leaves (leaf_node p.0) ≡ Some p.1) × AreUnmapped t first p.0
+
+-- the first settled page of a range, and its leaf; None if no page of the range is settled
+abbrev pub IsFirstLeaf : Tables → Process → ℕ → ℕ → Option (ℕ × ℕ) → Type 0
+IsFirstLeaf t p first end None = AreUnsettled p first end
+IsFirstLeaf t p first end (Some found) = IsFirstMapped t first end (Some found)
 
 -- the leaves of the pages from `first` up to, and without, `end` are gone; every other leaf and every table is as it was
 pub record Drops (t u : Tables) (first end : ℕ) : Type 0 where

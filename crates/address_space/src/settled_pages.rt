@@ -6,6 +6,7 @@ ghost use Rattle.std.specs.FinMap.{get};
 ghost use Rattle.std.specs.Prelude.{◌≡◌, ◌<◌, ◌≤◌, ℕ, IfSome, IsSome, Some};
 ghost use Rattle.address_space.specs.Agreement.{body_of, no_extra};
 ghost use Rattle.address_space.specs.SettledLists.{IsNextSettled, IsSettled};
+ghost use Rattle.address_space.specs.SpaceTeardown.{IsFirstLeaf};
 ghost use Rattle.address_space.specs.SpacesInCalls.{IsSpaceInCall};
 ghost use Rattle.frame_store.specs.Laws.{IsSeatOf, KeepsSeats};
 ghost use Rattle.process_model.specs.Process.{Process};
@@ -118,34 +119,61 @@ impl<S: FrameSeat> Space<S> {
         ensures same { store.new ≡ store.old }
         ensures keeps { KeepsSeats F.rule store.old self.old.seat store.new self.new.seat }
     {
+        let from = Vpn::new(first)?;
+        let (page, leaf) = self.next_leaf(store, from, end, last)?;
+        Some(settled_by(page, leaf))
+    }
+
+    /// `next_settled_with_last` from a page on, with the settled page's leaf in place of what it says. So a `SettledPage` is made
+    /// where it is used. One that is passed on through memory has its small fields written one by one and read as one word,
+    /// and a processor waits there for the writes.
+    #[inline(always)]
+    fn next_leaf<F: FrameAccess<Seat = S>>(
+        &mut self,
+        store: &mut F,
+        first: Vpn,
+        end: Vpn,
+        last: &mut Option<LastTable>,
+    ) -> Option<(Vpn, Entry)>
+        requires fits { IsSeatOf F.rule store.old self.old.seat }
+        requires ready { (t : Tables) × (p : Process) × IsSpaceInCall (body_of S.view self.old) t p no_extra × IsLastTable p.scheme t last.old }
+        requires low { end ≤ trapframe_page self.old.layout.scheme }
+        ensures leaf { (t : Tables) (p : Process) → IsSpaceInCall (body_of S.view self.old) t p no_extra → IsLastTable p.scheme t last.old → IsFirstLeaf t p first end result }
+        ensures kept { (t : Tables) (p : Process) → IsSpaceInCall (body_of S.view self.old) t p no_extra → IsLastTable p.scheme t last.old → IsLastTable p.scheme t last.new }
+        ensures root { self.new.root ≡ self.old.root }
+        ensures trapframe { self.new.trapframe ≡ self.old.trapframe }
+        ensures layout { self.new.layout ≡ self.old.layout }
+        ensures view { S.view self.new.seat ≡ S.view self.old.seat }
+        ensures same { store.new ≡ store.old }
+        ensures keeps { KeepsSeats F.rule store.old self.old.seat store.new self.new.seat }
+    {
         let scheme = self.layout.scheme();
-        let page = Vpn::new(first)?;
         if let Some(leaf) = leaf_before(
             store,
             &mut self.seat,
             scheme,
             self.root,
-            page,
+            first,
             end.number(),
             last,
         ) {
-            return Some(settled_by(page, leaf));
+            return Some((first, leaf));
         }
-        self.search_settled(store, page, end)
+        self.search_leaf(store, first, end)
     }
 
-    /// `next_settled` by a search through the page tables, from a page on. Stops where the process's regions end.
+    /// `next_leaf` by a search through the page tables. Stops where the process's regions end.
     #[inline(never)]
-    fn search_settled<F: FrameAccess<Seat = S>>(
+    fn search_leaf<F: FrameAccess<Seat = S>>(
         &mut self,
         store: &mut F,
         first: Vpn,
         end: Vpn,
-    ) -> Option<SettledPage>
+    ) -> Option<(Vpn, Entry)>
         requires fits { IsSeatOf F.rule store.old self.old.seat }
         requires ready { (t : Tables) × (p : Process) × IsSpaceInCall (body_of S.view self.old) t p no_extra }
         requires low { end ≤ trapframe_page self.old.layout.scheme }
-        ensures page { (t : Tables) (p : Process) → IsSpaceInCall (body_of S.view self.old) t p no_extra → IsNextSettled t p first end result }
+        ensures leaf { (t : Tables) (p : Process) → IsSpaceInCall (body_of S.view self.old) t p no_extra → IsFirstLeaf t p first end result }
         ensures root { self.new.root ≡ self.old.root }
         ensures trapframe { self.new.trapframe ≡ self.old.trapframe }
         ensures layout { self.new.layout ≡ self.old.layout }
@@ -155,8 +183,7 @@ impl<S: FrameSeat> Space<S> {
     {
         let scheme = self.layout.scheme();
         let end = end.number().min(self.layout.end());
-        let (page, leaf) = next_leaf_before(store, &mut self.seat, scheme, self.root, first, end)?;
-        Some(settled_by(page, leaf))
+        next_leaf_before(store, &mut self.seat, scheme, self.root, first, end)
     }
 }
 

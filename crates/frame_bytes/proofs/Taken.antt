@@ -1,5 +1,5 @@
 -- Lemmas: bytes that are copied out of loaded words of a frame are the page's bytes there: one byte, a part of a word, a
--- part that extends what was read before, and a whole run of bytes (`run_read`).
+-- part that extends what was read before, a whole run of bytes (`run_read`), and one that is read in three parts.
 use Rattle.std.proofs.Common.{◌≡◌, ℕ, ◌+◌, ◌-◌, ◌*◌, ◌/◌, ◌%◌, ◌^◌, ◌<◌, ◌≤◌, inl, inr, List, length, take, drop, slice_index, Some, ap, sym, ◌∙◌, arith, length-drop}
 use Rattle.std.proofs.lemmas.Bool.{cases_lt}
 use Rattle.std.proofs.lemmas.Grind.{common_steps}
@@ -8,8 +8,7 @@ use Rattle.std.specs.Int.{w64, to_le_bytes}
 use Rattle.frame_store.specs.View.{View, known_word}
 use Rattle.frame_bytes.specs.Contents.{HasBytes}
 use Rattle.frame_bytes.proofs.Numbers.{byte_of_word}
-use Rattle.frame_bytes.proofs.Writes.{at_before, at_inside, to_le}
-use Rattle.process_model.specs.Bytes.{write_bytes}
+use Rattle.frame_bytes.proofs.Writes.{to_le}
 use borrow.Rule.Slice.PartMut.{put_mid}
 
 -- a byte of a word that was loaded, and its place in the page
@@ -44,19 +43,6 @@ module _ (bytes part : List ℕ) (a n : ℕ) (room : a + n ≤ length bytes) (lo
         there ∙ rw place at (more (k - a) (omega arith))
   ]
 
--- the same where the part was written over what was there
-pub write_read : (bytes part : List ℕ) (a n : ℕ) → a + n ≤ length bytes → length part ≡ n → (byte : ℕ → ℕ)
-    → ((k : ℕ) → k < a → slice_index bytes k ≡ byte k) → ((k : ℕ) → k < n → slice_index part k ≡ byte (a + k))
-    → (k : ℕ) → k < a + n → slice_index (write_bytes bytes a part) k ≡ byte k
-write_read bytes part a n room long byte before more k h =
-    let fits : a + length part ≤ length bytes = omega (arith, room, long) in
-    elim (cases_lt k a) [
-      | inl below ↦ at_before bytes part a fits k below ∙ before k below
-      | inr from ↦
-          let place : a + (k - a) ≡ k = omega arith in
-          rw place at (at_inside bytes part a fits (k - a) (omega (arith, h, from, long)) ∙ more (k - a) (omega arith))
-    ]
-
 -- bytes that are those from an offset on
 pub run_read : (bytes page : List ℕ) (o n : ℕ) → o + n ≤ length page → length bytes ≡ n
     → ((k : ℕ) → k < n → slice_index bytes k ≡ slice_index page (o + k)) → bytes ≡ take n (drop o page)
@@ -64,3 +50,45 @@ run_read bytes page o n room long same =
     let left : n ≤ length (drop o page) = rw (length-drop o page) (omega (arith, room)) in
     ext_get_or 0 bytes (take n (drop o page)) (long ∙ sym (length-take-le n (drop o page) left))
     (λ k h. let below : k < n = omega (arith, h, long) in same k below ∙ sym (get_or-take n (drop o page) k 0 below ∙ get_or-drop o page k 0))
+
+-- the bytes of a run, one by one
+pub run_at : (bytes page : List ℕ) (o m n : ℕ) → m ≡ n → o + n ≤ length page → bytes ≡ take m (drop o page)
+    → (length bytes ≡ n) × ((k : ℕ) → k < n → slice_index bytes k ≡ slice_index page (o + k))
+run_at bytes page o m n same room is =
+    let left : n ≤ length (drop o page) = rw (length-drop o page) (omega (arith, room)) in
+    let run : bytes ≡ take n (drop o page) = rw same at is in (
+      ap length run ∙ length-take-le n (drop o page) left,
+      λ k h. ap (λ cs. slice_index cs k) run ∙ get_or-take n (drop o page) k 0 h ∙ get_or-drop o page k 0,
+    )
+
+-- so many bytes from the middle
+pub length-middle : (bytes : List ℕ) (a n : ℕ) → a + n ≤ length bytes → length (take n (drop a bytes)) ≡ n
+length-middle bytes a n room = length-take-le n (drop a bytes) (rw (length-drop a bytes) (omega (arith, room)))
+
+-- a run that is read in three parts; where the second is empty, it is read anywhere
+module _ (bytes first second third page : List ℕ) (o p a e : ℕ) (front : a ≤ e) (back : e ≤ length bytes) (room : o + length bytes ≤ length page)
+    (before : p ≤ o + a) (there : a < e → p ≡ o + a) where
+  abbrev pub one : List ℕ
+  one = put_mid 0 a bytes first
+
+  abbrev pub two : List ℕ
+  two = put_mid a (e - a) one second
+
+  pub three_read : first ≡ take (length (take a bytes)) (drop o page)
+      → second ≡ take (length (take (e - a) (drop a one))) (drop p page)
+      → third ≡ take (length (take (length bytes - e) (drop e two))) (drop (o + e) page)
+      → put_mid e (length bytes - e) two third ≡ take (length bytes) (drop o page)
+  three_read is_first is_second is_third =
+      let byte : ℕ → ℕ = λ k. slice_index page (o + k) in
+      let r = run_at first page o _ a (length-take-le a bytes (omega (arith, front, back))) (omega (arith, front, back, room)) is_first in
+      let long_one : length one ≡ length bytes = length-put_mid bytes first 0 a (omega (arith, front, back)) r.0 in
+      let in_one : (k : ℕ) → k < a → slice_index one k ≡ byte k
+      = λ k h. read_more bytes first 0 a (omega (arith, front, back)) r.0 byte (λ j none. absurd (omega (arith, none))) (λ j b. r.1 j b ∙ ap byte (omega arith)) k (omega (arith, h)) in
+      let s = run_at second page p _ (e - a) (length-middle one a (e - a) (omega (arith, front, back, long_one))) (omega (arith, before, front, back, room)) is_second in
+      let long_two : length two ≡ length bytes = length-put_mid one second a (e - a) (omega (arith, front, back, long_one)) s.0 ∙ long_one in
+      let in_two : (k : ℕ) → k < e → slice_index two k ≡ byte k
+      = λ k h. read_more one second a (e - a) (omega (arith, front, back, long_one)) s.0 byte in_one
+      (λ j b. s.1 j b ∙ ap (slice_index page) (omega (arith, there (omega (arith, b))))) k (omega (arith, h, front)) in
+      let t = run_at third page (o + e) _ (length bytes - e) (length-middle two e (length bytes - e) (omega (arith, back, long_two))) (omega (arith, back, room)) is_third in
+      run_read _ page o (length bytes) room (length-put_mid two third e (length bytes - e) (omega (arith, back, long_two)) t.0 ∙ long_two) (λ k h.
+      read_more two third e (length bytes - e) (omega (arith, back, long_two)) t.0 byte in_two (λ j b. t.1 j b ∙ ap (slice_index page) (omega arith)) k (omega (arith, h, back)))

@@ -5,7 +5,7 @@ use Rattle.std.proofs.Common.{◌≡◌, ℕ, zero, suc, ◌+◌, ◌-◌, ◌*�
 use Rattle.std.proofs.lemmas.Nat.{shr-shr}
 use Rattle.std.proofs.lemmas.Bool.{cases_lt}
 use Rattle.std.proofs.lemmas.Grind.{common_steps}
-use Rattle.std.proofs.lemmas.List.{append_assoc, drop-drop, drop_at, ext_get_or, get_or_append_left, get_or-append_right, get_or-drop, get_or-take, length-replicate, length-take-le, take_all, take_at}
+use Rattle.std.proofs.lemmas.List.{append_assoc, drop-drop, drop_at, ext_get_or, get_or_append_left, get_or-append_right, get_or-drop, get_or-take, length-replicate, length-take, length-take-le, take_all, take_at}
 use Rattle.std.proofs.Math.Seq.{take-add}
 use Rattle.std.specs.Int.{w64, to_le_bytes, from_le_bytes}
 use Rattle.process_model.specs.Bytes.{number, low_bytes, write_bytes, padded}
@@ -146,3 +146,31 @@ pub write_more : (page bs : List ℕ) (o d n : ℕ) → o ≤ length page → d 
     → write_bytes (write_bytes page o (take d bs)) (o + d) (take n (drop d bs)) ≡ write_bytes page o (take (d + n) bs)
 write_more page bs o d n room few =
     write_again page (take d bs) (take n (drop d bs)) o d room (length-take-le d bs few) ∙ ap (write_bytes page o) (sym (take-add d n bs))
+
+-- a run in three parts: the first and the second, which is written anywhere where it is empty
+pub write_words_more : (page bs : List ℕ) (o p a e : ℕ) → o ≤ length page → a ≤ e → a ≤ length bs → (a < e → p ≡ o + a)
+    → write_bytes (write_bytes page o (take a bs)) p (take (e - a) (drop a bs)) ≡ write_bytes page o (take e bs)
+write_words_more page bs o p a e room more few there = elim (cases_lt a e) [
+  | inl some ↦
+      let place : p ≡ o + a = there some in
+      let whole : a + (e - a) ≡ e = omega arith in
+      ap (λ k. write_bytes (write_bytes page o (take a bs)) k (take (e - a) (drop a bs))) place ∙ write_more page bs o a (e - a) room few
+      ∙ ap (λ k. write_bytes page o (take k bs)) whole
+  | inr none ↦
+      let empty : e - a ≡ 0 = omega arith in
+      let same : a ≡ e = omega arith in
+      ap (λ k. write_bytes (write_bytes page o (take a bs)) p (take k (drop a bs))) empty ∙ write_none (write_bytes page o (take a bs)) p
+      ∙ ap (λ k. write_bytes page o (take k bs)) same
+]
+
+-- these two, and the third
+pub write_rest : (page bs : List ℕ) (o e : ℕ) → o ≤ length page → e ≤ length bs
+    → write_bytes (write_bytes page o (take e bs)) (o + e) (take (length bs - e) (drop e bs)) ≡ write_bytes page o bs
+write_rest page bs o e room few = write_more page bs o e (length bs - e) room few ∙ ap (write_bytes page o) (take_all (e + (length bs - e)) bs (omega arith))
+
+-- a byte from the middle
+pub small_part : (bs : List ℕ) (a n : ℕ) → ((k : ℕ) → slice_index bs k < 2 ^ 8) → (k : ℕ) → slice_index (take n (drop a bs)) k < 2 ^ 8
+small_part bs a n small k = elim (cases_lt k n) [
+  | inl h ↦ rw (get_or-take n (drop a bs) k 0 h, get_or-drop a bs k 0) (small (a + k))
+  | inr h ↦ rw (past (take n (drop a bs)) k (omega (arith, h, length-take n (drop a bs)))) (omega arith)
+]

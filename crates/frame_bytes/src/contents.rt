@@ -1,9 +1,9 @@
 // Functions on the 4,096 bytes of a frame of any frame store: `load_bytes` and `store_bytes` (a number of 1, 2, 4 or 8
 // bytes), `fill_frame` (some bytes, then zeros), `copy_frame` and `read_frame`. The bytes lie in the frame's 512 words in
-// little-endian order, as loads and stores of RV64 have it. Crate-internal: `store_in_word` and `overwrite`.
+// little-endian order, as loads and stores of RV64 have it. Crate-internal: `read_words`, `store_in_word` and `whole_word`.
 
 ghost use Rattle.std.specs.Int.{from_le_bytes, w64};
-ghost use Rattle.std.specs.Prelude.{◌≡◌, ◌≢◌, ◌+◌, ◌*◌, ◌/◌, ◌%◌, ◌^◌, ◌<◌, ◌≤◌, ℕ, drop, IsTrue, length, List};
+ghost use Rattle.std.specs.Prelude.{◌≡◌, ◌≢◌, ◌+◌, ◌*◌, ◌/◌, ◌%◌, ◌^◌, ◌<◌, ◌≤◌, ℕ, drop, IsTrue, length, List, take};
 ghost use Rattle.frame_bytes.specs.Contents.{ChangesWords, HasBytes, HasWords};
 ghost use Rattle.frame_store.specs.Laws.{IsSeatOf, KeepsSeats};
 ghost use Rattle.frame_store.specs.View.{IsHeld, IsSole};
@@ -110,7 +110,7 @@ pub(crate) fn store_in_word<F: FrameAccess>(
 }
 
 /// Overwrites the bytes from index `at` on with `part`.
-pub(crate) fn overwrite(bytes: &mut [u8], at: usize, part: &[u8])
+fn overwrite(bytes: &mut [u8], at: usize, part: &[u8])
     requires { at + length part.now ≤ length bytes.old }
     ensures { bytes.new ≡ write_bytes bytes.old at part.now }
 {
@@ -192,7 +192,7 @@ fn zero_words<F: FrameAccess>(store: &mut F, seat: &mut F::Seat, frame: FrameNo,
 }
 
 /// Returns the little-endian word of eight bytes.
-fn whole_word(bytes: &[u8]) -> u64
+pub(crate) fn whole_word(bytes: &[u8]) -> u64
     requires { length bytes.now ≡ 8 }
     ensures { result ≡ from_le_bytes w64 bytes.now }
 {
@@ -244,8 +244,31 @@ pub fn read_frame<F: FrameAccess>(
     ensures same { store.new ≡ store.old }
     ensures keeps { KeepsSeats F.rule store.old seat.old store.new seat.new }
 {
-    for place in 0..512 {
-        let word = store.load(seat, frame, place).to_le_bytes();
+    read_words(store, seat, frame, 0, bytes);
+}
+
+/// Reads words of a held frame, which the seat must know, from word `first` on, and fills `bytes`, whose length is a multiple
+/// of 8, with their bytes. Store and view stay.
+pub(crate) fn read_words<F: FrameAccess>(
+    store: &mut F,
+    seat: &mut F::Seat,
+    frame: FrameNo,
+    first: usize,
+    bytes: &mut [u8],
+)
+    requires fits { IsSeatOf F.rule store.old seat.old }
+    requires held { IsHeld (F.Seat.view seat.old) frame.0 }
+    requires known { (page : List ℕ) × HasBytes (F.Seat.view seat.old) frame.0 page }
+    requires inside { 8 * first + length bytes.old ≤ 4096 }
+    requires whole { length bytes.old % 8 ≡ 0 }
+    ensures bytes { (page : List ℕ) → HasBytes (F.Seat.view seat.old) frame.0 page →
+        bytes.new ≡ take (length bytes.old) (drop (8 * first) page) }
+    ensures view { F.Seat.view seat.new ≡ F.Seat.view seat.old }
+    ensures same { store.new ≡ store.old }
+    ensures keeps { KeepsSeats F.rule store.old seat.old store.new seat.new }
+{
+    for place in 0..bytes.len() / 8 {
+        let word = store.load(seat, frame, first + place).to_le_bytes();
         let start = 8 * place;
         bytes[start..start + 8].copy_from_slice(&word);
     }

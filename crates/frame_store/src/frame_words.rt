@@ -12,7 +12,7 @@ use std::marker::Model;
 use sv39_entry::FrameNo;
 
 /// Words per frame.
-const WORDS: usize = 512;
+pub(crate) const WORDS: usize = 512;
 
 /// The words of all frames; contracts see them frame by frame, those of frame 0 first. At first they are all 0.
 ///

@@ -6,14 +6,11 @@ ghost use Rattle.std.specs.Int.{from_le_bytes, w64};
 ghost use Rattle.std.specs.Prelude.{◌≡◌, ◌+◌, ◌-◌, ◌*◌, ◌/◌, ◌<◌, ◌≤◌, ◌≢◌, ℕ, false, IfOk, length, drop, replicate, slice_get, slice_index, slice_set, take, true};
 ghost use Rattle.frame_store.specs.ZeroWords.{IsIdle, IsNextBusy, IsNextIn, NamesBlank, PutsMany, ZerosIn};
 
-use crate::frame_words::FrameWords;
+use crate::frame_words::{FrameWords, WORDS};
 use crate::zeros::zeros_in_front;
 use std::alloc::{AllocError, Global};
 use std::marker::Model;
 use sv39_entry::{Entry, FrameNo};
-
-/// Words per frame.
-const WORDS: usize = 512;
 
 /// The words of all frames, frame by frame; contracts see this list. For each frame, two indices bound its nonzero words: a
 /// store moves them apart, and a search that reads zeros moves them together. So once a search has found a whole frame to be

@@ -109,22 +109,27 @@ impl SlotProcess {
         ensures keeps { KeepsSeats PlainStateRule frames.old (view_of self.old) frames.new (view_of self.new) }
     {
         let reply = self.space.user_access_scalar(frames, walk, request);
-        self.pending = pending(request, reply);
+        self.keep_faulted(request, reply);
         reply
     }
-}
 
-/// The pending access of a process after this reply to a request: the request if it faulted, else none.
-fn pending(request: AccessRequest, reply: ScalarReply) -> Option<Pending>
-    ensures { pending_of result ≡ pending_after (request_of request) (reply_of_scalar reply) }
-{
-    match reply {
-        ScalarReply::Fault(_) => Some(Pending {
+    /// Sets the pending access after this reply to a request: the request if it faulted, else none. Each case writes the field
+    /// itself. A value that is made first is moved as a whole, with the unused bytes after `served`; these were written in
+    /// pieces, and a processor that reads them as one waits for the writes.
+    #[inline(always)]
+    fn keep_faulted(&mut self, request: AccessRequest, reply: ScalarReply)
+        ensures pending { pending_of self.new.pending ≡ pending_after (request_of request) (reply_of_scalar reply) }
+        ensures space { self.new.space ≡ self.old.space }
+    {
+        let ScalarReply::Fault(_) = reply else {
+            self.pending = None;
+            return;
+        };
+        self.pending = Some(Pending {
             access: request.access,
             va: request.va,
             width: request.width,
             served: false,
-        }),
-        _ => None,
+        });
     }
 }

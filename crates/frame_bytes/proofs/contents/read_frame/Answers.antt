@@ -1,38 +1,6 @@
-use Rattle.std.proofs.Common.{◌≡◌, ℕ, ◌*◌, ◌+◌, ◌-◌, ◌∙◌, length, slice_index, refl, ap, sym, subst, arith}
-use Rattle.std.proofs.lemmas.List.{ext_get_or}
-use Rattle.std.specs.Int.{w64, to_le_bytes}
-use Rattle.frame_bytes.specs.Contents.{HasBytes}
-use Rattle.frame_bytes.proofs.Taken.{byte_read, read_more, length-put_mid}
+use Rattle.std.proofs.Common.{◌∙◌, arith}
+use Rattle.std.proofs.lemmas.List.{take_all}
 use Rattle.frame_bytes.proofs.contents.read_frame.Goals as goal
 
-pub loop-place-init : goal.loop-place-init
-loop-place-init g c = record {
-  fits = c.requires.fits;
-  bytes = λ page has k h. absurd (omega arith);
-  length = c.told-bytes;
-  view = refl;
-  same = refl;
-  keeps = λ others r. r;
-}
-
-pub loop-place-preserved : goal.loop-place-preserved
-loop-place-preserved g c =
-    let i = c.loop-place.invariant in
-    let start : ℕ = 8 * c.loop-place.place in
-    let part : c.copy_from_slice.new.self ≡ to_le_bytes w64 c.load.result = c.copy_from_slice.ensures.after ∙ c.to_le_bytes-word.ensures in
-    let long : length c.copy_from_slice.new.self ≡ 8 = ap length part in
-    record {
-      fits = (i.fits.0, c.load.ensures.keeps i.fits.0 i.fits.1);
-      bytes = λ page has k h.
-          let now = subst (λ v. HasBytes v c.args.frame.0 page) (sym i.view) has in
-          read_more _ _ _ _ (omega arith) (omega arith) (slice_index page) (i.bytes page has) (λ j b.
-          ap (λ cs. slice_index cs j) part ∙ byte_read _ _ _ page _ now c.loop-place-test.true c.load.ensures.known j _ (omega arith) refl) k (omega arith);
-      length = length-put_mid c.loop-place.bytes c.copy_from_slice.new.self start (start + 8 - start) (omega arith) (omega arith) ∙ i.length;
-      view = c.load.ensures.view ∙ i.view;
-      same = c.load.ensures.same ∙ i.same;
-      keeps = λ others r. c.load.ensures.keeps others (i.keeps others r);
-    }
-
 pub returns-clause-bytes : goal.returns-clause-bytes
-returns-clause-bytes g c page has =
-    ext_get_or 0 _ page (c.loop-place.invariant.length ∙ sym has.length) (λ k h. c.loop-place.invariant.bytes page has k (omega (arith, c.loop-place.invariant.length)))
+returns-clause-bytes g c page has = c.read_words.ensures.bytes page has ∙ take_all _ page (omega (arith, has.length, c.told-bytes))

@@ -1,41 +1,32 @@
-use Rattle.std.proofs.Common.{◌≡◌, ℕ, ◌+◌, ◌-◌, ◌≤◌, ◌∙◌, length, refl, subst, sym, arith}
-use Rattle.frame_bytes.specs.StoredWords.{changes_none, changes_both, changed_sole, changed_held}
-use Rattle.frame_bytes.specs.Contents.{HasBytes}
-use Rattle.frame_bytes.proofs.Writes.{write_more, write_none}
+use Rattle.std.proofs.Common.{ℕ, ◌+◌, ◌*◌, ◌/◌, ◌≤◌, List, length, arith}
+use Rattle.frame_bytes.specs.StoredWords.{changes_both, changed_sole, changed_held}
+use Rattle.frame_bytes.proofs.Writes.{write_words_more, write_rest}
 use Rattle.frame_bytes.proofs.runs.write_run.Goals as goal
 
-pub words-init : goal.words-init
-words-init g c = record {
-  fits = c.requires.fits;
-  some = omega arith;
-  bytes = λ page has. subst (HasBytes _ c.args.frame.0) (sym (write_none page c.args.offset)) has;
-  others = changes_none _ _ c.requires.sole;
-  keeps = λ others r. r;
-  free = λ a. refl;
-  counts = λ a f. refl;
-}
+pub write_words-requires-clause-held : goal.write_words-requires-clause-held
+write_words-requires-clause-held g c = changed_held _ _ _ c.write_part.ensures.others _ c.requires.held
 
-pub store_in_word-requires-clause-held : goal.store_in_word-requires-clause-held
-store_in_word-requires-clause-held g c = changed_held _ _ _ c.words.invariant.others _ c.requires.held
+pub write_words-requires-clause-sole : goal.write_words-requires-clause-sole
+write_words-requires-clause-sole g c = changed_sole _ _ _ c.write_part.ensures.others _ c.requires.sole
 
-pub store_in_word-requires-clause-sole : goal.store_in_word-requires-clause-sole
-store_in_word-requires-clause-sole g c = changed_sole _ _ _ c.words.invariant.others _ c.requires.sole
+pub write_part-requires-2-clause-held : goal.write_part-requires-2-clause-held
+write_part-requires-2-clause-held g c = changed_held _ _ _ (changes_both _ _ _ _ c.write_part.ensures.others c.write_words.ensures.others) _ c.requires.held
 
-pub words-preserved : goal.words-preserved
-words-preserved g c =
-    let i = c.words.invariant in
-    let count : ℕ = c.min-count.result in
-    let room : c.words.done + count ≤ length c.args.bytes.now = omega (arith, c.min-count.ensures) in
-    let here : c.words.done + count - c.words.done ≡ count = omega arith in
-    let inside : c.args.offset ≤ 4096 = omega arith in
-    record {
-      fits = (i.fits.0, c.store_in_word.ensures.keeps i.fits.0 i.fits.1);
-      some = room;
-      bytes = λ page has.
-          let more = write_more page c.args.bytes.now c.args.offset c.words.done count (rw has.length inside) i.some in
-          rw (here, more) at (c.store_in_word.ensures.bytes _ (i.bytes page has));
-      others = changes_both _ _ _ _ i.others c.store_in_word.ensures.others;
-      keeps = λ others r. c.store_in_word.ensures.keeps others (i.keeps others r);
-      free = λ a. c.store_in_word.ensures.free a ∙ i.free a;
-      counts = λ a f. c.store_in_word.ensures.counts a f ∙ i.counts a f;
-    }
+pub write_part-requires-2-clause-sole : goal.write_part-requires-2-clause-sole
+write_part-requires-2-clause-sole g c = changed_sole _ _ _ (changes_both _ _ _ _ c.write_part.ensures.others c.write_words.ensures.others) _ c.requires.sole
+
+pub returns-clause-bytes : goal.returns-clause-bytes
+returns-clause-bytes g c page has =
+    let o : ℕ = c.args.offset in
+    let bytes : List ℕ = c.args.bytes.now in
+    let words = c.whole_words-front.ensures in
+    let front : ℕ = c.whole_words-front.result.0 in
+    let end : ℕ = c.whole_words-front.result.1 in
+    let room : o ≤ length page = omega (arith, has.length, c.requires.inside) in
+    let second = write_words_more page bytes o (8 * ((o + front) / 8)) front end room (omega (arith, words)) (omega (arith, words)) (λ some. omega (arith, words, some)) in
+    let third = write_rest page bytes o end room (omega (arith, words)) in
+    let two = rw second at (c.write_words.ensures.bytes _ (c.write_part.ensures.bytes page has)) in
+    rw third at (c.write_part-2.ensures.bytes _ two)
+
+pub returns-clause-others : goal.returns-clause-others
+returns-clause-others g c = changes_both _ _ _ _ (changes_both _ _ _ _ c.write_part.ensures.others c.write_words.ensures.others) c.write_part-2.ensures.others

@@ -18,11 +18,11 @@ pub returns-clause-after : goal.returns-clause-after
 returns-clause-after c t p slot_process walks =
     let reply = c.user_access_scalar-reply.ensures.reply t p slot_process.agrees walks in
     record {
-      agrees = c.user_access_scalar-reply.ensures.after t p slot_process.agrees walks;
-      framed = rw c.user_access_scalar-reply.ensures.trapframe slot_process.framed;
-      pending = access_pending p (request_of c.args.request) ∙ sym (c.pending-self.ensures ∙ ap (pending_after (request_of c.args.request)) reply);
+      agrees = rw c.keep_faulted.ensures.space (c.user_access_scalar-reply.ensures.after t p slot_process.agrees walks);
+      framed = rw (c.keep_faulted.ensures.space, c.user_access_scalar-reply.ensures.trapframe) slot_process.framed;
+      pending = access_pending p (request_of c.args.request) ∙ sym (c.keep_faulted.ensures.pending ∙ ap (pending_after (request_of c.args.request)) reply);
       wide = access_wide p (request_of c.args.request) c.requires.width;
     }
 
 pub returns-clause-keeps : goal.returns-clause-keeps
-returns-clause-keeps c others rule = c.user_access_scalar-reply.ensures.keeps others rule
+returns-clause-keeps c others rule = rw c.keep_faulted.ensures.space (c.user_access_scalar-reply.ensures.keeps others rule)
