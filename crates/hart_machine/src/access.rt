@@ -34,7 +34,8 @@ impl Machine {
     /// `via` is `None`. The reply is `Value`, `Stored`, or `Fault` with the cause; after a fault the access is pending, and
     /// the hart in `Enter0`. Refused, the first that applies: `BadArgument`, there is no such hart, or the width is not 1, 2,
     /// 4 or 8; `Impossible`, the hart is not in `User`; `NoEntry`, the entry named is not there, or is for another page or
-    /// ASID.
+    /// ASID. Inlined, since its callers know which access it is, and its reply then does not go through memory.
+    #[inline(always)]
     pub(crate) fn access(
         &mut self,
         hart: usize,
