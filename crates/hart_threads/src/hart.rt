@@ -14,7 +14,7 @@ ghost use Rattle.vouchers.specs.IssuerSeats.{HoldsAt, held_of};
 use crate::gate::Gate;
 use crate::job::{EndedJob, Job, JobStep};
 use crate::plan::Plan;
-use crate::queue::{Part, put, take};
+use crate::queue::{Part, exchange, put, take};
 use crate::roster::{Admission, Roster};
 use crate::start_outcomes::StartOutcomes;
 use file_shelf::Shelf;
@@ -229,34 +229,38 @@ impl<'r, 'a, B: Plan, F: StartOutcomes, R: Wait, G: Gate> HartThread<'r, 'a, B, 
             .finish(self.token_table, finished, token);
     }
 
-    /// Makes up to `quantum` calls of a process, with the hooks around each, and puts it back into the queue unless it has
-    /// ended. Most calls are user accesses; they are made in place, so the process is not moved.
-    fn turn(&self, store: &mut SharedSupply<'_, R>, job: Job<'a, B>, quantum: usize)
+    /// Runs a job and those that its part of the queue has, until one of them has ended: makes up to `quantum` calls of a
+    /// process, with the hooks around each, puts it back and takes the next. Most calls are user accesses; they are made in
+    /// place, so the process is not moved.
+    fn turns(&self, store: &mut SharedSupply<'_, R>, job: Job<'a, B>, quantum: usize)
         requires store { store.old ≡ B.table }
         ensures store { store.new ≡ B.table }
     {
         let mut current = job;
-        'calls: for _ in 0..quantum {
-            let call = current.tracked.next();
-            self.gate.enter(self.number, current.tracked.name(), call);
-            if current.access_at_once(store) || current.access_served(store) {
-                self.gate.leave(self.number, current.tracked.name(), call);
-                continue;
-            }
-            match self.step(store, current) {
-                JobStep::Continues(next) => {
-                    self.gate.leave(self.number, next.tracked.name(), call);
-                    current = next;
+        'turns: for _ in self.rt.forever() {
+            'calls: for _ in 0..quantum {
+                let call = current.tracked.next();
+                self.gate.enter(self.number, current.tracked.name(), call);
+                if current.access_at_once(store) || current.access_served(store) {
+                    self.gate.leave(self.number, current.tracked.name(), call);
+                    continue;
                 }
-                JobStep::Over(gone) => {
-                    self.gate
-                        .leave(self.number, gone.finished.name.as_slice(), call);
-                    self.finish(gone);
-                    return;
+                match self.step(store, current) {
+                    JobStep::Continues(next) => {
+                        self.gate.leave(self.number, next.tracked.name(), call);
+                        current = next;
+                    }
+                    JobStep::Over(gone) => {
+                        self.gate
+                            .leave(self.number, gone.finished.name.as_slice(), call);
+                        self.finish(gone);
+                        return;
+                    }
                 }
             }
+            current = exchange(self.rt, self.parts, self.number, current);
         }
-        put(self.rt, self.parts, self.number, current);
+        unreachable!()
     }
 
     /// Takes jobs from the queue and runs them, until the queue is empty and no slot is in use.
@@ -265,7 +269,7 @@ impl<'r, 'a, B: Plan, F: StartOutcomes, R: Wait, G: Gate> HartThread<'r, 'a, B, 
         let mut store = self.frames.supply_from(self.rt, first);
         'turns: for _ in self.rt.forever() {
             match take(self.rt, self.parts, self.number) {
-                Some(job) => self.turn(&mut store, job, quantum),
+                Some(job) => self.turns(&mut store, job, quantum),
                 None => {
                     if self.roster.lock(self.rt).is_done() {
                         return;

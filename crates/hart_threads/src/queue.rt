@@ -1,14 +1,17 @@
 // The run queue: `Part`, a queue of jobs (unfinished processes) under a lock, one for each hart; `parts_for` allocates them,
-// `take` pops a job from the hart's own part or else from another, `put` appends one to a part that has room.
+// `take` pops a job from the hart's own part or else from another, `put` appends one to a part that has room, `exchange` puts
+// one back into the hart's own part and takes the next.
 
 use crate::job::Job;
 use crate::plan::Plan;
+use crossbeam_utils::CachePadded;
 use std::alloc::{AllocError, Global};
 use std::collections::VecDeque;
 use std::sync::{Mutex, Wait};
 
-/// One part of the run queue, under its lock.
-pub(crate) type Part<'a, B> = Mutex<VecDeque<Job<'a, B>>>;
+/// One part of the run queue, under its lock. No other part is on its cache lines, so a hart that locks its own part does
+/// not slow down the others.
+pub(crate) type Part<'a, B> = Mutex<CachePadded<VecDeque<Job<'a, B>>>>;
 
 /// Makes a part for each hart, at least one, each with room for `slots` jobs.
 ///
@@ -21,7 +24,8 @@ pub(crate) fn parts_for<'a, B: Plan>(
 ) -> Result<Vec<Part<'a, B>>, AllocError> {
     let mut parts = Vec::new(alloc);
     'parts: for _ in 0..harts.max(1) {
-        parts.push(Mutex::new(VecDeque::with_capacity(alloc, slots)?))?;
+        let jobs = VecDeque::with_capacity(alloc, slots)?;
+        parts.push(Mutex::new(CachePadded::new(jobs)))?;
     }
     Ok(parts)
 }
@@ -63,4 +67,26 @@ pub(crate) fn put<'a, B: Plan, R: Wait>(
         }
         place += 1;
     }
+}
+
+/// Puts a job back into the hart's own part, behind its other jobs, and takes the first of these, under one lock. Returns the
+/// job itself if there is no other.
+pub(crate) fn exchange<'a, B: Plan, R: Wait>(
+    rt: &R,
+    parts: &[Part<'a, B>],
+    hart: usize,
+    job: Job<'a, B>,
+) -> Job<'a, B> {
+    let Some(part) = parts.get(hart) else {
+        return job;
+    };
+    let mut part = part.lock(rt);
+    let Some(next) = part.pop_front() else {
+        return job;
+    };
+    if let Err(full) = part.push_back(job) {
+        drop(part);
+        put(rt, parts, hart, full.value);
+    }
+    next
 }
