@@ -1,5 +1,5 @@
 // The calls `fork`, `fork_with` and `fork_listed` by copy-on-write (MIT 6.1810, copy-on-write lab); the enum `ForkError`, why
-// one is refused; and the struct `Child`, what `fork_listed` makes. A fork reserves frames, takes references to those to be
+// one is refused; and the struct `Child`, what the last two make. A fork reserves frames, takes references to those to be
 // shared, builds the child's page tables, sets the parent's fork marks (the next store takes the page over), and splits the
 // child's seat (an owner's capability at a frame store) off the parent's.
 
@@ -109,10 +109,30 @@ pub fn fork<S: FrameSeat, F: FrameSupply<Seat = S>>(
     ensures keeps_refused { IfErr result (λ _. KeepsSeats F.rule store.old space.old.seat store.new space.new.seat) }
 {
     let mut list = PageList::new();
-    fork_with(space, store, &mut list)
+    match fork_with(space, store, &mut list) {
+        Ok(child) => Ok(Space {
+            seat: child.seat,
+            root: child.root,
+            trapframe: child.trapframe,
+            layout: space.layout.copied(),
+        }),
+        Err(error) => Err(error),
+    }
 }
 
-/// `fork`, which lists the settled pages in `list`, so that a caller that forks again and again needs one list.
+/// What a fork makes for its child: all of the child's space but its layout, which equals the parent's. A space with a layout
+/// takes some 1,700 bytes, which a caller had better not move more often than need be.
+#[derive(Drop)]
+pub struct Child<S> {
+    pub seat: S,
+    /// The frame of the root page table.
+    pub root: FrameNo,
+    /// The frame that TRAPFRAME maps.
+    pub trapframe: FrameNo,
+}
+
+/// `fork`, for a caller that puts the child's space together. It lists the settled pages in `list`, so that a caller that
+/// forks again and again needs one list.
 ///
 /// # Errors
 /// Those of `fork`, in the same cases.
@@ -120,10 +140,10 @@ pub fn fork_with<S: FrameSeat, F: FrameSupply<Seat = S>>(
     space: &mut Space<S>,
     store: &mut F,
     list: &mut PageList,
-) -> Result<Space<S>, ForkError>
+) -> Result<Child<S>, ForkError>
     requires fits { IsSeatOf F.rule store.old space.old.seat }
     requires ready { (t : Tables) × (p : Process) × IsSpace (body_of S.view space.old) t p }
-    ensures forked { IfOk result (λ child. HasForked (body_of S.view space.old) (body_of S.view space.new) (body_of S.view child)) }
+    ensures forked { IfOk result (λ child. HasForked (body_of S.view space.old) (body_of S.view space.new) (body (S.view child.seat) child.root.0 child.trapframe.0 space.old.layout)) }
     ensures whole { IfErr result (λ _. (t : Tables) (p : Process) → IsSpace (body_of S.view space.old) t p → IsSpace (body_of S.view space.new) t p) }
     ensures dry { IsNoFrameError result → (t : Tables) (p : Process) → IsSpace (body_of S.view space.old) t p → RunsDry (S.view space.old.seat) (S.view space.new.seat) (model.fork_need p) [] }
     ensures full { IsSharersFullError result → TakesFrames (S.view space.old.seat) (S.view space.new.seat) 0 (65535 ∷ []) }
@@ -138,21 +158,10 @@ pub fn fork_with<S: FrameSeat, F: FrameSupply<Seat = S>>(
     ensures keeps_refused { IfErr result (λ _. KeepsSeats F.rule store.old space.old.seat store.new space.new.seat) }
 {
     let settled = list.settled_pages(space, store);
-    fork_space(space, store, settled)
+    fork_listed(space, store, settled)
 }
 
-/// What a fork makes for its child: all of the child's space but its layout, which equals the parent's. A space with a layout
-/// takes some 1,700 bytes, which a caller had better not move more often than need be.
-#[derive(Drop)]
-pub struct Child<S> {
-    pub seat: S,
-    /// The frame of the root page table.
-    pub root: FrameNo,
-    /// The frame that TRAPFRAME maps.
-    pub trapframe: FrameNo,
-}
-
-/// `fork`, for a caller that has the list of the settled pages (those in memory), and puts the child's space together.
+/// `fork_with`, for a caller that has the list of the settled pages (those in memory).
 /// `settled` must be the complete list for `space` at this moment, each page once and in ascending order, with its frame and
 /// marks: what `PageList::settled_pages` returned for it, if the space has not changed since.
 ///
@@ -187,43 +196,6 @@ pub fn fork_listed<S: FrameSeat, F: FrameSupply<Seat = S>>(
         return Err(refusal);
     }
     Ok(divide(space, store, settled, &mut frames))
-}
-
-/// `fork_listed`, with the child's space.
-///
-/// # Errors
-/// Those of `fork`, in the same cases.
-fn fork_space<S: FrameSeat, F: FrameSupply<Seat = S>>(
-    space: &mut Space<S>,
-    store: &mut F,
-    settled: &[SettledPage],
-) -> Result<Space<S>, ForkError>
-    requires fits { IsSeatOf F.rule store.old space.old.seat }
-    requires ready { (t : Tables) × (p : Process) × IsSpace (body_of S.view space.old) t p }
-    requires settled { (t : Tables) (p : Process) → IsSpace (body_of S.view space.old) t p → AreSettled t p 0 (trapframe_page p.scheme) settled.now }
-    ensures forked { IfOk result (λ child. HasForked (body_of S.view space.old) (body_of S.view space.new) (body_of S.view child)) }
-    ensures whole { IfErr result (λ _. (t : Tables) (p : Process) → IsSpace (body_of S.view space.old) t p → IsSpace (body_of S.view space.new) t p) }
-    ensures dry { IsNoFrameError result → (t : Tables) (p : Process) → IsSpace (body_of S.view space.old) t p → RunsDry (S.view space.old.seat) (S.view space.new.seat) (model.fork_need p) [] }
-    ensures full { IsSharersFullError result → TakesFrames (S.view space.old.seat) (S.view space.new.seat) 0 (65535 ∷ []) }
-    ensures short { F.alone → (t : Tables) (p : Process) → IsSpace (body_of S.view space.old) t p → IsNoFrameError result ↔ (F.free store.old < model.fork_need p) }
-    ensures sharers { F.alone → IsSharersFullError result → (f : ℕ) × IsHeld (S.view space.old.seat) f × (F.count store.old f < 65535 → ⊥) }
-    ensures free { F.alone → (t : Tables) (p : Process) → IsSpace (body_of S.view space.old) t p → (IsSharersFullError result → ⊥) →
-        F.free store.new ≡ F.free store.old - (if is_ok result then model.fork_need p else 0) }
-    ensures root { space.new.root ≡ space.old.root }
-    ensures trapframe { space.new.trapframe ≡ space.old.trapframe }
-    ensures layout { space.new.layout ≡ space.old.layout }
-    ensures keeps { IfOk result (λ child. (others : List S) → F.rule store.old (space.old.seat ∷ others) → F.rule store.new (space.new.seat ∷ child.seat ∷ others)) }
-    ensures keeps_refused { IfErr result (λ _. KeepsSeats F.rule store.old space.old.seat store.new space.new.seat) }
-{
-    match fork_listed(space, store, settled) {
-        Ok(child) => Ok(Space {
-            seat: child.seat,
-            root: child.root,
-            trapframe: child.trapframe,
-            layout: space.layout.copied(),
-        }),
-        Err(error) => Err(error),
-    }
 }
 
 /// Reserves `need` frames as credits, takes one more reference of frame 0 and of the frame of each settled page, and lists

@@ -1,7 +1,7 @@
 //! Fork by copy-on-write (MIT 6.1810, copy-on-write lab): the child takes frames for its trapframe and its page tables, and
-//! none for data. The calls `fork`; `fork_with`, for a caller that has room for a list of the settled pages (those in memory);
-//! and `fork_listed`, for one that has the list, which returns a `Child`. The enum `ForkError`, why a fork is refused; and the
-//! struct `PageList`, which collects these pages.
+//! none for data. The calls `fork`, which returns the child's space; `fork_with`, for a caller that has room for a list of the
+//! settled pages (those in memory), and `fork_listed`, for one that has the list, which return a `Child`. The enum
+//! `ForkError`, why a fork is refused; and the struct `PageList`, which collects these pages.
 #![tactic(auto)]
 
 mod fork_process;

@@ -1,9 +1,9 @@
-// The call fork on threads: `Tracked::fork` appends its journal entry and returns the child, by `cow_fork::fork`, or none if
+// The call fork on threads: `Tracked::fork` appends its journal entry and returns the child, by `fork_with`, or none if
 // it is refused (NoSlot, Memory, NoFrame, SharersFull); `Tracked::child_place` allocates host memory for the child's space
 // before.
 
 ghost use Rattle.std.specs.Prelude.{[], ◌∷◌, ◌≡◌, ◌≢◌, ◌<◌, IfErr, IfOk, length, List, None};
-ghost use Rattle.address_space.specs.Agreement.{body_of, IsSpace};
+ghost use Rattle.address_space.specs.Agreement.{body, body_of, IsSpace};
 ghost use Rattle.address_space.specs.Steps.{RunsDry, TakesFrames};
 ghost use Rattle.cow_fork.specs.Forks.{HasForked, IsSharersFullError, IsNoFrameError};
 ghost use Rattle.frame_store.specs.Laws.{IsSeatOf, KeepsSeats};
@@ -29,7 +29,7 @@ use crate::plain_call::append_entry;
 use crate::run_brand::RunBrand;
 use crate::tracked::Tracked;
 use address_space::Space;
-use cow_fork::{ForkError, PageList, fork_with};
+use cow_fork::{Child, ForkError, PageList, fork_with};
 use frame_store::{FrameAccess, FrameSeat, FrameSupply};
 use process_model::{Call, Refusal, ScalarReply};
 use shared_frames::{SharedSeat, SharedSupply};
@@ -110,10 +110,11 @@ impl<'a, B: RunBrand> Tracked<'a, B> {
         let forked = fork_there(&mut parts.space, store, &mut settled);
         parts.settled = settled;
         match forked {
-            Ok(space) => {
+            Ok(child) => {
                 let entry = answer(listed, ScalarReply::Forked(number));
                 let opening = parts.present.of_child();
-                let space = place.fill(space);
+                let layout = parts.space.layout.copied();
+                let space = place.fill(child, layout);
                 let child = Tracked::new(parts.alloc, opening, space, name, parts.lists, list);
                 let present = parts.present.after_fork();
                 (append_entry(parts, present, entry), Some(child))
@@ -158,25 +159,47 @@ fn room_for_list(alloc: Global, list: &mut Option<Box<PageList>>) -> Result<(), 
     Ok(())
 }
 
-/// `cow_fork::fork`, for a space in a box. The settled pages are listed in `list`, if there is one.
+/// `fork_with`, for a space in a box. The settled pages are listed in `list`, if there is one.
 fn fork_there<S: FrameSeat, F: FrameSupply<Seat = S>>(
     space: &mut Box<Space<S>>,
     store: &mut F,
     list: &mut Option<Box<PageList>>,
-) -> Result<Space<S>, ForkError>
+) -> Result<Child<S>, ForkError>
     requires fits { IsSeatOf F.FrameAccess.rule store.old space.old.value.seat }
     requires ready { (t : Tables) × (p : Process) × IsSpace (body_of S.view space.old.value) t p }
-    ensures forked { IfOk result (λ child. HasForked (body_of S.view space.old.value) (body_of S.view space.new.value) (body_of S.view child)) }
+    ensures forked { IfOk result (λ child. HasForked (body_of S.view space.old.value) (body_of S.view space.new.value) (body (S.view child.seat) child.root.0 child.trapframe.0 space.old.value.layout)) }
     ensures whole { IfErr result (λ _. (t : Tables) (p : Process) → IsSpace (body_of S.view space.old.value) t p → IsSpace (body_of S.view space.new.value) t p) }
     ensures dry { IsNoFrameError result → (t : Tables) (p : Process) → IsSpace (body_of S.view space.old.value) t p → RunsDry (S.view space.old.value.seat) (S.view space.new.value.seat) (model.fork_need p) [] }
     ensures full { IsSharersFullError result → TakesFrames (S.view space.old.value.seat) (S.view space.new.value.seat) 0 (65535 ∷ []) }
+    ensures layout { space.new.value.layout ≡ space.old.value.layout }
     ensures keeps { IfOk result (λ child. (others : List S) → F.FrameAccess.rule store.old (space.old.value.seat ∷ others) → F.FrameAccess.rule store.new (space.new.value.seat ∷ child.seat ∷ others)) }
     ensures keeps_refused { IfErr result (λ _. KeepsSeats F.FrameAccess.rule store.old space.old.value.seat store.new space.new.value.seat) }
 {
     match list {
         Some(list) => fork_with(space, store, list),
-        None => cow_fork::fork(space, store),
+        None => fork_unlisted(space, store),
     }
+}
+
+/// `fork_with`, with a list of its own, which takes some 16,000 bytes. Not inlined, so that a caller without need does not pay
+/// for them.
+#[inline(never)]
+fn fork_unlisted<S: FrameSeat, F: FrameSupply<Seat = S>>(
+    space: &mut Space<S>,
+    store: &mut F,
+) -> Result<Child<S>, ForkError>
+    requires fits { IsSeatOf F.FrameAccess.rule store.old space.old.seat }
+    requires ready { (t : Tables) × (p : Process) × IsSpace (body_of S.view space.old) t p }
+    ensures forked { IfOk result (λ child. HasForked (body_of S.view space.old) (body_of S.view space.new) (body (S.view child.seat) child.root.0 child.trapframe.0 space.old.layout)) }
+    ensures whole { IfErr result (λ _. (t : Tables) (p : Process) → IsSpace (body_of S.view space.old) t p → IsSpace (body_of S.view space.new) t p) }
+    ensures dry { IsNoFrameError result → (t : Tables) (p : Process) → IsSpace (body_of S.view space.old) t p → RunsDry (S.view space.old.seat) (S.view space.new.seat) (model.fork_need p) [] }
+    ensures full { IsSharersFullError result → TakesFrames (S.view space.old.seat) (S.view space.new.seat) 0 (65535 ∷ []) }
+    ensures layout { space.new.layout ≡ space.old.layout }
+    ensures keeps { IfOk result (λ child. (others : List S) → F.FrameAccess.rule store.old (space.old.seat ∷ others) → F.FrameAccess.rule store.new (space.new.seat ∷ child.seat ∷ others)) }
+    ensures keeps_refused { IfErr result (λ _. KeepsSeats F.FrameAccess.rule store.old space.old.seat store.new space.new.seat) }
+{
+    let mut list = PageList::new();
+    fork_with(space, store, &mut list)
 }
 
 /// Splits an empty seat off the seat of a space in a box.

@@ -5,6 +5,7 @@
 ghost use Rattle.std.specs.Prelude.{◌≡◌};
 
 use address_space::{Layout, Space};
+use cow_fork::Child;
 use shared_frames::SharedSeat;
 use std::alloc::{AllocError, Global};
 use sv39_entry::{FrameNo, Scheme};
@@ -33,12 +34,19 @@ impl Place {
         Ok(Place { space })
     }
 
-    /// Puts the child's space in its place, and returns it there.
-    pub(crate) fn fill(self, child: Space<SharedSeat>) -> Box<Space<SharedSeat>>
-        ensures { result.value ≡ child }
+    /// Puts the child's space, of what a fork made and a copy of the parent's layout, in its place, and returns it there.
+    #[inline(always)]
+    pub(crate) fn fill(self, child: Child<SharedSeat>, layout: Layout) -> Box<Space<SharedSeat>>
+        ensures { result.value ≡ record { seat = child.seat; root = child.root; trapframe = child.trapframe; layout = layout } }
     {
         let Place { mut space } = self;
-        let _nobody = Box::replace(&mut space, child);
+        let made = Space {
+            seat: child.seat,
+            root: child.root,
+            trapframe: child.trapframe,
+            layout,
+        };
+        let _nobody = Box::replace(&mut space, made);
         space
     }
 }

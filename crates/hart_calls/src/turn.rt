@@ -116,7 +116,7 @@ impl<'a, B: RunBrand> Tracked<'a, B> {
         if self.made() == MOST_ENTRIES {
             return Turn::Over(self.cut(store, Outcome::JournalFull));
         }
-        let Ok((pages, room)) = self.with_room() else {
+        let Ok(()) = self.with_entry() else {
             return Turn::Over(self.cut(store, Outcome::Memory));
         };
         match self.next() {
@@ -125,7 +125,12 @@ impl<'a, B: RunBrand> Tracked<'a, B> {
                 Turn::Continues(tracked, child)
             }
             Call::Exit { status } => Turn::Over(self.exit(store, shelf, status)),
-            call => self.plain_call(store, shelf, call, pages, room, &slot),
+            call => {
+                let Ok((pages, room)) = self.with_room() else {
+                    return Turn::Over(self.cut(store, Outcome::Memory));
+                };
+                self.plain_call(store, shelf, call, pages, room, &slot)
+            }
         }
     }
 
@@ -142,21 +147,30 @@ impl<'a, B: RunBrand> Tracked<'a, B> {
         listed.saturating_sub(made).saturating_add(1)
     }
 
-    /// Reserves memory for one journal entry more and for the two pages that its call may read from files, and a box for the
-    /// reply if the call is `CopyIn`.
+    /// Reserves memory for one journal entry more.
     ///
     /// # Errors
-    /// `AllocError`: the host is out of memory. The process is unchanged but for the spare memory of its journal.
-    fn with_room(&mut self) -> Result<(Box<Vec<PageUse>>, Option<Box<Reply>>), AllocError>
+    /// `AllocError`: the host is out of memory. The process is unchanged.
+    fn with_entry(&mut self) -> Result<(), AllocError>
         ensures same { SameTrack self.old self.new }
         ensures room { IfOk result (λ _. 0 < self.new.room) }
+    {
+        let wanted = self.entries_wanted();
+        self.parts.journal.reserve(wanted)
+    }
+
+    /// Memory for the two pages that the next call may read from files, and a box for its reply if the call is `CopyIn`.
+    ///
+    /// # Errors
+    /// `AllocError`: the host is out of memory. The process is unchanged.
+    fn with_room(&mut self) -> Result<(Box<Vec<PageUse>>, Option<Box<Reply>>), AllocError>
+        ensures same { SameTrack self.old self.new }
+        ensures room { self.new.room ≡ self.old.room }
         ensures none { IfOk result (λ r. r.0.value.items ≡ []) }
         ensures pages { IfOk result (λ r. 2 ≤ vec_capacity r.0.value) }
         ensures long { IfOk result (λ r. HasRoomFor (next_of self.new) r.1) }
     {
         let room = room_for_reply(self.parts.alloc, self.next())?;
-        let wanted = self.entries_wanted();
-        self.parts.journal.reserve(wanted)?;
         let spare = mem::replace(&mut self.parts.spare, None);
         let pages = room_for_pages(self.parts.alloc, spare)?;
         Ok((pages, room))

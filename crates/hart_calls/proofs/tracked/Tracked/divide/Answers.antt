@@ -1,5 +1,5 @@
 use Rattle.std.proofs.Common.{◌≡◌, ◌∙◌, ℕ, Err, [], ap, inl, refl, sym, subst}
-use Rattle.address_space.specs.Agreement.{body_of, IsSpace}
+use Rattle.address_space.specs.Agreement.{body, body_of, IsSpace}
 use Rattle.hart_calls.specs.Replay.{forks}
 use Rattle.hart_calls.specs.Track.{child_name, next_of, Track}
 use Rattle.hart_calls.specs.declared.fork_slot.ForkSlot.TheVariants as slot
@@ -27,15 +27,19 @@ new-child-requires-clause-fits g c =
     let keeps = c.in-Ok.ensures.keeps in
     let still = fits_still _ _ _ c.self.inside.parts.space.value.seat c.fork_there-forked.new.space.value.seat c.requires.store (λ others r. let k = keeps others r in (k.0, k.1.1)) c.self.invariant.0 in
     subst (λ (s : Space SharedSeat). FitsIn g.B.RunBrand.table s.seat) (sym c.fill-space.ensures)
-    (fits_parted _ _ _ c.self.inside.parts.space.value.seat c.fork_there-forked.new.space.value.seat c.in-Ok.space.seat c.requires.store (still.0 ∙ sym c.requires.store) keeps c.self.invariant.0).1
+    (fits_parted _ _ _ c.self.inside.parts.space.value.seat c.fork_there-forked.new.space.value.seat c.in-Ok.child.seat c.requires.store (still.0 ∙ sym c.requires.store) keeps c.self.invariant.0).1
 
 pub new-child-requires-clause-agrees : goal.new-child-requires-clause-agrees
 new-child-requires-clause-agrees g c =
     let p = c.self.invariant.1 in
-    let f = c.in-Ok.ensures.forked p.0 c.self.inside.parts.present.state p.1 in (
+    let f = c.in-Ok.ensures.forked p.0 c.self.inside.parts.present.state p.1 in
+    let child = c.in-Ok.child in
+    let next = child_of c.self.inside.parts.present.state in
+    let same : c.copied-layout.result ≡ c.self.inside.parts.space.value.layout = c.copied-layout.ensures ∙ ap (λ (s : Space SharedSeat). s.layout) c.deref.ensures ∙ c.fork_there-forked.ensures.layout in
+    let there = subst (λ l. IsSpace (body (view_of child.seat) child.root.0 child.trapframe.0 l) f.1 next) (sym same) f.2.child in (
       f.1,
       subst (λ (q : Process). IsSpace (body_of view_of c.fill-space.result.value) f.1 q) (sym c.of_child-opening.ensures)
-          (subst (λ (s : Space SharedSeat). IsSpace (body_of view_of s) f.1 (child_of c.self.inside.parts.present.state)) (sym c.fill-space.ensures) f.2.child),
+          (subst (λ (s : Space SharedSeat). IsSpace (body_of view_of s) f.1 next) (sym c.fill-space.ensures) there),
     )
 
 pub new-child-requires-clause-there : goal.new-child-requires-clause-there
