@@ -83,7 +83,8 @@ most_lists = 64
 abbrev pub most_calls : ℕ
 most_calls = 10000
 
--- the lists that a file begins: a fork may name one that begins further down
+-- the lists that a file begins: a fork may name one that begins further down, so that lists can fork into each other; a start
+-- names one that begins above it
 
 abbrev pub is_number : ℕ → Option ℕ → Bool
 is_number k None = false
@@ -158,7 +159,7 @@ item_of s word.Image vs = Ok (item.Image (owned.Segments (segments_in vs)))
 item_of s word.Elf vs = Ok (item.Image (owned.Elf (bytes_at vs 0)))
 item_of s word.Pool vs = in_limits (can_share (number_at vs 0) (number_at vs 1)) (item.Pool (pool_of vs))
 item_of s word.List vs = in_limits (nat_lt (number_at vs 0) most_lists && not (has_list s.lists (number_at vs 0))) (item.List (number_at vs 0))
-item_of s word.Start vs = in_limits (has_image s (number_at vs 0) && is_named s.named (number_at vs 1)) (item.Start (start_of vs))
+item_of s word.Start vs = in_limits (has_image s (number_at vs 0) && has_list s.lists (number_at vs 1)) (item.Start (start_of vs))
 item_of s word.Fetch vs = Ok (one (call.Fetch (number_at vs 0)))
 item_of s word.Load vs = in_limits (is_width (number_at vs 1)) (one (call.Load (number_at vs 0) (number_at vs 1)))
 item_of s word.Store vs = in_limits (is_width (number_at vs 1)) (one (call.Store (number_at vs 0) (number_at vs 1) (number_at vs 2)))

@@ -66,6 +66,11 @@ start_undeclared : Refused (codes "elf -\npool 64 4\nlist 0\nstart 0 1\n") 4 cau
 unfolding item_line line_of
 start_undeclared = refl
 
+-- unlike a fork, a start names a list that a line above begins, and its fault comes before that of the line below
+start_declared_late : Refused (codes "elf -\npool 64 4\nlist 0\nstart 0 1\nlist 1\n") 4 cause.Limits
+unfolding item_line line_of
+start_declared_late = refl
+
 pool_too_large : Refused (codes "pool 257 4\n") 1 cause.Limits
 unfolding item_line line_of
 pool_too_large = refl

@@ -42,7 +42,7 @@ use Rattle.script_reader.specs.declared.fault.ScriptError.{ScriptError}
 use Rattle.script_reader.specs.declared.fault.ScriptError.TheVariants as script
 use Rattle.script_reader.proofs.Kept.{followed, limited, item_is, HasPlace, item_has_place, IfItem, IfRead, line_fits, lines_kept, all_and_one, below, at_most, one_file_more}
 
--- what holds of the lines so far: each list that is named begins somewhere in the file
+-- what holds of the lines so far: each list that a fork names begins somewhere in the file, each that a start names in these lines
 
 abbrev IsNamedCall : List Bool → Call → Type 0
 IsNamedCall named (call.Fork k) = is_named named k ≡ true
@@ -58,8 +58,8 @@ record IsNamedList (images : List OwnedImage) (named : List Bool) (l : CallList)
   pub few : length l.calls ≤ most_calls
   pub calls : All (IsNamedLine images named) l.calls
 
-abbrev IsNamedStart : List OwnedImage → List Bool → ListedStart → Type 0
-IsNamedStart images named s = (s.image < length images) × (is_named named s.list ≡ true)
+abbrev IsBegunStart : List OwnedImage → List CallList → ListedStart → Type 0
+IsBegunStart images lists s = (s.image < length images) × (has_list lists s.list ≡ true)
 
 abbrev SharesIf : Option Pool → Type 0
 SharesIf None = Unit {0}
@@ -75,7 +75,7 @@ record IsSound (named : List Bool) (d : ThreadDraft) : Type 0 where
   pub files : All FitsFile d.files
   pub distinct : IsDistinct eqb (numbers d.lists)
   pub lists : All (IsNamedList d.images d.named) d.lists
-  pub starts : All (IsNamedStart d.images d.named) d.starts
+  pub starts : All (IsBegunStart d.images d.lists) d.starts
 
 abbrev Fits : ThreadDraft → ThreadItem → Type 0
 Fits d (item.File f) = FitsFile f
@@ -83,7 +83,7 @@ Fits d (item.Image i) = Unit {0}
 Fits d (item.Pool p) = CanShare p
 Fits d (item.List k) = (k < most_lists) × (has_list d.lists k ≡ false)
 Fits d (item.Call c) = IsNamedLine d.images d.named c
-Fits d (item.Start s) = IsNamedStart d.images d.named s
+Fits d (item.Start s) = IsBegunStart d.images d.lists s
 
 -- numbers stay apart
 
@@ -141,6 +141,19 @@ line_still is js named (listed.CopyOut a bytes) m h = h
 list_still : (is js : List OwnedImage) (named : List Bool) (l : CallList) → length is ≤ length js → IsNamedList is named l → IsNamedList js named l
 list_still is js named l m h = record { number = h.number; few = h.few; calls = λ k d lt. line_still is js named (get_or l.calls k d) m (h.calls k d lt) }
 
+-- a list that was begun stays so
+
+true_or : (a b : Bool) → a ≡ true → (a || b) ≡ true
+true_or a b e = rw e refl
+
+has_still : (d : ThreadDraft) (i : ThreadItem) (k : ℕ) → has_list d.lists k ≡ true → has_list (with_item d i).lists k ≡ true
+has_still d (item.File f) k h = h
+has_still d (item.Image i) k h = h
+has_still d (item.Pool p) k h = h
+has_still d (item.List n) k h = list_any-append (λ (l : CallList). eqb l.number k) d.lists (record { number = n; calls = [] } ∷ []) ∙ true_or (has_list d.lists k) _ h
+has_still d (item.Call c) k h = call_has d.lists c k ∙ h
+has_still d (item.Start s) k h = h
+
 item_kept : (named : List Bool) (d : ThreadDraft) (i : ThreadItem) → IsSound named d → HasPlace (Fits d) (has_room d) i → IsSound named (with_item d i)
 item_kept named d (item.File f) s fits = record {
   same = s.same;
@@ -172,7 +185,7 @@ item_kept named d (item.List k) s fits =
       files = s.files;
       distinct = distinct_more d.lists l s.distinct fits.0.1;
       lists = all_and_one (IsNamedList d.images d.named) d.lists l s.lists (record { number = fits.0.0; few = omega arith; calls = All-nil (IsNamedLine d.images d.named) });
-      starts = s.starts;
+      starts = λ i x lt. ((s.starts i x lt).0, has_still d (item.List k) _ (s.starts i x lt).1);
     }
 item_kept named d (item.Call c) s fits = record {
   same = s.same;
@@ -181,7 +194,7 @@ item_kept named d (item.Call c) s fits = record {
   files = s.files;
   distinct = subst (IsDistinct eqb) (sym (call_numbers d.lists c)) s.distinct;
   lists = call_kept d.images d.named d.lists c s.lists fits.0 (below _ _ (and_parts _ _ fits.1).1);
-  starts = s.starts;
+  starts = λ i x lt. ((s.starts i x lt).0, has_still d (item.Call c) _ (s.starts i x lt).1);
 }
 item_kept named d (item.Start x) s fits = record {
   same = s.same;
@@ -190,7 +203,7 @@ item_kept named d (item.Start x) s fits = record {
   files = s.files;
   distinct = s.distinct;
   lists = s.lists;
-  starts = all_and_one (IsNamedStart d.images d.named) d.starts x s.starts fits.0;
+  starts = all_and_one (IsBegunStart d.images d.lists) d.starts x s.starts fits.0;
 }
 
 not_false : (b : Bool) → not b ≡ true → b ≡ false
@@ -200,8 +213,8 @@ not_false false e = refl
 new_list : (d : ThreadDraft) (k : ℕ) → (nat_lt k most_lists && not (has_list d.lists k)) ≡ true → Fits d (item.List k)
 new_list d k e = let parts = and_parts (nat_lt k most_lists) (not (has_list d.lists k)) e in (below k most_lists parts.0, not_false (has_list d.lists k) parts.1)
 
-a_start : (d : ThreadDraft) (i k : ℕ) → (has_image d i && is_named d.named k) ≡ true → (i < length d.images) × (is_named d.named k ≡ true)
-a_start d i k e = let parts = and_parts (has_image d i) (is_named d.named k) e in (below i (length d.images) parts.0, parts.1)
+a_start : (d : ThreadDraft) (i k : ℕ) → (has_image d i && has_list d.lists k) ≡ true → (i < length d.images) × (has_list d.lists k ≡ true)
+a_start d i k e = let parts = and_parts (has_image d i) (has_list d.lists k) e in (below i (length d.images) parts.0, parts.1)
 
 -- an item fits the lines before it
 item_fits : (d : ThreadDraft) (w : Keyword) (vs : List FieldValue) → IfOk (item_of d w vs) (Fits d)
@@ -287,9 +300,6 @@ failed : (f : ℕ × Cause) (lines : List (List ℕ)) (P : ThreadDraft × ℕ �
 failed f [] P = tt
 failed f (line ∷ lines) P = failed f lines P
 
-true_or : (a b : Bool) → a ≡ true → (a || b) ≡ true
-true_or a b e = rw e refl
-
 or_true : (a b : Bool) → b ≡ true → (a || b) ≡ true
 or_true true b e = refl
 or_true false b e = e
@@ -301,14 +311,6 @@ still_or false b rest h e = or_true b rest e
 or_false : (a : Bool) → (a || false) ≡ true → a ≡ true
 or_false true e = refl
 or_false false e = absurd cc
-
-has_still : (d : ThreadDraft) (i : ThreadItem) (k : ℕ) → has_list d.lists k ≡ true → has_list (with_item d i).lists k ≡ true
-has_still d (item.File f) k h = h
-has_still d (item.Image i) k h = h
-has_still d (item.Pool p) k h = h
-has_still d (item.List n) k h = list_any-append (λ (l : CallList). eqb l.number k) d.lists (record { number = n; calls = [] } ∷ []) ∙ true_or (has_list d.lists k) _ h
-has_still d (item.Call c) k h = call_has d.lists c k ∙ h
-has_still d (item.Start s) k h = h
 
 has_new : (d : ThreadDraft) (k : ℕ) → has_list (with_item d (item.List k)).lists k ≡ true
 has_new d k = list_any-append (λ (l : CallList). eqb l.number k) d.lists (record { number = k; calls = [] } ∷ []) ∙ or_true (has_list d.lists k) _ (true_or (eqb k k) false (eq-eqb k k refl))
@@ -392,7 +394,7 @@ whole_with_playable named d n (Some p) e s covers =
       files = s.files;
       few_lists = omega (arith, numbers_length d.lists, length-le_from_distinct_below (numbers d.lists) most_lists s.distinct (λ q h. has_below d.images d.named d.lists q s.lists h));
       lists = λ k l lt. list_declared d.images d.named d.lists (get_or d.lists k l) names (s.lists k l lt);
-      starts = λ k x lt. ((s.starts k x lt).0, names _ (s.starts k x lt).1);
+      starts = s.starts;
     }
 
 abbrev CoversRead : List Bool → Read → Type 0
@@ -411,7 +413,7 @@ sound_first named = record {
   files = All-nil FitsFile;
   distinct = tt;
   lists = All-nil (IsNamedList [] named);
-  starts = All-nil (IsNamedStart [] named);
+  starts = All-nil (IsBegunStart [] []);
 }
 
 said_playable : (lines : List (List ℕ)) → IfOk (said_in lines) IsThreadPlayable

@@ -40,13 +40,13 @@ pub fn list(draft: &ThreadDraft, values: &[FieldValue]) -> Result<ThreadItem, Ca
 /// Makes the item of `start IMAGE K`: a process of the image, which makes the calls of list K.
 ///
 /// # Errors
-/// `Limits`, exactly when no image of this number was declared, or no line of the file begins list K.
+/// `Limits`, exactly when no image of this number was declared, or no line before it began list K.
 pub fn start(draft: &ThreadDraft, values: &[FieldValue]) -> Result<ThreadItem, Cause>
     ensures { result ≡ words.item_of draft.now Keyword.Start values.now }
 {
     let image = index_at(values, 0);
     let list = index_at(values, 1);
-    let within = draft.has_image(image) && draft.is_named(list);
+    let within = draft.has_image(image) && draft.has_list(list);
     in_limits(within, ThreadItem::Start(ListedStart { image, list }))
 }
 
