@@ -1,7 +1,7 @@
 //! The players: `play` reads a script, makes its steps on a machine, and writes an answer for each line from `boot` on;
 //! `play_threads` reads a file for threads, runs its lists of calls on harts that are threads, and writes a line for each
 //! process. `Source`, `Sink`: the reader and the writer; `PlayError`: why a file was not played to its end. `run_pool` runs
-//! parsed lists and starts (`lend_lists`, `lend_starts`) without a text; `audit`: counts of frames.
+//! parsed lists and starts (`lend_lists`, `lend_starts`) without a text; `audit`: counts of frames. `Script` is the reader's.
 #![tactic(auto)]
 
 mod answer;
@@ -22,6 +22,7 @@ pub use answer::audit;
 pub use commands::{lend, put_answer};
 pub use fault::PlayError;
 pub use player::play;
+pub use script_reader::Script;
 pub use sink::{Sink, Writer};
 pub use source::{Reader, Source};
 pub use thread_lists::{lend_lists, lend_starts};

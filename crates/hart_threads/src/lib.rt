@@ -4,6 +4,8 @@
 //! A roster under a lock lists the unfinished and the ended processes. Each unfinished process has a voucher; redeeming it
 //! proves that the roster still lists the process, so none is lost between queue, hart and roster. A hart holds no lock
 //! during a call, except that of the shelf if the call needs files.
+//!
+//! A client finds here what it names in a call of `run_harts`: the shelf, and the processes with their calls, of the crates below.
 #![tactic(auto)]
 
 mod enlist;
@@ -20,5 +22,7 @@ mod start;
 mod start_outcomes;
 mod start_result;
 
+pub use file_shelf::Shelf;
 pub use gate::{Gate, OpenGate};
+pub use hart_calls::{Finished, ForkSlot, Tracked, Turn};
 pub use run::run_harts;
