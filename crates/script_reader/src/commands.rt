@@ -310,7 +310,8 @@ impl Commands {
         unpack(self.packed[number], self.whole.as_slice())
     }
 
-    /// Appends a line that is kept whole; on `AllocError` the list is unchanged. Not inlined, since such a line is rare.
+    /// Appends a line that is kept whole, as each `fork` or `mmap`; on `AllocError` the list is unchanged. Not inlined: loads and
+    /// stores, most lines of most scripts, come here only with a number that is too large to pack.
     #[cold]
     #[inline(never)]
     fn push_whole(&mut self, line: Command) -> Result<(), AllocError>
