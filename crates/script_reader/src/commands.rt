@@ -1,4 +1,4 @@
-// `Commands`, a struct: the list of a script's lines after `boot`, with `push`, `get` and `len`. Common lines with small
+// `Commands`, a struct: the list of a script's lines after `boot`, with `push`, `get` and `len`. Lines of eleven kinds with small
 // numbers are packed into 24 bytes each (`PackedCommand`, an enum), all others are kept whole. `CommandView`, an enum: a
 // line as `get` returns it.
 
@@ -10,7 +10,7 @@ use process_model::{Command, Step};
 use std::alloc::{AllocError, Global};
 use std::marker::Model;
 
-/// A packed line: one of the common kinds, with small numbers, or the place of a line among those that are kept whole.
+/// A packed line: one of the packed kinds, with small numbers, or the place of a line among those that are kept whole.
 #[derive(Clone, Copy)]
 enum PackedCommand {
     Switch {
@@ -78,7 +78,7 @@ pub enum CommandView<'a> {
     Kept(&'a Command),
 }
 
-/// The list of the lines after `boot`. Each takes 24 bytes; one of a rarer kind, or with a large number,
+/// The list of the lines after `boot`. Each takes 24 bytes; one of another than the packed kinds, or with a large number,
 /// is kept whole beside them.
 #[derive(Drop)]
 pub struct Commands {
@@ -125,7 +125,7 @@ fn wide_or_none(number: Option<u16>) -> Option<usize>
     }
 }
 
-/// Packs a step of a common kind, if its numbers fit.
+/// Packs a step of a packed kind, if its numbers fit.
 #[inline(always)]
 fn pack_step(step: &Step<'static>) -> Option<PackedCommand>
     ensures { IfSome result (λ packed. model.Says packed (command.One step.now)) }
@@ -181,7 +181,7 @@ fn pack_step(step: &Step<'static>) -> Option<PackedCommand>
     }
 }
 
-/// Packs a line of a common kind, if its numbers fit.
+/// Packs a line of a packed kind, if its numbers fit.
 #[inline(always)]
 fn pack(line: &Command) -> Option<PackedCommand>
     ensures { IfSome result (λ packed. model.Says packed line.now) }
