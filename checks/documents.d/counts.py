@@ -1,0 +1,195 @@
+"""Numbers that documents give, and how each is counted."""
+import re
+
+WORDS = "no one two three four five six seven eight nine ten eleven twelve thirteen fourteen fifteen sixteen seventeen eighteen".split()
+N = r"\b(?P<n>\d[\d,]*\d|\d|" + "|".join(WORDS) + r")\b"
+MOST_LINES, MOST_WORDS = 200, 55_000
+
+
+def number(text):
+    return WORDS.index(text.lower()) if text.lower() in WORDS else int(text.replace(",", ""))
+
+
+def constant(name):
+    """The value of a constant of the sources, by its name; all that have the name must agree."""
+
+    def value(sources):
+        values = {it for _, it in sources.constants[name]}
+        return values.pop() if len(values) == 1 else sorted(values)
+
+    return value
+
+
+def found(path, pattern):
+    """The number in a source file: how a limit is written where it has no name."""
+    return lambda sources: int(re.search(pattern, sources.text(path))[1])
+
+
+def occurrences(path, pattern, less=0):
+    return lambda sources: len(re.findall(pattern, sources.text(path), re.M)) - less
+
+
+def files(pattern):
+    return lambda sources: sources.count(pattern)
+
+
+def most_in_one(folder):
+    return lambda sources: max(sources.count(f"crates/{it}/{folder}/*.edit") for it in sources.crates)
+
+
+def crates_above(name):
+    return lambda sources: sum(name in sources.needs(it) for it in sources.crates) - 1
+
+
+def crates_below(name):
+    return lambda sources: len(sources.needs(name) - sources.kit) - 1
+
+
+def traced(sources):
+    """The scripts that are not meant to be refused."""
+    rows = [it for it in sources.root.glob("crates/row_player/data/*.script") if not it.with_suffix(".refused").exists()]
+    return len(rows) + sources.count("examples/*.script")
+
+
+def variants(name, less=0):
+    """How many variants an enum has, or constructors a data type."""
+    return lambda sources: sum(it[0].isupper() or not it[0].isalpha() for it in sources.members[name]) - less
+
+
+def both(*names):
+    return lambda sources: [constant(it)(sources) for it in names]
+
+
+CONFIG, CALL = "crates/process_model/src/config.rt", "crates/process_model/src/call.rt"
+TABLE, HEADER = "crates/script_reader/src/table.rt", "crates/xv6vm_c/include/xv6vm.h"
+LANGUAGE_CALL = r"^\w[\w ]* \**xv6vm_\w+\("
+ROWS = "crates/row_player/data/*"
+
+# The number in a document, N, and what counts it. After `more than` it is a bound from below.
+RULES = [
+    (rf"{N} (?:edits )?in the gate\b", files("crates/*/must-fail/*.edit")),
+    (rf"All of them, {N}\b", files("crates/*/edits/*.edit")),
+    (rf"no crate has more than {N} there", most_in_one("must-fail")),
+    (rf"{N} scripts and files for threads", lambda sources: sources.count(ROWS + ".script") + sources.count(ROWS + ".threads")),
+    (rf"{N} scripts say", traced),
+    (rf"all {N} scripts of `row_player`", files(ROWS + ".script")),
+    (rf"`audit_player` re-proves itself and {N} others", crates_above("audit_player")),
+    (rf"`xv6vm_translate` and {N} more calls", occurrences(HEADER, LANGUAGE_CALL, less=1)),
+    (rf"walk needs {N} small crates", crates_below("xv6vm_c")),
+    (rf"{N} (?:graded )?labs\b", files("labs/*.script")),
+    (rf"plants {N} errors in the walk", occurrences("checks/qemu.d/planted.py", r'^    ".*": ".*\.edit",$')),
+    (rf"each of {N} is found", occurrences("checks/programs", r'^    \(".*", ".*", \w+.*\),$', less=0)),
+    (rf"on {N} random scripts", found("checks/random_scripts", r"makes COUNT scripts \((\d+)\)")),
+    (rf"`Row::all`, and the length in `\[Row; {N}\]`", found(TABLE, r"fn all\(\) -> \[Row; (\d+)\]")),
+    (rf"`table.rt`, and the length in `\[Row; {N}\]`", found(TABLE, r"fn all_for_threads\(\) -> \[Row; (\d+)\]")),
+    (rf"`LONGEST_TEXT` bytes \({N}\)", constant("LONGEST_TEXT")),
+    (rf"first of {N} rules", variants("Rule", less=1)),
+    (rf"one of {N} frequent words", variants("FastWord")),
+    (rf"None of the {N} kernel calls", lambda sources: len(sources.members["IsKernelCall"])),
+    (rf"(?:1 to|up to) {N} harts", found(CONFIG, r"1\.\.=(\d+)\)\.contains\(&self\.harts")),
+    (rf"harts, 16 to {N} frames", found(CONFIG, r"16\.\.=(\d+)\)\.contains\(&self\.frames")),
+    (rf"`pool FRAMES SLOTS` \| 16 to {N} frames", found(CALL, r"16\.\.=(\d+)\)\.contains\(&self\.frames")),
+    (rf" 1 to {N} slots", found(CONFIG, r"1\.\.=(\d+)\)\.contains\(&self\.slots")),
+    (rf"at most {N} slots", constant("MOST_SLOTS")),
+    (rf"at most {N} history entries", constant("MOST_USES")),
+    (rf"all processes together have {N} pages", constant("MOST_USES")),
+    (rf"(?:buffer|TLB) (?:holds|has at most) {N} entries", constant("buffer_size")),
+    (rf"chooses {N} \(`BUFFER_SIZE`", constant("BUFFER_SIZE")),
+    (rf"{N} entries are kept", constant("PLACES")),
+    (rf"the process has {N} mappings?\b", constant("most_mappings")),
+    (rf"1 to {N} segments", constant("most_segments")),
+    (rf"at most {N} files, \d+ images", constant("most_files")),
+    (rf"at most \d+ files, {N} images", constant("most_images")),
+    (rf"images, and {N} lines after `boot`", constant("most_commands")),
+    (rf"A script has at most {N} bytes", constant("longest_script")),
+    (rf"a line at most {N} without its end", constant("longest_line")),
+    (rf"are its own, at most {N}\b", constant("most_calls")),
+    (rf"journal, of at most {N} entries", constant("most_entries")),
+    (rf"A piece of at most {N} bytes is read", found("crates/audit_player/src/transfer.rt", r"\[0u8; (\d+)\]")),
+    (rf"which is written at {N} bytes", constant("PAGE")),
+    (rf"`PackedCommand` of {N} bytes", found("crates/script_reader/src/commands.rt", r"size_of::<PackedCommand>\(\) == (\d+)")),
+    (rf"(?:put back after|After|makes up to) {N} (?:of its )?calls", constant("QUANTUM")),
+    (rf"{N} are listed\.", constant("MOST_LISTED")),
+    (rf"Above {N} frames, free frames", constant("MOST_UNFOLDED")),
+    (rf"At most {N} pages of a", constant("MOST_PAGES")),
+    (rf"and {N} cells of frames", constant("MOST_CELLS")),
+    (rf"cleared, copied and searched in groups of {N}", both("GROUP", "COPY_GROUP")),
+    (rf"clear, copy and search, {N} words at a time", both("GROUP", "COPY_GROUP")),
+    (rf"cop(?:y|ies)\b[^|.]{{0,40}}at most {N} bytes", constant("longest_copy")),
+]
+
+
+def check_counts(check, document):
+    text = "\n".join(it.text.replace("\n", " ") for it in document.units)
+    for pattern, count in RULES:
+        for match in re.finditer(pattern, text, re.I):
+            given, counted = number(next(filter(None, match.groups()))), count(check.sources)
+            bound = text[: match.start()].endswith("more than ")
+            holds = given < counted if bound else given == counted or counted == [given] * 2
+            check.claim(document.path, document.line_of(text, match.start()), holds, f"`{match[0]}`: there are {counted}")
+
+
+# A document, a word of the sentence or the heads of the table that lists, and the names that must all stand in backticks.
+LISTS = [
+    ("docs/ARCHITECTURE.md", lambda sources: {it for it in sources.crates if not it.startswith("tests_of_")}),
+    ("README.md", lambda sources: {it for it in sources.crates if not it.startswith("tests_of_")} - {"row_player", "lab_player", "walk_bench"}),
+    ("docs/C_LIBRARY.md", lambda sources: set(re.findall(r"^\w[\w ]* \**(xv6vm_\w+)\(", sources.text(HEADER), re.M))),
+    ("docs/SCRIPTS.md", lambda sources: set(re.findall(r'make_row\(b"(\w+)"', sources.text(TABLE)))),
+    ("docs/XV6.md", lambda sources: {it.name for it in sources.root.glob("examples/*.*")} - {"refused.script", "sv48.script"}),
+    ("docs/labs/README.md", lambda sources: {it.name for it in sources.root.glob("labs/*.script")}),
+]
+
+
+def check_lists(check, document):
+    """Lists that are whole: LISTS; the kit's crates, wherever five are named together; the files of a crate in tables of files."""
+    for path, names in LISTS:
+        if str(document.path) == path:
+            for name in sorted(names(check.sources)):
+                there = re.search(rf"[`\[(/ ]{re.escape(name)}\b", document.text)
+                check.claim(path, 1, there, f"it does not name `{name}`")
+    for unit in document.units:
+        named = check.sources.kit & set(re.findall(r"`(\w+)`", unit.text))
+        if len(named) >= 5 and "kit" in unit.text:
+            missing = sorted(check.sources.kit - named)
+            check.claim(document.path, unit.line, not missing, f"the list of the kit's crates lacks {', '.join(missing)}")
+            for match in re.finditer(rf"{N} crates of the kit", unit.text.replace("\n", " ")):
+                counted = len(check.sources.kit)
+                check.claim(document.path, unit.line_at(match.start()), number(match[1]) == counted, f"`{match[0]}`: there are {counted}")
+        if unit.heads == ["Crate", "Files"]:
+            check_files(check, document, unit)
+        check_answers(check, document, unit)
+
+
+def check_files(check, document, unit):
+    """A row with the files of some crates: each source file is named, unless the row says that there is one for each subject."""
+    if re.search(r"\b(a|one) file (per|for each)", unit.text):
+        return
+    named = re.findall(r"`([^`]+)`", unit.text)
+    for crate in re.findall(r"`(\w+)`", unit.cells[0]):
+        for path in sorted(check.root.glob(f"crates/{crate}/src/**/*.rt")):
+            known = path.name in ("lib.rt", "main.rt") or any(path.match(it) for it in named)
+            check.claim(document.path, unit.line, known, f"the row of `{crate}` does not name `{path.name}`")
+
+
+def check_answers(check, document, unit):
+    """A row that links a lab's script and ends with its answers and blanks, as `11 (6)`."""
+    linked, given = re.search(r"\]\(\S*?(labs/\w+\.script)\)", unit.text), re.search(r"\| (\d+) \((\d+)\) \|$", unit.text)
+    if linked and given:
+        lines = [it.partition("=>") for it in (check.root / linked[1]).read_text().splitlines() if not it.startswith("#")]
+        counted = sum(bool(it[1]) for it in lines), sum(it[2].strip() == "?" for it in lines)
+        same = counted == (int(given[1]), int(given[2]))
+        check.claim(document.path, unit.line, same, f"{linked[1]} has {counted[0]} answers, {counted[1]} of them blanks")
+
+
+def check_sizes(check, documents):
+    """README's lines, and the words of all documents. Prints a table if all are checked."""
+    sizes = {path: (len(it.text.split()), it.text.count("\n")) for path, it in documents.items()}
+    if "README.md" in sizes:
+        lines = sizes["README.md"][1]
+        check.claim("README.md", lines, lines <= MOST_LINES, f"{lines} lines, and at most {MOST_LINES} are allowed")
+    if len(sizes) > 1:
+        words = sum(it[0] for it in sizes.values())
+        check.claim("docs", 1, words <= MOST_WORDS, f"{words:,} words in all documents, and at most {MOST_WORDS:,} are allowed")
+        for path, (words_here, lines) in sorted(sizes.items(), key=lambda it: -it[1][0]):
+            print(f"{words_here:>8,} words {lines:>5} lines  {path}")
+        print(f"{words:>8,} words")
