@@ -1,12 +1,14 @@
 """Clauses that documents name: `x` of the call `F`, and the rows of tables of calls."""
 import re
 
-from markdown import SPAN
-
 PLACE = re.compile(r"((?:`\w+(?:::\w+)?`(?:, | and )?)+)(?: in | ?\()`([\w/]+\.(?:rt|antt))`")
 CITED = re.compile(r"`(\w+)` \(((?:`\w+`(?:, )?)+)\)")
 TOKEN = re.compile(r"`([^`]+)`")
 RUN = re.compile(r"((?:`\w+`(?: \([^)]*\))?(?:, | and |, and )?)+) of `([A-Za-z_]\w*(?:::\w+)?)`(?! of `)")
+NAME = re.compile(r"[A-Za-z_]\w*")
+PURE = re.compile(r"\(((?:`\w+`|alone|[,;:] ?| )+)\)")
+CALLED = re.compile(r"`(\w+(?:::\w+)?)`†? \(")
+OF = re.compile(r"(?:as of|those of|of) (?:`\w+`(?:, | and )?)+")
 BRACKET = re.compile(r"\(([^()]*)\)")
 
 
@@ -76,10 +78,19 @@ def listed(clauses):
     return ", ".join(f"`{it}`" for it in sorted(clauses) if it) or "none"
 
 
-def row_calls(calls, crates, cell):
-    """What stands in a cell of calls: tokens with the keys of the functions, or with None for a type."""
+def apart(text):
+    """What stands outside of brackets, and what inside, in any depth; brackets within backticks do not count."""
+    parts, depth = ["", ""], 0
+    for piece in re.split(r"(`[^`]*`|[()])", text):
+        depth += {"(": 1, ")": -1}.get(piece, 0)
+        parts[depth > 0] += piece
+    return parts
+
+
+def row_calls(calls, crates, text):
+    """The tokens of a list of calls, with the keys of the functions, or with None for a type."""
     found, container = [], ""
-    for part in cell.split(";"):
+    for part in text.split(";"):
         whole = re.search(r" of `(\w+)`", part)
         if whole and re.search(r"`[a-z]\w*`", part):
             container = whole[1]
@@ -95,63 +106,61 @@ def row_calls(calls, crates, cell):
     return found
 
 
-def check_rows(check, calls, document):
-    """The rows of tables of calls: each call is in its crate, and its contract has each clause that the row names."""
-    before = []
+def rows(document):
+    """Where a document lists calls: the line, the crates, the calls with their clauses in brackets, and what is said of them."""
     for unit in document.units:
-        if unit.heads[1:2] != ["Call"] or unit.cells == unit.heads or set(unit.text) <= set("|-: "):
+        if unit.cells and (unit.cells == unit.heads or set(unit.text) <= set("|-: ")):
             continue
-        crates = [it for it in TOKEN.findall(unit.first)]
-        row = row_calls(calls, crates, unit.cells[1]) or before
-        before, known = row, {it[0]: "" for it in row}
-        for token, container, keys in row:
+        crates = TOKEN.findall(unit.first)
+        if unit.heads[1:3] == ["Call", "Clauses"]:
+            yield unit.line, crates, f"{unit.cells[1]} ({re.sub(OF, '', unit.cells[2])})", ""
+        elif unit.heads[1:3] == ["Call", "Refused"]:
+            yield unit.line, crates, unit.cells[1], " ".join(unit.cells[2:])
+        elif "Read first" in unit.heads:
+            yield unit.line, crates, unit.cells[unit.heads.index("Read first")], ""
+        elif document.path.name == "CONTRACTS.md" and unit.text.startswith("- "):
+            title = dict(document.headings).get(unit.section, "")
+            if not re.sub(r"`\w+`|, ", "", title):
+                text = unit.text
+                head = re.match(r"(?:`[^`]*`|[^:`])*", text)[0]
+                head = head if ":" in text[len(head) :] else re.match(r"- (?:`[^`]*`†?(?:, | and |; )?)*", text)[0]
+                yield unit.line, TOKEN.findall(title), head, unit.text[len(head) :]
+
+
+def check_rows(check, calls, document):
+    """Rows and items that list calls: each call is in its crate, and each clause in its contract, which names the definition."""
+    before = []
+    for line, crates, head, rest in rows(document):
+        calls_part, inside = apart(head)
+        calls_part, _, more = calls_part.partition(" with ")
+        inside += more
+        before = row_calls(calls, crates, calls_part) or before
+        known = {it[0].rpartition("::")[2]: "" for it in before}
+        for token, container, keys in before:
             if keys is None:
                 join(known, calls.of_type(token))
                 there = token in check.sources.names or token in check.sources.imported
             else:
                 join(known, calls.clauses(keys))
                 there = bool(keys) or token.rpartition("::")[2] in check.sources.members.get(container, ())
-            check.claim(document.path, unit.line, there, f"{' and '.join(crates)} has no call `{token}`")
-        check_cells(check, document, unit, known)
-        check_cited(check, document, unit, known)
+            check.claim(document.path, line, there, f"{' and '.join(crates)} has no call `{token}`")
+        for name in CALLED.findall(rest):
+            join(known, calls.clauses(calls.find(crates, *split_call(name))))
+        whole = " ".join(known.values())
+        for token in TOKEN.findall(inside) + [it for text in PURE.findall(rest) for it in TOKEN.findall(text)]:
+            if NAME.fullmatch(token):
+                there = token in known or check.sources.cites(whole, token)
+                check.claim(document.path, line, there, f"no call of the row has a clause `{token}` or one that cites it, but {listed(known)}")
+        check_cited(check, document, line, (inside, known))
 
 
-def check_cells(check, document, unit, known):
-    """Clauses stand in the column of that name outside of brackets, in other columns within brackets and before a colon."""
-    for head, cell in zip(unit.heads[2:], unit.cells[2:]):
-        if head == "Clauses":
-            outside = re.sub(r"(?:as of|those of|of) (?:`\w+`(?:, | and )?)+", "", BRACKET.sub("", cell))
-            tokens = TOKEN.findall(outside)
-        elif head in ("Refused", "State after"):
-            tokens = [it for text in BRACKET.findall(cell) for it in TOKEN.findall(text.partition(":")[0]) if it[0].islower()]
-        else:
-            continue
-        for token in tokens:
-            there = token in known or head != "Clauses" and check.sources.defined[token]
-            check.claim(document.path, unit.line, there, f"no call of the row has a clause `{token}`, but {listed(known)}")
-
-
-def check_cited(check, document, unit, known):
-    """`clause` (`Definition`): the text of the clause names the definition."""
-    for name, cited in CITED.findall(unit.cells[2]) if unit.heads[2] == "Clauses" else ():
+def check_cited(check, document, line, row):
+    """`clause` (`Definition`): the text of the clause names the definition, or one that does."""
+    inside, known = row
+    for name, cited in CITED.findall(inside):
         for token in TOKEN.findall(cited):
-            if name in known:
-                check.claim(document.path, unit.line, check.sources.cites(known[name], token), f"clause `{name}` does not name `{token}`")
-
-
-def check_first(check, calls, document):
-    """Tables with a column of calls to read first: each is in the crates of its row, with the clauses in brackets behind it."""
-    for unit in document.units:
-        if "Read first" not in unit.heads or unit.cells == unit.heads or set(unit.text) <= set("|-: "):
-            continue
-        cell, crates = unit.cells[unit.heads.index("Read first")], TOKEN.findall(unit.first)
-        for token, container, keys in row_calls(calls, crates, BRACKET.sub("", cell)):
-            there = keys or any(it in check.sources.names[token] for it in crates)
-            check.claim(document.path, unit.line, there, f"{' and '.join(crates)} has no `{token}`")
-            clauses = calls.clauses(keys) if keys else calls.of_type(token)
-            for listed_clauses in re.findall(rf"`{token}` \(((?:`\w+`(?:, )?)+)\)", cell):
-                for clause in TOKEN.findall(listed_clauses):
-                    check.claim(document.path, unit.line, clause in clauses, f"`{token}` has no clause `{clause}`, but {listed(clauses)}")
+            if known.get(name):
+                check.claim(document.path, line, check.sources.cites(known[name], token), f"clause `{name}` does not name `{token}`")
 
 
 def check_places(check, document):

@@ -57,11 +57,14 @@ def variants(name, less=0):
 
 
 def both(*names):
-    return lambda sources: [constant(it)(sources) for it in names]
+    return lambda sources: tuple(constant(it)(sources) for it in names)
 
 
 CONFIG, CALL = "crates/process_model/src/config.rt", "crates/process_model/src/call.rt"
 TABLE, HEADER = "crates/script_reader/src/table.rt", "crates/xv6vm_c/include/xv6vm.h"
+EXACT = ("SCRIPTS.md", "CONTRACTS.md", "DEFINITIONS.md", "ARCHITECTURE.md", "MMU.md", "WORKBENCH.md")
+# A piece of a script has 32,768 bytes; a line of 2,097,664 has 1,048,830 of a file; the client of MMU.md makes 50,000 accesses.
+KNOWN = (32_768, 50_000, 1_048_830)
 LANGUAGE_CALL = r"^\w[\w ]* \**xv6vm_\w+\("
 ROWS = "crates/row_player/data/*"
 
@@ -80,8 +83,7 @@ RULES = [
     (rf"plants {N} errors in the walk", occurrences("checks/qemu.d/planted.py", r'^    ".*": ".*\.edit",$')),
     (rf"each of {N} is found", occurrences("checks/programs", r'^    \(".*", ".*", \w+.*\),$', less=0)),
     (rf"on {N} random scripts", found("checks/random_scripts", r"makes COUNT scripts \((\d+)\)")),
-    (rf"`Row::all`, and the length in `\[Row; {N}\]`", found(TABLE, r"fn all\(\) -> \[Row; (\d+)\]")),
-    (rf"`table.rt`, and the length in `\[Row; {N}\]`", found(TABLE, r"fn all_for_threads\(\) -> \[Row; (\d+)\]")),
+    (rf"\[Row; {N}\]", lambda sources: set(map(int, re.findall(r"\[Row; (\d+)\]", sources.text(TABLE))))),
     (rf"`LONGEST_TEXT` bytes \({N}\)", constant("LONGEST_TEXT")),
     (rf"first of {N} rules", variants("Rule", less=1)),
     (rf"one of {N} frequent words", variants("FastWord")),
@@ -89,8 +91,7 @@ RULES = [
     (rf"(?:1 to|up to) {N} harts", found(CONFIG, r"1\.\.=(\d+)\)\.contains\(&self\.harts")),
     (rf"harts, 16 to {N} frames", found(CONFIG, r"16\.\.=(\d+)\)\.contains\(&self\.frames")),
     (rf"`pool FRAMES SLOTS` \| 16 to {N} frames", found(CALL, r"16\.\.=(\d+)\)\.contains\(&self\.frames")),
-    (rf" 1 to {N} slots", found(CONFIG, r"1\.\.=(\d+)\)\.contains\(&self\.slots")),
-    (rf"at most {N} slots", constant("MOST_SLOTS")),
+    (rf"(?: 1 to|at most|up to) {N} slots", found(CONFIG, r"1\.\.=(\d+)\)\.contains\(&self\.slots")),
     (rf"at most {N} history entries", constant("MOST_USES")),
     (rf"all processes together have {N} pages", constant("MOST_USES")),
     (rf"(?:buffer|TLB) (?:holds|has at most) {N} entries", constant("buffer_size")),
@@ -109,7 +110,7 @@ RULES = [
     (rf"which is written at {N} bytes", constant("PAGE")),
     (rf"`PackedCommand` of {N} bytes", found("crates/script_reader/src/commands.rt", r"size_of::<PackedCommand>\(\) == (\d+)")),
     (rf"(?:put back after|After|makes up to) {N} (?:of its )?calls", constant("QUANTUM")),
-    (rf"{N} are listed\.", constant("MOST_LISTED")),
+    (rf"{N} are listed", constant("MOST_LISTED")),
     (rf"Above {N} frames, free frames", constant("MOST_UNFOLDED")),
     (rf"At most {N} pages of a", constant("MOST_PAGES")),
     (rf"and {N} cells of frames", constant("MOST_CELLS")),
@@ -119,14 +120,28 @@ RULES = [
 ]
 
 
+def holds(given, counted, bound):
+    if isinstance(counted, set):
+        return given in counted
+    if isinstance(counted, tuple):
+        return set(counted) == {given}
+    return given < counted if bound else given == counted
+
+
 def check_counts(check, document):
-    text = "\n".join(it.text.replace("\n", " ") for it in document.units)
+    """The numbers of RULES; and in documents that explain formats and limits each number of five digits or more is a limit."""
+    text = document.text.replace("\n", " ")
     for pattern, count in RULES:
         for match in re.finditer(pattern, text, re.I):
-            given, counted = number(next(filter(None, match.groups()))), count(check.sources)
-            bound = text[: match.start()].endswith("more than ")
-            holds = given < counted if bound else given == counted or counted == [given] * 2
-            check.claim(document.path, document.line_of(text, match.start()), holds, f"`{match[0]}`: there are {counted}")
+            given, counted = number(match["n"]), count(check.sources)
+            right = holds(given, counted, text[: match.start()].endswith("more than "))
+            check.claim(document.path, document.line_of(match.start()), right, f"`{match[0]}`: there are {counted}")
+    if document.path.name in EXACT:
+        limits = {it for values in check.sources.constants.values() for _, it in values}
+        for match in re.finditer(r"(?<![\w,.-])\d{2,3}(?:,\d{3})+(?![\w,])", document.prose()):
+            given = number(match[0])
+            known = {given - 1, given, given + 1} & limits or given in KNOWN
+            check.claim(document.path, document.line_of(match.start()), known, f"no limit is {match[0]}")
 
 
 # A document, a word of the sentence or the heads of the table that lists, and the names that must all stand in backticks.

@@ -6,6 +6,10 @@ SPAN = re.compile(r"(`+)(.+?)\1(?!`)", re.S)
 LINK = re.compile(r"\[((?:[^\[\]`]|`[^`]*`)*)\]\(([^()\s]+)\)")
 
 
+def blank(found):
+    return re.sub(r"[^\n]", " ", found[0])
+
+
 class Unit:
     """A row, an item, a paragraph or a heading; `heads` are the cells of the table's first row, `first` those of its first column."""
 
@@ -73,11 +77,13 @@ class Document:
             self.units.append(Unit(self.pending[0][0], "\n".join(it for _, it in self.pending), self.section))
         self.pending = []
 
-    def line_of(self, text, place):
-        """The line of a place in the joined text of the units, each of them one line."""
-        start = text.rfind("\n", 0, place) + 1
-        unit = self.units[text.count("\n", 0, place)]
-        return unit.line_at(place - start)
+    def line_of(self, place):
+        return self.text.count("\n", 0, place) + 1
+
+    def prose(self):
+        """The text with blanks in place of blocks and spans, each character in its place."""
+        text = re.sub(r"^ *```.*?^ *```", blank, self.text, flags=re.S | re.M)
+        return SPAN.sub(blank, text)
 
     def anchors(self):
         """The anchors of the headings, as GitHub makes them."""

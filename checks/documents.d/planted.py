@@ -1,7 +1,7 @@
 """Errors that the check must find: what it is, the documents that may get it, a pattern of the place, and what stands there then."""
 
 PLANTED = [
-    ("a path", "*.md", r"`crates/(\w+)/src/(\w+)\.rt`", r"`crates/\1/src/\2_too.rt`"),
+    ("a path", "*.md", r"`crates/(?!crate/)(\w+)/src/(\w+)\.rt`", r"`crates/\1/src/\2_too.rt`"),
     ("a file of no crate", "docs/ARCHITECTURE.md", r"`([a-z]+_[a-z]+)\.rt`", r"`\1_too.rt`"),
     ("a file of another crate", "docs/ARCHITECTURE.md", r"\| `hart_tlb` \| `\w+\.rt`", "| `hart_tlb` | `elf.rt`"),
     ("a file of definitions", "docs/DEFINITIONS.md", r"`(\w+)\.antt` of `(\w+)`", r"`\1s.antt` of `\2`"),
@@ -15,7 +15,7 @@ PLANTED = [
     ("an edit", "docs/DEFINITIONS.md", r"`fork_marks_never_go`", "`fork_marks_always_go`"),
     ("a clause of a call", "*.md", r"`back` of `run_harts`", "`comes` of `run_harts`"),
     ("a clause in a row", "docs/CONTRACTS.md", r"`forked` \(`HasForked`", "`shared` (`HasForked`"),
-    ("a call of another crate", "docs/CONTRACTS.md", r"\| `lazy_growth` \| `sbrk` \|", "| `lazy_growth` | `fork` |"),
+    ("a call of another crate", "docs/CONTRACTS.md", r"`copy_in`, `copy_out`(?= \(| \|)", "`copy_in`, `mmap`"),
     ("the number of edits", "docs/GATE.md", r"All of them, [\d,]+", "All of them, 12"),
     ("the number of must-fail edits", "*.md", r"\d+ (edits )?in the gate", "7 in the gate"),
     ("a limit", "docs/SCRIPTS.md", r"1 to (\d+) slots", r"1 to 1\1 slots"),

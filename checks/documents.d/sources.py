@@ -9,6 +9,7 @@ RUST_CLAUSE = re.compile(r"^\s+(ensures|requires)(?: (\w+))? \{")
 RUST_FIELD = re.compile(r"^\s+(?:pub(?:\(\w+\))? )?(?:ghost )?(\w+): ")
 RUST_VARIANT = re.compile(r"^    ([A-Z]\w*)\s*(?:[,({=]|$)")
 ANTT_NAME = re.compile(r"^( *)((?:(?:pub|abbrev|unfoldable|record|data) )*)([^\s(:=][^(:=]*?)((?: ?\([^)]*\))*) : ")
+ANTT_TYPE = re.compile(r"^( *)((?:(?:pub|abbrev|unfoldable) )*(?:record|data) )([^\s(:]+)(.*)")
 C_NAME = re.compile(r"\b(\w+)(?=\(| = |[,;]|\[)|#define (\w+)|(?:struct|enum|def|class) (\w+)")
 LITERAL = re.compile(r'"((?:[^"\\]|\\.)*)"')
 WORD = re.compile(r"[A-Za-z_][\w-]*")
@@ -145,7 +146,7 @@ class Sources:
             if code.startswith("use "):
                 self.imported.update(IDENTIFIER.findall(code))
                 continue
-            found = ANTT_NAME.match(code)
+            found = ANTT_TYPE.match(code) or ANTT_NAME.match(code)
             whole = found[3] if found and not found[1] else whole
             self.bodies[whole].update(IDENTIFIER.findall(code))
             if found:
@@ -172,7 +173,7 @@ class Sources:
                 todo += self.crates.get(name, [])
         return found
 
-    def cites(self, text, name, depth=3):
+    def cites(self, text, name, depth=4):
         """Whether a text names a definition, or names one that cites it."""
         new = names = set(IDENTIFIER.findall(text))
         for _ in range(depth):
