@@ -8,11 +8,11 @@ ghost use Rattle.process_model.specs.Bytes.{is_width};
 use frame_bytes::{
     copy_frame, fill_frame, load_bytes, read_frame, read_run, store_bytes, write_run,
 };
-use frame_store::{FrameSupply, PlainFrames, PlainSeat};
+use frame_store::{FrameAccess, FrameSupply, PlainFrames, PlainSeat};
 use std::alloc::Global;
 use std::marker::Model;
 use std::test::Fail;
-use sv39_entry::FrameNo;
+use sv39_entry::{Entry, FrameNo, Rights};
 
 /// An offset in the page, a width in bytes, and the number that a load there must return.
 type Access = (usize, usize, u64);
@@ -102,6 +102,14 @@ impl Bench {
                 value,
             );
         }
+    }
+
+    /// The word at `index` of the first frame, as page tables have it; 0 if there is no such word.
+    fn word(&mut self, index: usize) -> u64 {
+        if index >= 512 {
+            return 0;
+        }
+        self.store.load(&mut self.seat, self.first, index)
     }
 
     /// The 4,096 bytes of the first frame, read into an array that had other bytes.
@@ -236,6 +244,23 @@ fn stores_beside_neighbors(rt: HostRuntime) -> Result<(), Fail> {
         (20, 4, 0xabcd_1514),
     ];
     assert_eq!(rt; bench.first_wrong(&accesses), None);
+    Ok(())
+}
+
+/// The leaf of frame 5 with R, X and U, stored to a frame, and the bytes in which it then lies in memory, from the lowest
+/// address on. Those bytes, filled into a frame, are that leaf.
+#[test]
+fn leaves_lie_low_byte_first(rt: HostRuntime) -> Result<(), Fail> {
+    let code = Rights::READ | Rights::EXECUTE;
+    let leaf = Entry::leaf(FrameNo(5), code, true, false, true).to_word();
+    let bytes = [0x5b, 0x14, 0x00, 0x20, 0x00, 0x00, 0x00, 0x00];
+    let mut bench = Bench::new(rt.alloc())?;
+    bench.store(8, 8, leaf);
+    let mut stored = [0xee; 8];
+    bench.read(8, &mut stored);
+    assert!(rt; stored == bytes);
+    bench.fill(&bytes);
+    assert_eq!(rt; bench.word(0), leaf);
     Ok(())
 }
 
