@@ -1,10 +1,11 @@
-// Tests that calls which need no files do not lock the shelf, the files that threads share: processes run to their end while
-// the test holds the lock.
+// Tests of the shelf, the files that threads share. Calls that need no files do not lock it: processes run to their end
+// while the test holds the lock. When 65,536 pages have been read or written, it is full, and promises no further page.
 
 use audit_player::{lend_lists, lend_starts};
-use file_cabinet::Cabinet;
-use file_shelf::Shelf;
+use file_cabinet::{Cabinet, Files, PromiseError};
+use file_shelf::{MOST_USES, Shelf};
 use hart_threads::{OpenGate, run_harts};
+use process_model::{Bytes, FileText};
 use script_reader::ThreadScript;
 use shared_frames::SharedFrames;
 use std::sync::Mutex;
@@ -41,5 +42,41 @@ fn without_files_nobody_locks_the_shelf(rt: HostRuntime) -> Result<(), Fail> {
     drop(held);
     assert_eq!(rt; ended.len(), 3);
     assert_eq!(rt; frames.close(seat).free, 63);
+    Ok(())
+}
+
+/// Writes and reads the first page of file 0 in turn, `uses` times in all, each time by a promise of one page. Returns
+/// whether all promises were made; stops at the first that is refused.
+fn use_pages(shelf: &mut Shelf, uses: usize) -> bool {
+    let mut page = [1; 4096];
+    for at in 0..uses {
+        if shelf.promise(1).is_err() {
+            return false;
+        }
+        if at % 2 == 0 {
+            shelf.write_page(0, 0, &page);
+        } else {
+            shelf.read_page(0, 0, &mut page);
+        }
+    }
+    true
+}
+
+#[test]
+fn a_full_shelf_promises_no_page(rt: HostRuntime) -> Result<(), Fail> {
+    let file = FileText {
+        length: 8,
+        writable: true,
+        bytes: Bytes::from_vec(Vec::new(rt.alloc())),
+    };
+    let mut shelf = Shelf::new(rt.alloc(), Cabinet::new(rt.alloc(), &[file])?);
+    assert_eq!(rt; shelf.promise(MOST_USES), Ok(()));
+    assert!(rt; use_pages(&mut shelf, MOST_USES - 1));
+    assert_eq!(rt; shelf.promise(2), Err(PromiseError::JournalFull));
+    assert!(rt; use_pages(&mut shelf, 1));
+    assert_eq!(rt; shelf.promise(1), Err(PromiseError::JournalFull));
+    assert_eq!(rt; shelf.history().len(), MOST_USES);
+    assert!(rt; shelf.cabinet().bytes(0) == Some([1; 8].as_slice()));
+    assert_eq!(rt; shelf.promise(0), Ok(()));
     Ok(())
 }
