@@ -79,12 +79,14 @@ def listed(clauses):
 
 
 def apart(text):
-    """What stands outside of brackets, and what inside, in any depth; brackets within backticks do not count."""
-    parts, depth = ["", ""], 0
+    """What stands outside of brackets, inside of one, and inside of any; brackets within backticks do not count."""
+    outside, outer, inside, depth = "", "", "", 0
     for piece in re.split(r"(`[^`]*`|[()])", text):
         depth += {"(": 1, ")": -1}.get(piece, 0)
-        parts[depth > 0] += piece
-    return parts
+        outside += piece if depth == 0 else ""
+        outer += piece if depth == 1 else ""
+        inside += piece if depth else ""
+    return outside, outer, inside
 
 
 def row_calls(calls, crates, text):
@@ -131,9 +133,8 @@ def check_rows(check, calls, document):
     """Rows and items that list calls: each call is in its crate, and each clause in its contract, which names the definition."""
     before = []
     for line, crates, head, rest in rows(document):
-        calls_part, inside = apart(head)
+        calls_part, outer, inside = apart(head)
         calls_part, _, more = calls_part.partition(" with ")
-        inside += more
         before = row_calls(calls, crates, calls_part) or before
         known = {it[0].rpartition("::")[2]: "" for it in before}
         for token, container, keys in before:
@@ -147,9 +148,11 @@ def check_rows(check, calls, document):
         for name in CALLED.findall(rest):
             join(known, calls.clauses(calls.find(crates, *split_call(name))))
         whole = " ".join(known.values())
-        for token in TOKEN.findall(inside) + [it for text in PURE.findall(rest) for it in TOKEN.findall(text)]:
+        named = [(it, 1) for it in TOKEN.findall(outer + more) if it.islower()]
+        named += [(it, 4) for text in (inside, *PURE.findall(rest)) for it in TOKEN.findall(text)]
+        for token, depth in named:
             if NAME.fullmatch(token):
-                there = token in known or check.sources.cites(whole, token)
+                there = token in known or check.sources.cites(whole, token, depth)
                 check.claim(document.path, line, there, f"no call of the row has a clause `{token}` or one that cites it, but {listed(known)}")
         check_cited(check, document, line, (inside, known))
 
@@ -160,7 +163,7 @@ def check_cited(check, document, line, row):
     for name, cited in CITED.findall(inside):
         for token in TOKEN.findall(cited):
             if known.get(name):
-                check.claim(document.path, line, check.sources.cites(known[name], token), f"clause `{name}` does not name `{token}`")
+                check.claim(document.path, line, check.sources.cites(known[name], token, 4), f"clause `{name}` does not name `{token}`")
 
 
 def check_places(check, document):

@@ -135,7 +135,7 @@ def check_counts(check, document):
         for match in re.finditer(pattern, text, re.I):
             given, counted = number(match["n"]), count(check.sources)
             right = holds(given, counted, text[: match.start()].endswith("more than "))
-            check.claim(document.path, document.line_of(match.start()), right, f"`{match[0]}`: there are {counted}")
+            check.claim(document.path, document.line_of(match.start()), right, f"`{match[0].strip()}`: there are {counted}")
     if document.path.name in EXACT:
         limits = {it for values in check.sources.constants.values() for _, it in values}
         for match in re.finditer(r"(?<![\w,.-])\d{2,3}(?:,\d{3})+(?![\w,])", document.prose()):

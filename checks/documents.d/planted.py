@@ -3,7 +3,7 @@
 PLANTED = [
     ("a path", "*.md", r"`crates/(?!crate/)(\w+)/src/(\w+)\.rt`", r"`crates/\1/src/\2_too.rt`"),
     ("a file of no crate", "docs/ARCHITECTURE.md", r"`([a-z]+_[a-z]+)\.rt`", r"`\1_too.rt`"),
-    ("a file of another crate", "docs/ARCHITECTURE.md", r"\| `hart_tlb` \| `\w+\.rt`", "| `hart_tlb` | `elf.rt`"),
+    ("a file of another crate", "docs/ARCHITECTURE.md", r"(\| `hart_tlb`[^|]*\| )`\w+\.rt`", r"\1`elf.rt`"),
     ("a file of definitions", "docs/DEFINITIONS.md", r"`(\w+)\.antt` of `(\w+)`", r"`\1s.antt` of `\2`"),
     ("a link", "README.md", r"\]\(docs/(\w+)\.md\)", r"](docs/\1S.md)"),
     ("an anchor", "*.md", r"\.md#([\w-]+)\)", r".md#\1-too)"),
@@ -12,7 +12,7 @@ PLANTED = [
     ("a method", "*.md", r"`Machine::step`", "`Machine::sbrk_step`"),
     ("a constant", "*.md", r"`BUFFER_SIZE`", "`BUFFER_LENGTH`"),
     ("a definition", "docs/DEFINITIONS.md", r"`first_rule`", "`first_denial`"),
-    ("an edit", "docs/DEFINITIONS.md", r"`fork_marks_never_go`", "`fork_marks_always_go`"),
+    ("a word of scripts", "docs/SCRIPTS.md", r"`evict`", "`expel`"),
     ("a clause of a call", "*.md", r"`back` of `run_harts`", "`comes` of `run_harts`"),
     ("a clause in a row", "docs/CONTRACTS.md", r"`forked` \(`HasForked`", "`shared` (`HasForked`"),
     ("a call of another crate", "docs/CONTRACTS.md", r"`copy_in`, `copy_out`(?= \(| \|)", "`copy_in`, `mmap`"),

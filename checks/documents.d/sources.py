@@ -173,7 +173,7 @@ class Sources:
                 todo += self.crates.get(name, [])
         return found
 
-    def cites(self, text, name, depth=4):
+    def cites(self, text, name, depth):
         """Whether a text names a definition, or names one that cites it."""
         new = names = set(IDENTIFIER.findall(text))
         for _ in range(depth):
