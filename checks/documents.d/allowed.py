@@ -1,10 +1,10 @@
 """Names and files in documents that no source here defines, in groups, each with the reason why it may be named."""
 
 NAMES = {
-    "words of contracts, of antt and of Rust": "requires ensures ghost impl unfoldable abbrev record data unreachable match use pub let Maybe mod old file new",
+    "words of contracts, of antt and of Rust": "unsafe requires ensures ghost impl unfoldable abbrev record data unreachable match use pub let Maybe mod old file new",
     "names of files beside sources, of goals and of the toolchain's texts": "MODULE TYPE FUNCTION args stdin stdout trusted overflow_add bounds",
     "functions of Rust's library that the code does not call": "copy_within memset memmove malloc realloc free memcpy",
-    "xv6's functions": """allocproc copyinstr exec_ fileread filewrite flags2perm freeproc freewalk growproc kalloc kfree kill kvmmake
+    "xv6's functions and programs": """usertests grind allocproc copyinstr fileread filewrite flags2perm freeproc freewalk growproc kalloc kfree kill kvmmake
         kvmmap loadseg mappages proc_freepagetable proc_mapstacks proc_pagetable sched scheduler swtch sys_sbrk uservec userret usertrap
         usertrapret uvmalloc uvmclear uvmcopy uvmcreate uvmdealloc uvmfree uvmunmap w_satp walkaddr""",
     "registers, and the letters of flags": "sstatus scause VRWXUGAD",
@@ -15,7 +15,7 @@ NAMES = {
 }
 FILES = {
     "xv6's files": """kernel/vm.c kernel/proc.c kernel/memlayout.h kernel/trampoline.S kernel/trap.c kernel/sysproc.c kernel/kalloc.c
-        kernel/file.c kalloc.c vm.c proc.c exec.c trap.c trampoline.S""",
+        kernel/file.c user/usertests.c kalloc.c vm.c proc.c exec.c trap.c trampoline.S""",
     "files that a reader makes": "my.script mine.script ../../my.script checked.script page_tables.html cow.html copy_on_write.html",
     "a path as its form": "crate/x.rt crate/X.antt crates/crate/src/x.rt crates/crate/specs/X.antt",
     "the kit's": "liblibc_c.a /c/liblibc_c.a",

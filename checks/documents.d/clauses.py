@@ -59,7 +59,7 @@ def split_call(text):
 
 
 def check_runs(check, calls, document):
-    """`x`, `y` of `F`, if F is a function: each must be a clause of its contract, a parameter, or a part of what it cites."""
+    """`x`, `y` of `F`, if F is a function: each is a clause of its contract."""
     for unit in document.units:
         if unit.heads[1:2] == ["Call"]:
             continue
@@ -123,9 +123,8 @@ def rows(document):
         elif document.path.name == "CONTRACTS.md" and unit.text.startswith("- "):
             title = dict(document.headings).get(unit.section, "")
             if not re.sub(r"`\w+`|, ", "", title):
-                text = unit.text
-                head = re.match(r"(?:`[^`]*`|[^:`])*", text)[0]
-                head = head if ":" in text[len(head) :] else re.match(r"- (?:`[^`]*`†?(?:, | and |; )?)*", text)[0]
+                head = re.match(r"(?:`[^`]*`|[^:`])*", unit.text)[0]
+                head = head if ":" in unit.text[len(head) :] else re.match(r"- (?:`[^`]*`†?(?:, | and |; )?)*", unit.text)[0]
                 yield unit.line, TOKEN.findall(title), head, unit.text[len(head) :]
 
 

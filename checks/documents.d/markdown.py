@@ -77,6 +77,11 @@ class Document:
             self.units.append(Unit(self.pending[0][0], "\n".join(it for _, it in self.pending), self.section))
         self.pending = []
 
+    def commands(self):
+        """The lines of blocks that are typed into a shell."""
+        for number, language, lines in self.blocks:
+            yield from ((at, it) for at, it in enumerate(lines, number + 1) if language == "sh" or it.startswith("$ "))
+
     def line_of(self, place):
         return self.text.count("\n", 0, place) + 1
 

@@ -26,7 +26,7 @@ class Sources:
         self.members = collections.defaultdict(set)
         self.clauses = collections.defaultdict(dict)
         self.constants = collections.defaultdict(set)
-        self.ghosts, self.defined = collections.defaultdict(dict), collections.defaultdict(set)
+        self.ghosts = collections.defaultdict(dict)
         self.imported, self.words, self.texts, self.bodies = set(), set(), {}, collections.defaultdict(set)
         self.read_crates()
         self.paths = set(self.walk())
@@ -113,24 +113,24 @@ class Sources:
                 self.note_constant(crate, code)
             elif kind == "enum" and RUST_VARIANT.match(code):
                 self.add(crate, containers, RUST_VARIANT.match(code)[1])
-            if item and item[1] == "fn" or member and member[1] == "fn":
+            if "fn" in (item and item[1], member and member[1]):
                 self.clauses[call]
-            self.read_signature(crate, containers, call, kind, code)
+            if call is None and kind in ("struct", "enum", "trait") and RUST_FIELD.match(code):
+                self.add(crate, containers, RUST_FIELD.match(code)[1])
+            elif call is not None:
+                self.read_signature(crate, call, code)
+            call = None if code.strip() == "{" else call
 
-    def read_signature(self, crate, containers, call, kind, code):
-        """Fields, parameters and clauses: all of them are names that a document may use."""
-        clause, field = RUST_CLAUSE.match(code), RUST_FIELD.match(code)
-        if clause and call:
+    def read_signature(self, crate, call, code):
+        """Parameters and clauses of a function, up to its body."""
+        clause = RUST_CLAUSE.match(code)
+        if clause:
             name = clause[2] or ""
             self.clauses[call][name] = self.clauses[call].get(name, "") + code
             self.names[name].add(crate)
-            self.last = call, name
-        elif call and self.clauses[call] and re.match(r"^ {8,}\S", code):
-            name = list(self.clauses[call])[-1]
-            self.clauses[call][name] += code
-        elif field:
-            self.add(crate, containers if kind in ("struct", "enum") else (), field[1])
-        if "fn " in code:
+        elif self.clauses[call]:
+            self.clauses[call][list(self.clauses[call])[-1]] += code
+        else:
             for name in re.findall(r"(\w+): ", code):
                 self.names[name].add(crate)
 
@@ -155,7 +155,6 @@ class Sources:
                     container = (found[3],) if "record" in found[2] or "data" in found[2] else ()
                 for name in found[3].split():
                     self.add(crate, container if inner else (), name)
-                    self.defined[name].add(crate)
                 self.imported.update(it for names in re.findall(r"\((\w[\w ]*) :", found[4]) for it in names.split())
             elif re.match(r"[\w ]+ = ", code):
                 name, _, value = code.strip().partition(" = ")
