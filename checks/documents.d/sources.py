@@ -42,7 +42,7 @@ class Sources:
 
     def walk(self):
         for folder, folders, files in os.walk(self.root):
-            folders[:] = [it for it in folders if it not in ("out", ".git", "__pycache__")]
+            folders[:] = [it for it in folders if it not in ("out", "target", ".git", "__pycache__")]
             here = os.path.relpath(folder, self.root)
             yield from (os.path.normpath(os.path.join(here, it)) for it in files + folders)
 
