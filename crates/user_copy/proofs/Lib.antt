@@ -1,3 +1,7 @@
 mod Reached
 mod Chains
 mod Nearby
+mod ProcessBytes
+mod OtherCopies
+mod CopySoFar
+mod WholeCopies

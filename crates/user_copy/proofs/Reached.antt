@@ -33,14 +33,14 @@ low z rs access address none = let tests = none_true (copy_tests z rs access add
 module _ {Seat Frames Cabinet : Type 0} (l : StoreModel Seat Frames Cabinet) (a b : Place Seat Frames Cabinet) (access : Access) (address : ℕ) where
   module _ (e : Reaches l a b access address (Ok tt)) (t : Tables) (p : Process) (space : IsSpace (body_at l a) t p) where
     -- no rule denies an address that was reached
-    allowed : copy_rule p.scheme (regions p) access address ≡ None
+    pub allowed : copy_rule p.scheme (regions p) access address ≡ None
     allowed = by (copy_rule p.scheme (regions p) access address) (e.ended t p space)
       where
         by : (o : Option Rule) → IsEnd o served.Ready → o ≡ None
         by None is = refl
         by (Some rule) is = absurd (cc)
 
-    can : CanMakeResident (body_at l a) t p access (page_of address)
+    pub can : CanMakeResident (body_at l a) t p access (page_of address)
     can = can_reside (body_at l a) t p access address 1 space (no_alignment p.scheme (regions p) access address ∙ allowed)
 
     -- so it is low

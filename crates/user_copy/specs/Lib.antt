@@ -1,3 +1,5 @@
 pub mod ReachedPage
 pub mod Runs
 pub mod FirstPageBytes
+pub mod CopyOfProcess
+pub mod CopyModel

@@ -1,16 +1,27 @@
 // `copy_in` and `copy_out`, the kernel copies copyin and copyout of at most 256 bytes, which lie in at most two pages: each
 // page is made resident (in memory and ready for the access), and then its bytes are copied.
 
-ghost use Rattle.std.specs.Prelude.{[], ◌≡◌, ◌++◌, ◌+◌, ◌%◌, ◌<◌, ◌≤◌, IfErr, IfOk, length, None, Some};
+ghost use Rattle.std.specs.Prelude.{[], ◌≡◌, ◌≢◌, ◌++◌, ◌+◌, ◌%◌, ◌<◌, ◌≤◌, false, true, IfErr, IfOk, length, None, Some};
 ghost use Rattle.address_space.specs.Agreement.{body_of, IsSpace};
+ghost use Rattle.fault_rules.specs.MadeResident.{resident_reads};
 ghost use Rattle.frame_store.specs.Laws.{IsSeatOf, KeepsSeats};
 ghost use Rattle.process_model.specs.Copies.{longest_copy};
-ghost use Rattle.process_model.specs.Process.{Process};
+ghost use Rattle.process_model.specs.Frames.{resident_need};
+ghost use Rattle.process_model.specs.Process.{Process, regions};
+ghost use Rattle.process_model.specs.Regions.{copy_rule};
+ghost use Rattle.process_model.specs.Residence.{is_resident};
+ghost use Rattle.process_model.specs.declared.step.Refusal.{Refusal};
+ghost use Rattle.sv39_entry.specs.Address.{page_of};
 ghost use Rattle.sv39_entry.specs.Schemes.{maxva};
 ghost use Rattle.sv39_entry.specs.declared.access.Access.TheVariants.{Load, Store};
+ghost use Rattle.sv39_entry.specs.declared.rule.Rule.{Rule};
+ghost use Rattle.sv39_entry.specs.declared.rule.Rule.TheVariants.{NoFrame};
 ghost use Rattle.table_walk.specs.Tables.{Tables};
+ghost use Rattle.user_copy.specs.CopyModel.{IsModelCopy, model_copy_in, model_copy_out, stop_in};
+ghost use Rattle.user_copy.specs.CopyOfProcess.{AreGranted, bytes_in, bytes_out, HasPut, HasSameBytes, IsAfterCopy, process_bytes, RanShort};
 ghost use Rattle.user_copy.specs.ReachedPage.{place, Reaches, served_of, StillStands, store_model};
 ghost use Rattle.user_copy.specs.Runs.{CopiesIn, CopiesOut, near, runs, runs_of, some_bytes, some_run};
+ghost use Rattle.user_copy.specs.declared.short.Stop.TheVariants.{Denied, Unpromised};
 
 use crate::short::{Short, Stop};
 use address_space::Space;
@@ -42,6 +53,17 @@ pub fn copy_in<S: FrameSeat, F: FrameSupply<Seat = S>, C: Files>(
     ensures copied { IfOk result (λ bytes. CopiesIn (store_model S.view F.rule F.alone F.free F.count C.files C.becomes C.can_refuse) (runs va.0 n) (place space.old store.old files.old) (place space.new store.new files.new) [] bytes.items None) }
     ensures stopped { IfErr result (λ short. CopiesIn (store_model S.view F.rule F.alone F.free F.count C.files C.becomes C.can_refuse) (runs va.0 n) (place space.old store.old files.old) (place space.new store.new files.new) [] short.bytes.items (Some short.rule)) }
     ensures done { IfErr result (λ short. short.done ≡ length short.bytes.items) }
+    ensures model { (t : Tables) (p : Process) → IsSpace (body_of S.view space.old) t p → IsModelCopy (body_of S.view space.new) (model_copy_in (C.files files.old) p va.0 n (bytes_in result) (stop_in result)) (bytes_in result) (stop_in result) }
+    ensures whole { IfOk result (λ bytes. length bytes.items ≡ n) }
+    ensures fewer { IfErr result (λ short. short.done < n) }
+    ensures bytes { (t : Tables) (p : Process) → IsSpace (body_of S.view space.old) t p → bytes_in result ≡ process_bytes (C.files files.old) p va.0 (length (bytes_in result)) }
+    ensures granted { (t : Tables) (p : Process) → IsSpace (body_of S.view space.old) t p → AreGranted p Load va.0 (length (bytes_in result)) }
+    ensures first { (t : Tables) (p : Process) → IsSpace (body_of S.view space.old) t p → IfErr result (λ short. (rule : Rule) → short.rule ≡ Denied rule → rule ≢ NoFrame → copy_rule p.scheme (regions p) Load (va.0 + short.done) ≡ Some rule) }
+    ensures dry { (t : Tables) (p : Process) → IsSpace (body_of S.view space.old) t p → IfErr result (λ short. short.rule ≡ Denied NoFrame → (copy_rule p.scheme (regions p) Load (va.0 + short.done) ≡ None) × (is_resident p Load (page_of (va.0 + short.done)) ≡ false)) }
+    ensures unpromised { (t : Tables) (p : Process) → IsSpace (body_of S.view space.old) t p → IfErr result (λ short. (e : Refusal) → short.rule ≡ Unpromised e → (copy_rule p.scheme (regions p) Load (va.0 + short.done) ≡ None) × (0 < length (resident_reads (C.files files.old) p (page_of (va.0 + short.done))))) }
+    ensures after { (t : Tables) (p : Process) → IsSpace (body_of S.view space.old) t p → (u : Tables) × (q : Process) × IsSpace (body_of S.view space.new) u q × IsAfterCopy Load va.0 (length (bytes_in result)) p q × HasSameBytes (C.files files.old) p q }
+    ensures lacks { (t : Tables) (p : Process) → IsSpace (body_of S.view space.old) t p → IfErr result (λ short. short.rule ≡ Denied NoFrame → (u : Tables) × (q : Process) × IsSpace (body_of S.view space.new) u q × IsAfterCopy Load va.0 short.done p q × RanShort (S.view space.old.seat) (S.view space.new.seat) q Load (page_of (va.0 + short.done)) × (F.alone → F.free store.new < resident_need true q Load (page_of (va.0 + short.done)))) }
+    ensures same_files { C.files files.new ≡ C.files files.old }
     ensures space { StillStands (body_of S.view space.old) (body_of S.view space.new) }
     ensures keeps { KeepsSeats F.rule store.old space.old.seat store.new space.new.seat }
 {
@@ -76,17 +98,19 @@ pub fn copy_out<S: FrameSeat, F: FrameSupply<Seat = S>, C: Files>(
     ensures copied { IfOk result (λ _. CopiesOut (store_model S.view F.rule F.alone F.free F.count C.files C.becomes C.can_refuse) (runs_of va.0 bytes.now) (place space.old store.old files.old) (place space.new store.new files.new) 0 (length bytes.now) None) }
     ensures stopped { IfErr result (λ short. CopiesOut (store_model S.view F.rule F.alone F.free F.count C.files C.becomes C.can_refuse) (runs_of va.0 bytes.now) (place space.old store.old files.old) (place space.new store.new files.new) 0 short.done (Some short.rule)) }
     ensures none { IfErr result (λ short. short.bytes.items ≡ []) }
+    ensures model { (t : Tables) (p : Process) → IsSpace (body_of S.view space.old) t p → IsModelCopy (body_of S.view space.new) (model_copy_out (C.files files.old) p va.0 bytes.now (bytes_out bytes.now result) (stop_in result)) (bytes_out bytes.now result) (stop_in result) }
+    ensures fewer { IfErr result (λ short. short.done < length bytes.now) }
+    ensures granted { (t : Tables) (p : Process) → IsSpace (body_of S.view space.old) t p → AreGranted p Store va.0 (length (bytes_out bytes.now result)) }
+    ensures first { (t : Tables) (p : Process) → IsSpace (body_of S.view space.old) t p → IfErr result (λ short. (rule : Rule) → short.rule ≡ Denied rule → rule ≢ NoFrame → copy_rule p.scheme (regions p) Store (va.0 + short.done) ≡ Some rule) }
+    ensures dry { (t : Tables) (p : Process) → IsSpace (body_of S.view space.old) t p → IfErr result (λ short. short.rule ≡ Denied NoFrame → (copy_rule p.scheme (regions p) Store (va.0 + short.done) ≡ None) × (is_resident p Store (page_of (va.0 + short.done)) ≡ false)) }
+    ensures unpromised { (t : Tables) (p : Process) → IsSpace (body_of S.view space.old) t p → IfErr result (λ short. (e : Refusal) → short.rule ≡ Unpromised e → (copy_rule p.scheme (regions p) Store (va.0 + short.done) ≡ None) × (0 < length (resident_reads (C.files files.old) p (page_of (va.0 + short.done))))) }
+    ensures after { (t : Tables) (p : Process) → IsSpace (body_of S.view space.old) t p → (u : Tables) × (q : Process) × IsSpace (body_of S.view space.new) u q × IsAfterCopy Store va.0 (length (bytes_out bytes.now result)) p q × HasPut (C.files files.old) va.0 (bytes_out bytes.now result) p q }
+    ensures lacks { (t : Tables) (p : Process) → IsSpace (body_of S.view space.old) t p → IfErr result (λ short. short.rule ≡ Denied NoFrame → (u : Tables) × (q : Process) × IsSpace (body_of S.view space.new) u q × IsAfterCopy Store va.0 short.done p q × RanShort (S.view space.old.seat) (S.view space.new.seat) q Store (page_of (va.0 + short.done)) × (F.alone → F.free store.new < resident_need true q Store (page_of (va.0 + short.done)))) }
+    ensures same_files { C.files files.new ≡ C.files files.old }
     ensures space { StillStands (body_of S.view space.old) (body_of S.view space.new) }
     ensures keeps { KeepsSeats F.rule store.old space.old.seat store.new space.new.seat }
 {
-    let here = in_page(va, bytes.len());
-    let (front, back) = bytes.split_at(here);
-    write_page(space, store, files, va, front, 0)?;
-    if back.is_empty() {
-        return Ok(());
-    }
-    let next = Va(va.0 + here as u64);
-    write_page(space, store, files, next, back, here)
+    write_pages(space, store, files, va, bytes)
 }
 
 /// Returns how many of `n` bytes from `va` on lie in its page.
@@ -156,6 +180,36 @@ fn read_page<S: FrameSeat, F: FrameSupply<Seat = S>, C: Files>(
         unreachable!()
     };
     Ok(())
+}
+
+/// Copies these bytes, at most 256, to a process, to `va` and on.
+///
+/// # Errors
+/// As for `copy_out`.
+fn write_pages<S: FrameSeat, F: FrameSupply<Seat = S>, C: Files>(
+    space: &mut Space<S>,
+    store: &mut F,
+    files: &mut C,
+    va: Va,
+    bytes: &[u8],
+) -> Result<(), Short>
+    requires fits { IsSeatOf F.rule store.old space.old.seat }
+    requires ready { (t : Tables) × (p : Process) × IsSpace (body_of S.view space.old) t p }
+    requires few { length bytes.now ≤ longest_copy }
+    ensures copied { IfOk result (λ _. CopiesOut (store_model S.view F.rule F.alone F.free F.count C.files C.becomes C.can_refuse) (runs_of va.0 bytes.now) (place space.old store.old files.old) (place space.new store.new files.new) 0 (length bytes.now) None) }
+    ensures stopped { IfErr result (λ short. CopiesOut (store_model S.view F.rule F.alone F.free F.count C.files C.becomes C.can_refuse) (runs_of va.0 bytes.now) (place space.old store.old files.old) (place space.new store.new files.new) 0 short.done (Some short.rule)) }
+    ensures none { IfErr result (λ short. short.bytes.items ≡ []) }
+    ensures space { StillStands (body_of S.view space.old) (body_of S.view space.new) }
+    ensures keeps { KeepsSeats F.rule store.old space.old.seat store.new space.new.seat }
+{
+    let here = in_page(va, bytes.len());
+    let (front, back) = bytes.split_at(here);
+    write_page(space, store, files, va, front, 0)?;
+    if back.is_empty() {
+        return Ok(());
+    }
+    let next = Va(va.0 + here as u64);
+    write_page(space, store, files, next, back, here)
 }
 
 /// Copies these bytes to a process, to `va` and on, all in one page. `done` bytes were copied before.
