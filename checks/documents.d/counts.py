@@ -1,5 +1,8 @@
 """Numbers that documents give, and how each is counted."""
+import fnmatch
 import re
+
+from planted import PLANTED
 
 WORDS = "no one two three four five six seven eight nine ten eleven twelve thirteen fourteen fifteen sixteen seventeen eighteen".split()
 N = r"\b(?P<n>\d[\d,]*\d|\d|" + "|".join(WORDS) + r")\b"
@@ -60,6 +63,18 @@ def both(*names):
     return lambda sources: tuple(constant(it)(sources) for it in names)
 
 
+def lines(sources, pattern, kind=r""):
+    """How many lines of a kind each file has."""
+    for path in sorted(sources.paths):
+        if fnmatch.fnmatch(path, pattern):
+            yield sum(bool(re.match(kind, it)) for it in sources.text(path).splitlines())
+
+
+def about(count):
+    """A number that is rounded: a twentieth more or less is right."""
+    return lambda sources: range(int(0.95 * count(sources)), int(1.05 * count(sources)) + 1)
+
+
 CONFIG, CALL = "crates/process_model/src/config.rt", "crates/process_model/src/call.rt"
 TABLE, HEADER = "crates/script_reader/src/table.rt", "crates/xv6vm_c/include/xv6vm.h"
 EXACT = ("SCRIPTS.md", "CONTRACTS.md", "DEFINITIONS.md", "ARCHITECTURE.md", "MMU.md", "WORKBENCH.md")
@@ -76,7 +91,12 @@ RULES = [
     (rf"{N} scripts and files for threads", lambda sources: sources.count(ROWS + ".script") + sources.count(ROWS + ".threads")),
     (rf"{N} scripts say", traced),
     (rf"all {N} scripts of `row_player`", files(ROWS + ".script")),
-    (rf"`audit_player` re-proves itself and {N} others", crates_above("audit_player")),
+    (rf"`audit_player` (?:re-proves )?itself and {N} (?:others|more)", crates_above("audit_player")),
+    (rf"{N} crates(?: of (?:its|the) kit|' statements)", lambda sources: len(sources.kit)),
+    (rf"{N} of them below `xv6vm`", lambda sources: len(sources.kit & sources.needs("xv6vm"))),
+    (rf"tries it on {N} planted errors", lambda sources: len(PLANTED)),
+    (rf"`crates/\*/src` \(some {N} lines", about(lambda sources: sum(lines(sources, "crates/*/src/*.rt")))),
+    (rf"lines in `specs/` \({N} in all", about(lambda sources: sum(lines(sources, "crates/*/specs/*.antt", r"(?! *--|use |$)")))),
     (rf"`xv6vm_translate` and {N} more calls", occurrences(HEADER, LANGUAGE_CALL, less=1)),
     (rf"walk needs {N} small crates", crates_below("xv6vm_c")),
     (rf"{N} (?:graded )?labs\b", files("labs/*.script")),
@@ -121,7 +141,7 @@ RULES = [
 
 
 def holds(given, counted, bound):
-    if isinstance(counted, set):
+    if isinstance(counted, (set, range)):
         return given in counted
     if isinstance(counted, tuple):
         return set(counted) == {given}
@@ -136,6 +156,8 @@ def check_counts(check, document):
             given, counted = number(match["n"]), count(check.sources)
             right = holds(given, counted, text[: match.start()].endswith("more than "))
             check.claim(document.path, document.line_of(match.start()), right, f"`{match[0].strip()}`: there are {counted}")
+    for match in re.finditer(r"@[A-Z_]+@", document.text):
+        check.claim(document.path, document.line_of(match.start()), False, f"{match[0]} stands for a number")
     if document.path.name in EXACT:
         limits = {it for values in check.sources.constants.values() for _, it in values}
         for match in re.finditer(r"(?<![\w,.-])\d{2,3}(?:,\d{3})+(?![\w,])", document.prose()):
@@ -167,9 +189,6 @@ def check_lists(check, document):
         if len(named) >= 5 and "kit" in unit.text:
             missing = sorted(check.sources.kit - named)
             check.claim(document.path, unit.line, not missing, f"the list of the kit's crates lacks {', '.join(missing)}")
-            for match in re.finditer(rf"{N} crates of the kit", unit.text.replace("\n", " ")):
-                counted = len(check.sources.kit)
-                check.claim(document.path, unit.line_at(match.start()), number(match[1]) == counted, f"`{match[0]}`: there are {counted}")
         if unit.heads == ["Crate", "Files"]:
             check_files(check, document, unit)
         check_answers(check, document, unit)
