@@ -1,4 +1,4 @@
-"""Clauses that documents name: `x` of the call `F`, and the rows of tables of calls."""
+"""Clauses that documents name: `x` of the call `F`, items and rows that list calls with their clauses, and names in files."""
 import re
 
 PLACE = re.compile(r"((?:`\w+(?:::\w+)?`(?:, | and )?)+)(?: in | ?\()`([\w/]+\.(?:rt|antt))`")
@@ -8,7 +8,6 @@ RUN = re.compile(r"((?:`\w+`(?: \([^)]*\))?(?:, | and |, and )?)+) of `([A-Za-z_
 NAME = re.compile(r"[A-Za-z_]\w*")
 PURE = re.compile(r"\(((?:`\w+`|alone|[,;:] ?| )+)\)")
 CALLED = re.compile(r"`(\w+(?:::\w+)?)`†? \(")
-OF = re.compile(r"(?:as of|those of|of) (?:`\w+`(?:, | and )?)+")
 BRACKET = re.compile(r"\(([^()]*)\)")
 
 
@@ -61,8 +60,6 @@ def split_call(text):
 def check_runs(check, calls, document):
     """`x`, `y` of `F`, if F is a function: each is a clause of its contract."""
     for unit in document.units:
-        if unit.heads[1:2] == ["Call"]:
-            continue
         for run in RUN.finditer(unit.text.replace("\n", " ")):
             container, name = split_call(run[2])
             keys = calls.find(None, container, name)
@@ -113,13 +110,8 @@ def rows(document):
     for unit in document.units:
         if unit.cells and (unit.cells == unit.heads or set(unit.text) <= set("|-: ")):
             continue
-        crates = TOKEN.findall(unit.first)
-        if unit.heads[1:3] == ["Call", "Clauses"]:
-            yield unit.line, crates, f"{unit.cells[1]} ({re.sub(OF, '', unit.cells[2])})", ""
-        elif unit.heads[1:3] == ["Call", "Refused"]:
-            yield unit.line, crates, unit.cells[1], " ".join(unit.cells[2:])
-        elif "Read first" in unit.heads:
-            yield unit.line, crates, unit.cells[unit.heads.index("Read first")], ""
+        if "Read first" in unit.heads:
+            yield unit.line, TOKEN.findall(unit.first), unit.cells[unit.heads.index("Read first")], ""
         elif document.path.name == "CONTRACTS.md" and unit.text.startswith("- "):
             title = dict(document.headings).get(unit.section, "")
             if not re.sub(r"`\w+`|, ", "", title):

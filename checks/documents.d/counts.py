@@ -36,10 +36,6 @@ def files(pattern):
     return lambda sources: sources.count(pattern)
 
 
-def most_in_one(folder):
-    return lambda sources: max(sources.count(f"crates/{it}/{folder}/*.edit") for it in sources.crates)
-
-
 def crates_above(name):
     return lambda sources: sum(name in sources.needs(it) for it in sources.crates) - 1
 
@@ -57,10 +53,6 @@ def traced(sources):
 def variants(name, less=0):
     """How many variants an enum has, or constructors a data type."""
     return lambda sources: sum(it[0].isupper() or not it[0].isalpha() for it in sources.members[name]) - less
-
-
-def both(*names):
-    return lambda sources: tuple(constant(it)(sources) for it in names)
 
 
 def lines(sources, pattern, kind=r""):
@@ -87,10 +79,8 @@ ROWS = "crates/row_player/data/*"
 RULES = [
     (rf"{N} (?:edits )?in the gate\b", files("crates/*/must-fail/*.edit")),
     (rf"All of them, {N}\b", files("crates/*/edits/*.edit")),
-    (rf"no crate has more than {N} there", most_in_one("must-fail")),
     (rf"{N} scripts and files for threads", lambda sources: sources.count(ROWS + ".script") + sources.count(ROWS + ".threads")),
     (rf"{N} scripts say", traced),
-    (rf"all {N} scripts of `row_player`", files(ROWS + ".script")),
     (rf"`audit_player` (?:re-proves )?itself and {N} (?:others|more)", crates_above("audit_player")),
     (rf"{N} crates(?: of (?:its|the) kit|' statements)", lambda sources: len(sources.kit)),
     (rf"{N} of them below `xv6vm`", lambda sources: len(sources.kit & sources.needs("xv6vm"))),
@@ -101,13 +91,9 @@ RULES = [
     (rf"walk needs {N} small crates", crates_below("xv6vm_c")),
     (rf"{N} (?:graded )?labs\b", files("labs/*.script")),
     (rf"plants {N} errors in the walk", occurrences("checks/qemu.d/planted.py", r'^    ".*": ".*\.edit",$')),
-    (rf"each of {N} is found", occurrences("checks/programs", r'^    \(".*", ".*", \w+.*\),$', less=0)),
-    (rf"on {N} random scripts", found("checks/random_scripts", r"makes COUNT scripts \((\d+)\)")),
+    (rf"each of {N} is found", occurrences("checks/programs", r'^    \(".*", ".*", \w+.*\),$')),
     (rf"\[Row; {N}\]", lambda sources: set(map(int, re.findall(r"\[Row; (\d+)\]", sources.text(TABLE))))),
-    (rf"`LONGEST_TEXT` bytes \({N}\)", constant("LONGEST_TEXT")),
     (rf"first of {N} rules", variants("Rule", less=1)),
-    (rf"one of {N} frequent words", variants("FastWord")),
-    (rf"None of the {N} kernel calls", lambda sources: len(sources.members["IsKernelCall"])),
     (rf"(?:1 to|up to) {N} harts", found(CONFIG, r"1\.\.=(\d+)\)\.contains\(&self\.harts")),
     (rf"harts, 16 to {N} frames", found(CONFIG, r"16\.\.=(\d+)\)\.contains\(&self\.frames")),
     (rf"`pool FRAMES SLOTS` \| 16 to {N} frames", found(CALL, r"16\.\.=(\d+)\)\.contains\(&self\.frames")),
@@ -134,28 +120,24 @@ RULES = [
     (rf"Above {N} frames, free frames", constant("MOST_UNFOLDED")),
     (rf"At most {N} pages of a", constant("MOST_PAGES")),
     (rf"and {N} cells of frames", constant("MOST_CELLS")),
-    (rf"cleared, copied and searched in groups of {N}", both("GROUP", "COPY_GROUP")),
-    (rf"clear, copy and search, {N} words at a time", both("GROUP", "COPY_GROUP")),
-    (rf"cop(?:y|ies)\b[^|.]{{0,40}}at most {N} bytes", constant("longest_copy")),
+    (rf"cop[iy][^.|:]{{0,60}}at most {N}(?! pages)", constant("longest_copy")),
 ]
 
 
 def holds(given, counted, bound):
     if isinstance(counted, (set, range)):
         return given in counted
-    if isinstance(counted, tuple):
-        return set(counted) == {given}
     return given < counted if bound else given == counted
 
 
 def check_counts(check, document):
     """The numbers of RULES; and in documents that explain formats and limits each number of five digits or more is a limit."""
-    text = document.text.replace("\n", " ")
     for pattern, count in RULES:
-        for match in re.finditer(pattern, text, re.I):
+        for match in re.finditer(pattern.replace(" ", r"\s+"), document.text, re.I):
             given, counted = number(match["n"]), count(check.sources)
-            right = holds(given, counted, text[: match.start()].endswith("more than "))
-            check.claim(document.path, document.line_of(match.start()), right, f"`{match[0].strip()}`: there are {counted}")
+            right = holds(given, counted, re.search(r"more than\s+$", document.text[: match.start()]))
+            said = " ".join(match[0].split())
+            check.claim(document.path, document.line_of(match.start()), right, f"`{said}`: there are {counted}")
     for match in re.finditer(r"@[A-Z_]+@", document.text):
         check.claim(document.path, document.line_of(match.start()), False, f"{match[0]} stands for a number")
     if document.path.name in EXACT:

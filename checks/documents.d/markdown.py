@@ -74,7 +74,7 @@ class Document:
 
     def close(self):
         if self.pending:
-            self.units.append(Unit(self.pending[0][0], "\n".join(it for _, it in self.pending), self.section))
+            self.units.append(Unit(self.pending[0][0], "\n".join(it.lstrip() for _, it in self.pending), self.section))
         self.pending = []
 
     def commands(self):
