@@ -49,26 +49,18 @@ class Player:
         return ran.stdout + ("" if words == "repl" else ran.stderr)
 
     def command(self, line, shown):
-        """What a command line prints. None if its program is not here."""
+        """What a command line prints. None if its program is not here, or is none of the repository's."""
         first, _, filters = line.partition(" | ")
         first, _, source = first.partition(" < ")
         found = PROGRAM.match(first)
         if not found:
-            return self.other(line)
+            return None
         given = (self.scratch / source).read_text() if source else typed(found[2], shown)
         self.fill_in(shown)
         text = self.ask(found[1], found[2], given)
-        if text is None or not filters:
-            return text if text is None else columns(found[2], given, text) if not source else text
-        return subprocess.run(["bash", "-c", filters], input=text, capture_output=True, text=True, timeout=60).stdout
-
-    def other(self, line):
-        """`cp` alone; what a document tells to be run by other programs is not tried."""
-        words = line.split()
-        if words[0] == "cp":
-            shutil.copy(self.scratch / words[1], self.scratch / words[2])
-            return ""
-        return None
+        if text is not None and filters:
+            return subprocess.run(["bash", "-c", filters], input=text, capture_output=True, text=True, timeout=60).stdout
+        return beside(given, text) if text is not None and found[2] == "mmu -" else text
 
     def fill_in(self, shown):
         """A wrong answer that is shown was written by the reader, in place of a blank."""
@@ -92,14 +84,10 @@ def typed(words, shown):
     return "".join(it + "\n" for it in lines)
 
 
-def columns(words, given, text):
-    """What `mmu` and `repl` print stands beside or between what was typed."""
-    if not words.startswith(("mmu", "repl")):
-        return text
-    answers = text.splitlines()
-    if words.startswith("mmu"):
-        return "".join(it + "\n" if it.startswith("#") else f"{it}  {answers.pop(0)}\n" for it in given.splitlines())
-    return text
+def beside(given, text):
+    """Lines with their answers behind them; a comment has none."""
+    answers = iter(text.splitlines())
+    return "".join(it + "\n" if it.startswith("#") else f"{it}  {next(answers, '')}\n" for it in given.splitlines())
 
 
 def difference(shown, text):
@@ -125,25 +113,32 @@ def difference(shown, text):
 
 
 def check_commands(check, player, document, block):
-    """The command lines of a block, each with the lines below it."""
+    """The command lines of a block, each with the lines below it; where nothing stands below, nothing is compared."""
     number, _, lines = block
     starts = [place for place, line in enumerate(lines) if line.startswith("$ ")]
     for start, end in zip(starts, starts[1:] + [len(lines)]):
         command, shown = lines[start][2:], lines[start + 1 : end]
         while shown and not shown[-1]:
             shown.pop()
-        name = command.split()[-1]
-        if command.startswith("cat ") and "/" not in name:
-            (player.scratch / name).write_text("\n".join(shown) + "\n")
-            continue
-        text = player.command(command, shown)
-        if text is None:
-            check.left_out += 1
-            continue
-        if command.startswith("xv6lab repl"):
-            shown = [it for it in shown if not it.startswith("> ")]
-        place, how = difference(shown, text) or (0, "")
-        check.claim(document.path, number + 2 + start + place, not how, f"of `{command}` it {how}")
+        words = command.split()
+        if words[0] == "cat" and "/" not in words[-1]:
+            (player.scratch / words[-1]).write_text("\n".join(shown) + "\n")
+        elif words[0] == "cp":
+            shutil.copy(player.scratch / words[1], player.scratch / words[2])
+        elif shown:
+            check_command(check, player, (document, number + 2 + start), (command, shown))
+
+
+def check_command(check, player, place, block):
+    (document, line), (command, shown) = place, block
+    text = player.command(command, shown)
+    if text is None:
+        check.left_out += 1
+        return
+    if command.startswith("xv6lab repl"):
+        shown = [it for it in shown if not it.startswith("> ")]
+    at, how = difference(shown, text) or (0, "")
+    check.claim(document.path, line + at, not how, f"of `{command}` it {how}")
 
 
 def check_columns(check, player, document, block):
