@@ -68,7 +68,7 @@ impl<const LEVELS: usize> Machine<'_, LEVELS> {
     /// A fetch of the kernel's code in the trampoline page.
     pub(super) fn tramp(&mut self, number: u8, offset: u16, via: u8) -> Answer {
         let phase = self.hart(number)?.phase;
-        if offset % 4 != 0 || offset >= 4096 {
+        if !offset.is_multiple_of(4) || offset >= 4096 {
             return Err(Refusal::BadArgument);
         }
         if matches!(phase, Phase::Idle | Phase::User | Phase::Kernel) {

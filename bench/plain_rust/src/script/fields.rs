@@ -135,7 +135,7 @@ pub fn hex_into(field: &[u8], out: &mut Vec<u8>) -> Option<()> {
     if field == b"-" {
         return Some(());
     }
-    if field.is_empty() || field.len() % 2 != 0 {
+    if field.is_empty() || !field.len().is_multiple_of(2) {
         return None;
     }
     let bad =

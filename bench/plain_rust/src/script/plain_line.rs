@@ -35,11 +35,11 @@ const EXEC: u64 = key(b"exec ");
 fn hex_run(x: u64) -> (u32, u64) {
     const ONES: u64 = 0x0101_0101_0101_0101;
     const HIGH: u64 = 0x80 * ONES;
-    let y = x | 0x20 * ONES;
+    let y = x | (0x20 * ONES);
     let digits = (x + 0x50 * ONES) & !(x + 0x46 * ONES);
     let letters = (y + 0x1f * ONES) & !(y + 0x19 * ONES);
     let count = (!(digits | letters) & HIGH).trailing_zeros() / 8;
-    let nibbles = (x & 0x0f * ONES) + 9 * (x >> 6 & ONES);
+    let nibbles = (x & (0x0f * ONES)) + 9 * (x >> 6 & ONES);
     let v = nibbles.swap_bytes();
     let v = (v | v >> 4) & 0x00ff_00ff_00ff_00ff;
     let v = (v | v >> 8) & 0x0000_ffff_0000_ffff;
@@ -65,8 +65,8 @@ impl Cursor<'_> {
     fn word(&mut self) -> Option<u64> {
         const ONES: u64 = 0x0101_0101_0101_0101;
         let x = self.eight()?;
-        let spaces = x ^ 0x20 * ONES;
-        let found = spaces.wrapping_sub(ONES) & !spaces & 0x80 * ONES;
+        let spaces = x ^ (0x20 * ONES);
+        let found = spaces.wrapping_sub(ONES) & !spaces & (0x80 * ONES);
         let length = found.trailing_zeros() / 8;
         self.at = length as usize;
         (length < 7).then(|| x & ((1 << (8 * length + 8)) - 1))

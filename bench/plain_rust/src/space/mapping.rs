@@ -88,7 +88,7 @@ impl<const LEVELS: usize> Space<LEVELS> {
         va: u64,
         len: u64,
     ) -> Result<bool, Refusal> {
-        if va % PAGE != 0 || len == 0 || va >= max_va(LEVELS) {
+        if !va.is_multiple_of(PAGE) || len == 0 || va >= max_va(LEVELS) {
             return Err(Refusal::BadArgument);
         }
         let first = va / PAGE;
