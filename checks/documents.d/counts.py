@@ -148,7 +148,7 @@ def check_counts(check, document):
             check.claim(document.path, document.line_of(match.start()), known, f"no limit is {match[0]}")
 
 
-# A document, a word of the sentence or the heads of the table that lists, and the names that must all stand in backticks.
+# A document, and the names that it must have.
 LISTS = [
     ("docs/ARCHITECTURE.md", lambda sources: {it for it in sources.crates if not it.startswith("tests_of_")}),
     ("README.md", lambda sources: {it for it in sources.crates if not it.startswith("tests_of_")} - {"row_player", "lab_player", "walk_bench"}),
@@ -191,8 +191,8 @@ def check_answers(check, document, unit):
     """A row that links a lab's script and ends with its answers and blanks, as `11 (6)`."""
     linked, given = re.search(r"\]\(\S*?(labs/\w+\.script)\)", unit.text), re.search(r"\| (\d+) \((\d+)\) \|$", unit.text)
     if linked and given:
-        lines = [it.partition("=>") for it in (check.root / linked[1]).read_text().splitlines() if not it.startswith("#")]
-        counted = sum(bool(it[1]) for it in lines), sum(it[2].strip() == "?" for it in lines)
+        script = [it.partition("=>") for it in (check.root / linked[1]).read_text().splitlines() if not it.startswith("#")]
+        counted = sum(bool(it[1]) for it in script), sum(it[2].strip() == "?" for it in script)
         same = counted == (int(given[1]), int(given[2]))
         check.claim(document.path, unit.line, same, f"{linked[1]} has {counted[0]} answers, {counted[1]} of them blanks")
 
