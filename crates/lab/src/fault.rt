@@ -10,7 +10,7 @@ use std::{fmt, io};
 /// Why the program ends before its end.
 #[derive(Debug, Drop)]
 pub enum Fault {
-    /// The command line is wrong, or asks for help.
+    /// The command line is wrong, or asks for help or the version.
     Words(clap::Error),
     /// The host is out of memory.
     Memory,
@@ -33,7 +33,7 @@ impl Fault {
         }
     }
 
-    /// Returns the exit status: 2 for a wrong command line, 0 if it asks for help, else 1.
+    /// Returns the exit status: 2 for a wrong command line, 0 if it asks for help or the version, else 1.
     pub fn status(&self) -> u8
         ensures { result ≤ 2 }
     {

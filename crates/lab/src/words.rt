@@ -3,6 +3,7 @@
 use crate::fault::Fault;
 use clap::{Arg, ArgAction, ArgMatches, Command};
 use std::alloc::{AllocError, Global};
+use version::VERSION;
 
 /// What the program does.
 #[derive(Clone, Copy, PartialEq, Eq, Debug)]
@@ -128,6 +129,7 @@ fn command<'a>(alloc: Global) -> Result<Command<'a>, AllocError> {
         "Play the lines of standard input one by one; ? tells the lines",
     );
     Command::new(alloc, "xv6lab")
+        .version(VERSION)
         .about(
             "Plays scripts against the virtual memory of xv6-riscv, for people. docs/WORKBENCH.md has an example of each word",
         )
@@ -169,7 +171,7 @@ impl Words {
     /// Returns the parsed command line for its words, the program's name first.
     ///
     /// # Errors
-    /// `Words`: they are wrong, or ask for help. `Memory`: the host is out of memory.
+    /// `Words`: they are wrong, or ask for help or the version. `Memory`: the host is out of memory.
     pub fn parse(alloc: Global, words: &[String]) -> Result<Words, Fault> {
         let matches = command(alloc)?.try_get_matches_from(words)?;
         let mut files = Vec::new(alloc);

@@ -1,1 +1,2 @@
+pub mod Harts
 pub mod Status

@@ -1,6 +1,6 @@
 //! The program `xv6vm`: `play FILE` plays a script on the virtual memory of xv6-riscv; `threads FILE --harts N` plays a file
 //! for threads on harts that are threads. It reads FILE (`-`: standard input), writes to standard output, and reports a
-//! fault on standard error and by its exit status.
+//! fault on standard error and by its exit status. `--version` prints the version.
 #![tactic(auto)]
 
 mod fault;
@@ -15,6 +15,7 @@ use std::process::ExitCode;
 use std::sync::Wait;
 use std::thread::Threads;
 use std::{fs, io};
+use version::VERSION;
 
 /// Does the task with the bytes of a reader, and writes the answers. Input is read in blocks; answers are written in pieces
 /// of 64 KiB or more, the last of any length.
@@ -40,23 +41,42 @@ fn play_from<T: Threads + Wait + Sync, R: Read + Drop, W: Write + Drop>(
     }
 }
 
-/// Does what the command line says with the file that it names, `-` for standard input, and writes to standard output. Harts
-/// are threads that `threads` starts.
+/// Does the task with a file, `-` for standard input, and writes to standard output. Harts are threads that `threads` starts.
 ///
 /// # Errors
-/// `Usage`: the command line is wrong. `Play`: the file cannot be opened (`Io`), or an error of the player.
-fn run<T: Threads + Wait + Sync>(rt: &HostRuntime, threads: &T) -> Result<(), Fault> {
-    let words = Words::from_env(rt)?;
+/// The file cannot be opened (`Io`), or an error of the player.
+fn play_file<T: Threads + Wait + Sync>(
+    rt: &HostRuntime,
+    threads: &T,
+    task: Task,
+    file: &str,
+) -> Result<(), PlayError> {
     let writer = io::writer(rt);
-    if words.file.as_str() == "-" {
-        play_from(threads, rt.alloc(), words.task, rt.reader(), writer)?;
-        return Ok(());
+    if file == "-" {
+        return play_from(threads, rt.alloc(), task, rt.reader(), writer);
     }
-    let Ok(file) = fs::open(rt, words.file.as_str()) else {
-        return Err(Fault::Play(PlayError::Io));
-    };
-    play_from(threads, rt.alloc(), words.task, file, writer)?;
-    Ok(())
+    match fs::open(rt, file) {
+        Ok(file) => play_from(threads, rt.alloc(), task, file, writer),
+        Err(_) => Err(PlayError::Io),
+    }
+}
+
+/// Does what the command line says. Harts are threads that `threads` starts.
+///
+/// # Errors
+/// `Usage`: the command line is wrong. `Play`: the file cannot be opened or the version not be printed (`Io`), or an error of the
+/// player.
+fn run<T: Threads + Wait + Sync>(rt: &HostRuntime, threads: &T) -> Result<(), Fault> {
+    match Words::from_env(rt)? {
+        Words::Version => match println!(rt; "xv6vm {VERSION}") {
+            Ok(()) => Ok(()),
+            Err(_) => Err(Fault::Play(PlayError::Io)),
+        },
+        Words::File(task, file) => {
+            play_file(rt, threads, task, file.as_str())?;
+            Ok(())
+        }
+    }
 }
 
 #[cfg(test)]

@@ -28,7 +28,7 @@ fn asked_or_status(alloc: Global, words: &[&str]) -> Result<Words, u8> {
 
 #[test]
 fn reads_the_words(rt: HostRuntime) -> Result<(), Fail> {
-    let accepted: [(&[&str], Task, &str); 5] = [
+    let accepted: [(&[&str], Task, &str); 6] = [
         (&["xv6vm", "play", "-"], Task::Play, "-"),
         (&["xv6vm", "play", "a.script"], Task::Play, "a.script"),
         (
@@ -46,13 +46,23 @@ fn reads_the_words(rt: HostRuntime) -> Result<(), Fail> {
             Task::Threads(2),
             "a",
         ),
+        (
+            &["xv6vm", "threads", "--harts", "0008", "a"],
+            Task::Threads(8),
+            "a",
+        ),
     ];
     for (words, task, file) in accepted {
-        let given = asked_or_status(rt.alloc(), words).ok().ok_or("words")?;
-        assert_eq!(rt; given.task, task);
-        assert_eq!(rt; given.file.as_str(), file);
+        let Ok(Words::File(said, path)) = asked_or_status(rt.alloc(), words) else {
+            return Err(Fail::from("words"));
+        };
+        assert_eq!(rt; said, task);
+        assert_eq!(rt; path.as_str(), file);
     }
-    let refused: [&[&str]; 12] = [
+    for words in [&["xv6vm", "--version"], &["xv6vm", "-V"]] {
+        assert!(rt; matches!(asked_or_status(rt.alloc(), words), Ok(Words::Version)));
+    }
+    let refused: [&[&str]; 21] = [
         &["xv6vm"],
         &["xv6vm", "play"],
         &["xv6vm", "play", "a", "b"],
@@ -65,6 +75,15 @@ fn reads_the_words(rt: HostRuntime) -> Result<(), Fail> {
         &["xv6vm", "threads", "a", "--harts", "0"],
         &["xv6vm", "threads", "a", "--harts", "9"],
         &["xv6vm", "threads", "a", "--harts", "0x2"],
+        &["xv6vm", "threads", "a", "--harts", "+2"],
+        &["xv6vm", "threads", "a", "--harts=-2"],
+        &["xv6vm", "threads", "a", "--harts", " 2"],
+        &["xv6vm", "threads", "a", "--harts", "2 "],
+        &["xv6vm", "threads", "a", "--harts", "２"],
+        &["xv6vm", "threads", "a", "--harts", ""],
+        &["xv6vm", "threads", "a", "--harts", "010"],
+        &["xv6vm", "play", "--version"],
+        &["xv6vm", "version"],
     ];
     for words in refused {
         assert_eq!(rt;

@@ -1,12 +1,18 @@
-// `Words` (struct): a parsed command line, `xv6vm play FILE` or `xv6vm threads FILE --harts N`: its task (`Task`, enum) and
-// file; `parse` and `from_env` make one; conversions of errors of the host, the arguments and the parser to `Fault`.
+// `Words` (enum): a parsed command line, `xv6vm play FILE`, `xv6vm threads FILE --harts N` or `xv6vm --version`: a task (`Task`,
+// enum) with its file, or the version; `parse` and `from_env` make one; conversions of errors of the host, the arguments and the
+// parser to `Fault`.
+
+ghost use Rattle.std.specs.Prelude.{◌≡◌};
+ghost use Rattle.xv6vm.specs.Harts.{harts_of};
 
 use crate::fault::Fault;
 use audit_player::PlayError;
 use clap::error::ErrorKind;
-use clap::{Arg, ArgAction, Command, Error, value_parser};
+use clap::{Arg, ArgAction, Command, Error};
+use script_reader::number;
 use std::alloc::{AllocError, Global};
 use std::{env, io};
+use version::VERSION;
 
 /// What the program does with the file.
 #[derive(Clone, Copy, PartialEq, Eq, Debug)]
@@ -19,11 +25,11 @@ pub enum Task {
 
 /// A parsed command line.
 #[derive(Debug, Drop)]
-pub struct Words {
-    /// What to do with the file.
-    pub task: Task,
-    /// The path of the script or of the file for threads, `-` for standard input.
-    pub file: String,
+pub enum Words {
+    /// It asks for the version.
+    Version,
+    /// What to do, and the path of the script or of the file for threads, `-` for standard input.
+    File(Task, String),
 }
 
 impl From<AllocError> for Fault {
@@ -58,16 +64,29 @@ fn file<'a>(alloc: Global) -> Arg<'a> {
         .action(ArgAction::Set)
 }
 
-/// The form of the command line: `xv6vm play FILE | xv6vm threads FILE --harts N`.
+/// Returns the number of harts that N says: decimal digits with a value from 1 to 8, leading zeros or not. `None`: any other word.
+fn harts_of(word: &str) -> Option<usize>
+    ensures { result ≡ harts_of word.now }
+{
+    match word.as_bytes() {
+        [b'0', b'x', ..] => None,
+        digits => match number(digits)? {
+            harts @ 1..=8 => Some(harts as usize),
+            _ => None,
+        },
+    }
+}
+
+/// The form of the command line: `xv6vm play FILE | xv6vm threads FILE --harts N`, or `xv6vm --version`. Any N is taken here.
 fn command<'a>(alloc: Global) -> Result<Command<'a>, AllocError> {
     let harts = Arg::new(alloc, "harts")
         .long("harts")
         .required(true)
-        .action(ArgAction::Set)
-        .value_parser(value_parser!(u8).range(1..=8));
+        .action(ArgAction::Set);
     let play = Command::new(alloc, "play").arg(file(alloc))?;
     let threads = Command::new(alloc, "threads").arg(file(alloc))?.arg(harts)?;
     Command::new(alloc, "xv6vm")
+        .version(VERSION)
         .subcommand_required(true)
         .subcommand(play)?
         .subcommand(threads)
@@ -85,12 +104,16 @@ impl Words {
     }
 
     /// Returns the parsed command line for its words, the program's name first: task and file of `xv6vm play FILE`, or of
-    /// `xv6vm threads FILE --harts N` with N from 1 to 8.
+    /// `xv6vm threads FILE --harts N` with N from 1 to 8; or that of `xv6vm --version`.
     ///
     /// # Errors
     /// `Usage`: the words are none of these. `Play(Memory)`: host memory was refused.
     pub fn parse(alloc: Global, words: &[String]) -> Result<Words, Fault> {
-        let matches = command(alloc)?.try_get_matches_from(words)?;
+        let matches = match command(alloc)?.try_get_matches_from(words) {
+            Ok(matches) => matches,
+            Err(error) if error.kind() == ErrorKind::DisplayVersion => return Ok(Words::Version),
+            Err(error) => return Err(Fault::from(error)),
+        };
         let Some((name, given)) = matches.subcommand() else {
             return Err(Fault::Usage);
         };
@@ -99,16 +122,13 @@ impl Words {
         };
         let file = String::from_str(alloc, file)?;
         if name == "play" {
-            return Ok(Words {
-                task: Task::Play,
-                file,
-            });
+            return Ok(Words::File(Task::Play, file));
         }
-        match given.get_one::<u8>("harts") {
-            Some(harts) => Ok(Words {
-                task: Task::Threads(harts as usize),
-                file,
-            }),
+        let Some(harts) = given.get_str("harts") else {
+            return Err(Fault::Usage);
+        };
+        match harts_of(harts) {
+            Some(harts) => Ok(Words::File(Task::Threads(harts), file)),
             None => Err(Fault::Usage),
         }
     }
