@@ -16,6 +16,12 @@
 #include <stddef.h>
 #include <stdint.h>
 
+/* The version of the library; `xv6vm --version` prints the same. */
+#define XV6VM_VERSION_MAJOR 0
+#define XV6VM_VERSION_MINOR 9
+#define XV6VM_VERSION_PATCH 0
+#define XV6VM_VERSION "0.9.0"
+
 #ifdef __cplusplus
 extern "C" {
 #endif
@@ -100,9 +106,9 @@ void xv6vm_tlb_evict(struct xv6vm_entry *entries, size_t places, size_t n);
 void xv6vm_tlb_fence(struct xv6vm_entry *entries, size_t places, uint32_t has_address, uint64_t address, uint32_t has_asid,
                      uint16_t asid);
 
-/* Returns 1 if the standard permits the outcome: it is that of the walk over the memory as it is now, or that of an entry of the
-   TLB which matches the address and the ASID in `satp`; else 0. All five numbers of the outcome count. With MODE 0, or an argument
-   without meaning, only the outcome of xv6vm_translate. */
+/* Returns 1 exactly when the outcome is one of those that the definition lists: that of the walk over the memory as it is now, or
+   that of an entry of the TLB which matches the address and the ASID in `satp`; else 0. All five numbers of the outcome count. With
+   MODE 0, or an argument without meaning, only the outcome of xv6vm_translate. */
 uint32_t xv6vm_permits(const struct xv6vm_entry *entries, size_t places, const uint64_t *words, size_t count, uint64_t base_ppn,
                        uint64_t satp, uint64_t address, uint32_t access, uint32_t mode, struct xv6vm_outcome outcome);
 
