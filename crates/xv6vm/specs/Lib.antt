@@ -1,2 +1,1 @@
-pub mod Harts
 pub mod Status

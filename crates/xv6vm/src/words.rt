@@ -2,8 +2,8 @@
 // enum) with its file, or the version; `parse` and `from_env` make one; conversions of errors of the host, the arguments and the
 // parser to `Fault`.
 
-ghost use Rattle.std.specs.Prelude.{◌≡◌};
-ghost use Rattle.xv6vm.specs.Harts.{harts_of};
+ghost use Rattle.std.specs.Prelude.{◌≡◌, ◌≤◌, IfSome, Some};
+ghost use Rattle.process_model.specs.Numbers.{number_of};
 
 use crate::fault::Fault;
 use audit_player::PlayError;
@@ -66,7 +66,8 @@ fn file<'a>(alloc: Global) -> Arg<'a> {
 
 /// Returns the number of harts that N says: decimal digits with a value from 1 to 8, leading zeros or not. `None`: any other word.
 fn harts_of(word: &str) -> Option<usize>
-    ensures { result ≡ harts_of word.now }
+    ensures number { IfSome result (λ harts. number_of word.now ≡ Some harts) }
+    ensures range { IfSome result (λ harts. (1 ≤ harts) × (harts ≤ 8)) }
 {
     match word.as_bytes() {
         [b'0', b'x', ..] => None,
