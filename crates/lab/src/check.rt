@@ -1,4 +1,5 @@
-// `CheckLines`: answers are compared with those that the lines expect; and `BareLines`: lines are printed without them.
+// `CheckLines`: answers are compared with those that the lines expect, and files for threads are judged; and `BareLines`: lines are
+// printed without answers.
 
 ghost use Rattle.std.specs.Prelude.{IfOk};
 ghost use Rattle.line_player.specs.Answers.{HasPlayed};
@@ -6,12 +7,15 @@ ghost use Rattle.line_player.specs.PlayedLines.{Played};
 
 use crate::expected::split;
 use crate::fault::Fault;
+use crate::lab::Reading;
 use crate::mistakes::{Place, tell_end, tell_refused};
-use crate::play::Listener;
+use crate::play::{Listener, each_line};
 use crate::screen::Screen;
+use crate::threads::{begins_for_threads, judge, read_rest};
 use line_player::{LinePlayer, LineReply};
 use std::alloc::Global;
 use std::fmt;
+use std::io::{BufReader, Read};
 
 /// How many files, answers and differences there were.
 #[derive(Clone, Copy, PartialEq, Eq, Debug)]
@@ -117,6 +121,27 @@ impl Listener for CheckLines<'_> {
         lines: u64,
     ) -> Result<(), Fault> {
         tell_end(self.alloc, screen, self.file, player, lines)
+    }
+}
+
+impl Reading for CheckLines<'_> {
+    /// Compares the answers of a script; judges a file for threads, which expects none.
+    ///
+    /// # Errors
+    /// `Told`: the file is refused; that was told. `Read`: the reader failed. `Io`: printing failed. `Memory`: the host is out of memory.
+    fn read<R: Read + Drop, S: Screen>(
+        &mut self,
+        alloc: Global,
+        reader: R,
+        screen: &mut S,
+    ) -> Result<(), Fault> {
+        let mut reader = BufReader::new(alloc, reader)?;
+        let mut front = Vec::new(alloc);
+        if begins_for_threads(alloc, &mut reader, &mut front)? {
+            read_rest(reader, &mut front)?;
+            return judge(alloc, screen, self.file, front.as_slice());
+        }
+        each_line(alloc, front.as_slice().chain(reader), screen, self)
     }
 }
 

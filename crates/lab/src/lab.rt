@@ -97,10 +97,11 @@ impl<F: Files, I: Read + Drop> Host<'_, F, I> {
         self.give(screen, name, &mut Played { listener })
     }
 
-    /// Compares the answers of scripts with those that their lines expect, and prints how many differ.
+    /// Compares the answers of scripts with those that their lines expect, and prints how many differ. Of a file for threads, which expects
+    /// none, it tells whether its processes may fork for ever.
     ///
     /// # Errors
-    /// `Told`: an answer differs, or a script is refused.
+    /// `Told`: an answer differs, or a file is refused.
     fn check<S: Screen>(&mut self, screen: &mut S, files: &[String]) -> Result<(), Fault> {
         let alloc = self.alloc;
         let mut tally = Tally {
@@ -115,7 +116,7 @@ impl<F: Files, I: Read + Drop> Host<'_, F, I> {
                 tally,
                 differed: false,
             };
-            self.play(screen, file.as_str(), &mut checked)?;
+            self.give(screen, file.as_str(), &mut checked)?;
             tally = checked.tally;
             tally.files = tally.files.saturating_add(1);
         }

@@ -1,7 +1,8 @@
 //! The words of the program `xv6lab`. It plays scripts of `xv6vm` for people: `run` prints the answers beside the lines, `check`
 //! compares them with those that the lines expect, `trace` tells what happens on each line, `draw` draws the machine, `show`
-//! answers questions about it between lines, and `repl` takes lines one by one. `mmu` answers programs that ask a reference MMU,
-//! and `elf` makes a line of an ELF file. `do_words` does what a command line says; text goes to a `Screen`.
+//! answers questions about it between lines, and `repl` takes lines one by one. `check` also judges files for threads, `mmu` answers
+//! programs that ask a reference MMU, and `elf` makes a line of an ELF file. `do_words` does what a command line says; text goes to a
+//! `Screen`.
 #![tactic(auto)]
 
 mod check;
@@ -18,6 +19,7 @@ mod repl;
 mod run;
 mod screen;
 mod show;
+mod threads;
 mod trace;
 mod words;
 

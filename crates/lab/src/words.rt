@@ -10,7 +10,7 @@ use version::VERSION;
 pub enum Task {
     /// Plays a script and prints each line with its answer.
     Run,
-    /// Plays scripts and compares the answers with those that their lines expect.
+    /// Plays scripts and compares the answers with those that their lines expect; judges files for threads.
     Check,
     /// Prints a script without the answers that its lines expect.
     Bare,
@@ -63,7 +63,7 @@ fn check<'a>(alloc: Global) -> Result<Command<'a>, AllocError> {
         .required(true)
         .action(ArgAction::Append)
         .num_args(1..)
-        .help("The scripts; - is standard input");
+        .help("The scripts, or files for threads; - is standard input");
     let bare = Arg::new(alloc, "bare")
         .long("bare")
         .action(ArgAction::SetTrue)

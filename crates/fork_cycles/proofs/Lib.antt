@@ -1,0 +1,4 @@
+mod Examples
+mod Paths
+mod SetMarks
+mod Steps

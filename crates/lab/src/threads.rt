@@ -1,0 +1,104 @@
+// Files for threads, which `check` takes too: `begins_for_threads` tells one from a script, and `judge` tells its first fault, or
+// warns if its processes may fork for ever.
+
+use crate::fault::Fault;
+use crate::mistakes::Place;
+use crate::play::{read_line, without_feed};
+use crate::screen::Screen;
+use fork_cycles::{Warning, warn_of_forks};
+use process_model::Cause;
+use script_reader::{LONGEST_SCRIPT, ScriptError, ThreadScript, first_field, trim_return};
+use std::alloc::Global;
+use std::io::{BufReader, Read};
+
+/// Returns the first field of a line; `None` if the line is skipped: empty, of blanks, or a comment.
+fn word_of(line: &[u8]) -> Option<&[u8]> {
+    let (word, _) = first_field(trim_return(line))?;
+    if word.starts_with(b"#") {
+        return None;
+    }
+    Some(word)
+}
+
+/// Whether the lines before a line with this word can be the same in a script and in a file for threads: it declares a file or an
+/// image.
+fn declares(word: &[u8]) -> bool {
+    matches!(word, b"file" | b"image" | b"elf")
+}
+
+/// Reads the lines before the first that is neither skipped nor a declaration, and that line. They are added to `front`. Returns whether
+/// that line is a `pool`, so that the file is one for threads.
+///
+/// # Errors
+/// `Read`: the reader failed. `Memory`: the host is out of memory.
+pub fn begins_for_threads<R: Read + Drop>(
+    alloc: Global,
+    reader: &mut BufReader<R>,
+    front: &mut Vec<u8>,
+) -> Result<bool, Fault> {
+    let mut line = Vec::new(alloc);
+    'lines: for _number in 0..u64::MAX {
+        line.clear();
+        if read_line(reader, &mut line)? == 0 {
+            return Ok(false);
+        }
+        front.extend_from_slice(line.as_slice())?;
+        if let Some(word) = word_of(without_feed(line.as_slice()))
+            && !declares(word)
+        {
+            return Ok(word == b"pool".as_slice());
+        }
+    }
+    Ok(false)
+}
+
+/// Reads what is left of a file for threads.
+///
+/// # Errors
+/// `Read`: the reader failed. `Memory`: the host is out of memory.
+pub fn read_rest<R: Read + Drop>(reader: BufReader<R>, front: &mut Vec<u8>) -> Result<(), Fault> {
+    let read = reader.take(LONGEST_SCRIPT as u64 + 1).read_to_end(front);
+    read.map_err(Fault::of_reading)?;
+    Ok(())
+}
+
+/// Tells the first fault of a file for threads, and returns `Told`.
+fn tell_fault<S: Screen>(
+    alloc: Global,
+    screen: &mut S,
+    file: &str,
+    line: u64,
+    cause: Cause,
+) -> Result<(), Fault> {
+    let place = Place { file, line };
+    let text = format!(in alloc;
+        "{place}: refused, {cause}: see \"Files for threads\" in docs/SCRIPTS.md\n"
+    )?;
+    screen.err(text.as_str())?;
+    Err(Fault::Told)
+}
+
+/// Reads a file for threads, and warns if its processes may fork for ever: if a start reaches a list that forks itself, or forks a list
+/// that forks it, and so on.
+///
+/// # Errors
+/// `Told`: the file is refused; that was told. `Memory`: the host is out of memory. `Io`: printing failed.
+pub fn judge<S: Screen>(
+    alloc: Global,
+    screen: &mut S,
+    file: &str,
+    bytes: &[u8],
+) -> Result<(), Fault> {
+    let script = match ThreadScript::read(alloc, bytes) {
+        Ok(script) => script,
+        Err(ScriptError::Memory) => return Err(Fault::Memory),
+        Err(ScriptError::Line(line, cause)) => return tell_fault(alloc, screen, file, line, cause),
+    };
+    let Some(Warning { line, text }) = warn_of_forks(alloc, &script, bytes)? else {
+        return Ok(());
+    };
+    let (place, text) = (Place { file, line }, text.as_str());
+    screen.err(format!(in alloc;
+        "{place}: warning: {text}: processes may fork for ever\n"
+    )?.as_str())
+}
