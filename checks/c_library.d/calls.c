@@ -516,7 +516,7 @@ static void try_strange_entries(void) {
     EQUAL((uint64_t)memcmp(before, strange, sizeof before), 0);
 }
 
-/* ---- which outcomes the standard permits */
+/* ---- which outcomes are permitted */
 
 static uint32_t permitted(uint64_t satp, uint64_t address, uint32_t access, struct xv6vm_outcome outcome) {
     return CALL(permits)(tlb, PLACES, words, COUNT, BASE, satp, address, access, USER, outcome);

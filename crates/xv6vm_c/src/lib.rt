@@ -201,8 +201,8 @@ pub extern "C" fn xv6vm_tlb_fence(
     fence(entries, va, asid);
 }
 
-/// Returns 1 if the standard permits the outcome of an access: it is that of the walk over the memory as it is now, or that of an
-/// entry which matches the address and the ASID in `satp`; else 0.
+/// Returns 1 if the outcome of an access is one of those that this library knows: that of the walk over the memory as it is now, or
+/// that of an entry which matches the address and the ASID in `satp`; else 0.
 #[unsafe(no_mangle)]
 pub extern "C" fn xv6vm_permits(
     entries: &[LentEntry],

@@ -1,6 +1,6 @@
-/* Asks of each load of a toy emulator with a TLB whether the standard permits its outcome. The toy's fence with an address removes
-   the entry of one page; it should remove those of all pages of the superpage that holds the address. At the top of the
-   repository:
+/* Asks of each load of a toy emulator with a TLB whether its outcome is the walk's or one by an entry that the fences left. The
+   toy's fence with an address removes the entry of one page; it should remove those of all pages of the superpage that holds the
+   address. At the top of the repository:
 
      (cd crates/xv6vm_c && rt lib)
      gcc -I crates/xv6vm_c/include examples/c/tlb.c crates/xv6vm_c/out/libxv6vm_c.a -o tlb
