@@ -1,37 +1,40 @@
--- Lemmas about copyin and copyout: if a copy stops by NoFrame, then a copy of just the next byte, made right after it, says
--- NoFrame too.
-use Rattle.std.proofs.Common.{◌≡◌, ℕ, true, false, ◌+◌, refl, sym, ap, subst, ◌∙◌, Option, None, Some, List, [], ◌∷◌, length, arith, Bor}
-use Rattle.std.specs.Prelude.{nat_le, Result, Ok, Err, zip}
+-- Lemmas about copyin and copyout: if a copy stops by NoFrame, then fewer frames are free after it than the page of the next
+-- byte needs (`LacksFrames`).
+use Rattle.std.proofs.Common.{◌≡◌, ◌≢◌, ℕ, Bool, true, false, cond, ◌+◌, ◌%◌, ◌<◌, refl, sym, ap, subst, ◌∙◌, Option, None, Some, List, length, arith, Bor}
+use Rattle.std.specs.Prelude.{nat_lt, Result, Ok, Err, zip}
+use Rattle.std.proofs.lemmas.Bool.{eq-eqb, false≢true, ltb-true}
+use Rattle.process_laws.proofs.Counting.{quiet_rule}
+use Rattle.process_laws.proofs.NeedSpends.{page_need}
+use Rattle.process_laws.specs.FrameNeeds.{frames_for_page, LacksFrames}
 use Rattle.process_laws.proofs.CopyFrames.{New, not_begun, shift, Spent, spent_in_all, spent_out_all}
 use Rattle.process_laws.proofs.Copying.{in_so_far, InRan, out_so_far, OutRan}
 use Rattle.process_laws.proofs.EveryChange.{Holds}
 use Rattle.process_laws.proofs.Going.{At, step_at}
 use Rattle.process_laws.proofs.Later.{shifted}
-use Rattle.process_laws.proofs.Possible.{call_runs}
-use Rattle.process_laws.proofs.Running.{set_lives, step_process, step_reply}
+use Rattle.process_laws.proofs.Running.{set_lives, step_process}
 use Rattle.process_laws.specs.Words.{IsInPhase, IsOnHart, is_no_frame_reply}
-use Rattle.process_model.specs.Environment.{Environment, Progress, resident_at_address, resident_at}
+use Rattle.process_model.specs.Environment.{Environment, need_at, Progress, resident_at_address, resident_at, unless_dry, unless_resident}
 use Rattle.process_model.specs.Bytes.{numbers_from}
-use Rattle.process_model.specs.Calls.{copy_in_outcome, copy_out_outcome}
-use Rattle.process_model.specs.Copies.{Copied, copied_in, copied_out, copy_begun, in_reply, longest_copy, one_in, one_out, out_reply, reached_in}
-use Rattle.process_model.specs.Harts.{Hart}
+use Rattle.process_model.specs.Copies.{copied_in, copied_out, copy_begun, in_reply, out_reply, reached_in}
 use Rattle.process_model.specs.Process.{Process, regions, without_pending}
-use Rattle.process_model.specs.Regions.{copy_rule}
+use Rattle.process_model.specs.Regions.{copy_rule, first_rule, is_aligned}
+use Rattle.process_model.specs.Residence.{is_resident}
 use Rattle.process_model.specs.Service.{environment_of, initial_progress, with_progress}
 use Rattle.process_model.specs.Stale.{with_stale_slots}
 use Rattle.process_model.specs.Steps.{plain_step, step}
-use Rattle.process_model.specs.World.{answers, is_unserved_access, Outcome, process_in, World}
+use Rattle.process_model.specs.World.{answers, free, Outcome, process_in, World}
 use Rattle.process_model.specs.declared.config.Policy.{Policy}
 use Rattle.process_model.specs.declared.config.Policy.TheVariants.{Full, Asid}
 use Rattle.process_model.specs.declared.phase.Phase.TheVariants.{Kernel}
 use Rattle.process_model.specs.declared.step.Reply.{Reply}
+use Rattle.process_model.specs.declared.step.Reply.TheVariants.{Ended}
 use Rattle.process_model.specs.declared.step.Step.{Step}
 use Rattle.process_model.specs.declared.step.Step.TheVariants.{CopyIn, CopyOut}
 use Rattle.sv39_entry.specs.Address.{page_of}
 use Rattle.sv39_entry.specs.declared.access.Access.{Access}
 use Rattle.sv39_entry.specs.declared.access.Access.TheVariants as access
 use Rattle.sv39_entry.specs.declared.rule.Rule.{Rule}
-use Rattle.sv39_entry.specs.declared.rule.Rule.TheVariants.{NoFrame}
+use Rattle.sv39_entry.specs.declared.rule.Rule.TheVariants.{Misaligned, NoFrame}
 
 -- marks are not round a process
 
@@ -96,42 +99,34 @@ module _ (w : World) (h s : ℕ) (p : Process) (on : IsOnHart w h s p) (kernel :
       let a : At there h (Some s) Kernel = record { on = on.there; is_in = kernel } in
       (step_at w x h (Some s) Kernel (subst (λ (o : Outcome). At o.world h (Some s) Kernel) (sym is) a)).is_in
 
-  quiet_there : is_unserved_access q.pending ≡ false
-  quiet_there = ap is_unserved_access idle
+  -- no rule has too few frames
+  no_rule : (rule : Rule) → copy_rule q.scheme (regions q) kind at ≡ Some rule → rule ≢ NoFrame
+  no_rule rule e same =
+      let whole : is_aligned at 1 ≡ true = eq-eqb (at % 1) 0 (omega arith) in
+      let first : first_rule q.scheme (regions q) kind at 1 ≡ Some rule = ap (λ b. cond b (copy_rule q.scheme (regions q) kind at) (Some Misaligned)) whole ∙ e in
+      false≢true (sym (quiet_rule q kind at 1 rule first) ∙ ap (λ r. is_no_frame_reply (Ended r)) same)
 
-  -- a copy of the byte from the process
-  in_dry : (f : Progress) (a : Environment) → reached_in a access.Load f at ≡ Err NoFrame → (copied_in a f at 1).stop ≡ Some NoFrame
-  unfolding copied_in
-  in_dry f a e = ap (λ (z : Result Progress Rule). (one_in (copy_begun f) at z).stop) e
+  -- so few are free
+  few_at : (f : Progress) → f.process ≡ without_pending q → f.taken ≡ 0 → (b : Bool) → is_resident f.process kind (page_of at) ≡ b → unless_resident (environment_of v s) kind (page_of at) f b ≡ Err NoFrame
+      → free v < cond b 0 (need_at (environment_of v s) kind (page_of at) f.process)
+  few_at f same none true e is = absurd cc
+  few_at f same none false e is = by (nat_lt (free v) (f.taken + need)) refl is
+    where
+      need : ℕ
+      need = need_at (environment_of v s) kind (page_of at) f.process
 
-  in_tells : (c : Copied) → c.stop ≡ Some NoFrame → is_no_frame_reply (in_reply c.bytes c.stop) ≡ true
-  in_tells c e = ap (λ o. is_no_frame_reply (in_reply c.bytes o)) e
+      by : (b : Bool) → nat_lt (free v) (f.taken + need) ≡ b → unless_dry (environment_of v s) kind (page_of at) f need b ≡ Err NoFrame → free v < need
+      by true less is = let so = ltb-true (free v) (f.taken + need) less in omega (arith, so, none)
+      by false less is = absurd cc
 
-  pub alone_in : kind ≡ access.Load → is_no_frame_reply (step v (CopyIn h at 1)).reply ≡ true
-  alone_in load =
-      let run = λ (hart : Hart) (s : ℕ) (p : Process). copy_in_outcome v s (copied_in (environment_of v s) (initial_progress v (without_pending p)) at 1) in
-      let ran = call_runs v h s q (nat_le 1 longest_copy) run refl on_there quiet_there kernel_there in
-      let c = copied_in (environment_of v s) (initial_progress v (without_pending q)) at 1 in
-      ap is_no_frame_reply (step_reply v (CopyIn h at 1) ∙ ap (λ (o : Outcome). o.reply) ran.1)
-      ∙ in_tells c (in_dry (initial_progress v (without_pending q)) (environment_of v s) (subst (λ (z : Access). reached_in (environment_of v s) z (initial_progress v (without_pending q)) at ≡ Err NoFrame) load dry))
+  few_by : (o : Option Rule) → copy_rule q.scheme (regions q) kind at ≡ o → resident_at_address (environment_of v s) kind at (initial_progress v (without_pending q)) o ≡ Err NoFrame
+      → free v < frames_for_page v s q kind (page_of at)
+  unfolding resident_at
+  few_by (Some rule) e is = absurd (no_rule rule e cc)
+  few_by None e is = subst (λ n. free v < n) (page_need v s (without_pending q) kind (page_of at)) (few_at (initial_progress v (without_pending q)) refl refl (is_resident (without_pending q) kind (page_of at)) refl is)
 
-  -- and to it
-  out_dry : (f : Progress) (a : Environment) (bs : List ℕ) → length bs ≡ 1 → reached_in a access.Store f at ≡ Err NoFrame → (copied_out a f at bs).stop ≡ Some NoFrame
-  unfolding copied_out
-  out_dry f a [] one e = absurd cc
-  out_dry f a (b ∷ []) one e = ap (λ (z : Result Progress Rule). (one_out (copy_begun f) at b z).stop) e
-  out_dry f a (b ∷ c ∷ bs) one e = absurd (omega (arith, one))
-
-  out_tells : (c : Copied) → c.stop ≡ Some NoFrame → is_no_frame_reply (out_reply c.bytes c.stop) ≡ true
-  out_tells c e = ap (λ o. is_no_frame_reply (out_reply c.bytes o)) e
-
-  pub alone_out : (bytes : Bor (List ℕ)) → length bytes.now ≡ 1 → kind ≡ access.Store → is_no_frame_reply (step v (CopyOut h at bytes)).reply ≡ true
-  alone_out bytes one store =
-      let run = λ (hart : Hart) (s : ℕ) (p : Process). copy_out_outcome v s (copied_out (environment_of v s) (initial_progress v (without_pending p)) at bytes.now) in
-      let ran = call_runs v h s q (nat_le (length bytes.now) longest_copy) run (ap (λ n. nat_le n longest_copy) one) on_there quiet_there kernel_there in
-      let c = copied_out (environment_of v s) (initial_progress v (without_pending q)) at bytes.now in
-      ap is_no_frame_reply (step_reply v (CopyOut h at bytes) ∙ ap (λ (o : Outcome). o.reply) ran.1)
-      ∙ out_tells c (out_dry (initial_progress v (without_pending q)) (environment_of v s) bytes.now one (subst (λ (z : Access). reached_in (environment_of v s) z (initial_progress v (without_pending q)) at ≡ Err NoFrame) store dry))
+  pub lacks : LacksFrames v s kind at
+  lacks = record { process = q; there = on_there.lives; few = few_by (copy_rule q.scheme (regions q) kind at) refl dry }
 
 module _ (w : World) (h s : ℕ) (p : Process) (on : IsOnHart w h s p) (holds : Holds New w) (address : ℕ) where
   abbrev first : Progress
@@ -141,20 +136,20 @@ module _ (w : World) (h s : ℕ) (p : Process) (on : IsOnHart w h s p) (holds : 
   unfolding copied_in
   in_spent n = spent_in_all w s p holds on.lives (numbers_from address n) (copy_begun first) (not_begun w s p holds on.lives)
 
-  pub in_alone : (n : ℕ) → InRan w h s p address n → let c = copied_in (environment_of w s) first address n in c.stop ≡ Some NoFrame
-      → is_no_frame_reply (step (step w (CopyIn h address n)).world (CopyIn h (address + length c.bytes) 1)).reply ≡ true
-  in_alone n ran stop =
+  pub in_lacks : (n : ℕ) → InRan w h s p address n → let c = copied_in (environment_of w s) first address n in c.stop ≡ Some NoFrame
+      → LacksFrames (step w (CopyIn h address n)).world s access.Load (address + length c.bytes)
+  in_lacks n ran stop =
       let c = copied_in (environment_of w s) first address n in
       let f = in_so_far (environment_of w s) first address n in
-      alone_in w h s p on ran.in_kernel holds (CopyIn h address n) (in_reply c.bytes c.stop) c.progress ran.is (in_spent n) f.idle access.Load (address + length c.bytes) (f.halted NoFrame stop) refl
+      lacks w h s p on ran.in_kernel holds (CopyIn h address n) (in_reply c.bytes c.stop) c.progress ran.is (in_spent n) f.idle access.Load (address + length c.bytes) (f.halted NoFrame stop)
 
   out_spent : (bs : List ℕ) → Spent w s p holds on.lives (copied_out (environment_of w s) first address bs).progress
   unfolding copied_out
   out_spent bs = spent_out_all w s p holds on.lives (zip (numbers_from address (length bs)) bs) (copy_begun first) (not_begun w s p holds on.lives)
 
-  pub out_alone : (bytes one : Bor (List ℕ)) → length one.now ≡ 1 → OutRan w h s p address bytes → let c = copied_out (environment_of w s) first address bytes.now in c.stop ≡ Some NoFrame
-      → is_no_frame_reply (step (step w (CopyOut h address bytes)).world (CopyOut h (address + length c.bytes) one)).reply ≡ true
-  out_alone bytes one long ran stop =
+  pub out_lacks : (bytes : Bor (List ℕ)) → OutRan w h s p address bytes → let c = copied_out (environment_of w s) first address bytes.now in c.stop ≡ Some NoFrame
+      → LacksFrames (step w (CopyOut h address bytes)).world s access.Store (address + length c.bytes)
+  out_lacks bytes ran stop =
       let c = copied_out (environment_of w s) first address bytes.now in
       let f = out_so_far (environment_of w s) first address bytes.now in
-      alone_out w h s p on ran.in_kernel holds (CopyOut h address bytes) (out_reply c.bytes c.stop) c.progress ran.is (out_spent bytes.now) f.idle access.Store (address + length c.bytes) (f.halted NoFrame stop) one long refl
+      lacks w h s p on ran.in_kernel holds (CopyOut h address bytes) (out_reply c.bytes c.stop) c.progress ran.is (out_spent bytes.now) f.idle access.Store (address + length c.bytes) (f.halted NoFrame stop)

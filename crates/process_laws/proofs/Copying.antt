@@ -12,7 +12,7 @@ use Rattle.process_laws.proofs.HeldBytes.{none_some}
 use Rattle.process_laws.proofs.Running.{has_it, process_runs, ran_on, step_reply, was_made}
 use Rattle.process_laws.proofs.Users.{same_from}
 use Rattle.process_laws.specs.Headline.{Copies, StopsAfter}
-use Rattle.process_laws.specs.Words.{byte, copied, Forbids, IsGranted, IsInPhase, IsMade, IsOnHart, stopped_by, is_no_frame_reply}
+use Rattle.process_laws.specs.Words.{byte, copied, Forbids, IsGranted, IsInPhase, IsMade, IsOnHart, stopped_by}
 use Rattle.process_model.specs.ResidenceLaws.{made_settles}
 use Rattle.process_model.specs.Environment.{Environment, Progress, resident_at_address, resident_at, unless_dry, unless_resident}
 use Rattle.process_model.specs.Bytes.{numbers_from}
@@ -215,43 +215,43 @@ out_so_far a g address bs = subst (λ k. SoFar a g.process access.Store address 
 
 -- what that says
 
--- where the byte alone is told that there is no frame, if that stopped it
-module _ (alone : Reply) where
-  stop_says : (p : Process) (kind : Access) (address n k : ℕ) (rule : Rule) → k < n → Stops p kind (address + k) rule → (rule ≡ NoFrame → is_no_frame_reply alone ≡ true) → StopsAfter p kind address n k alone (Some rule)
+-- where the next byte lacks frames, if that stopped it
+module _ (Lacks : Type 0) where
+  stop_says : (p : Process) (kind : Access) (address n k : ℕ) (rule : Rule) → k < n → Stops p kind (address + k) rule → (rule ≡ NoFrame → Lacks) → StopsAfter p kind address n k Lacks (Some rule)
   stop_says p kind address n k rule l (denied e) says = StopsAfter.forbidden l (byte_forbidden p kind (address + k) rule e)
   stop_says p kind address n k rule l (dry e) says = StopsAfter.no_frame l (byte_granted p kind (address + k) e) (says refl)
 
-  ends_so : (a : Environment) (p : Process) (kind : Access) (address n : ℕ) (c : Copied) (o : Option Rule) → c.stop ≡ o → SoFar a p kind address n c → (c.stop ≡ Some NoFrame → is_no_frame_reply alone ≡ true)
-      → Copies p kind address n (length c.bytes) alone o
+  ends_so : (a : Environment) (p : Process) (kind : Access) (address n : ℕ) (c : Copied) (o : Option Rule) → c.stop ≡ o → SoFar a p kind address n c → (c.stop ≡ Some NoFrame → Lacks)
+      → Copies p kind address n (length c.bytes) Lacks o
   ends_so a p kind address n c None e f says = record { granted = λ i l. byte_granted p kind (address + i) (f.granted i l); stops = StopsAfter.whole (f.goes_on e) }
   ends_so a p kind address n c (Some rule) e f says =
       let g = f.stops rule e in
       record { granted = λ i l. byte_granted p kind (address + i) (f.granted i l); stops = stop_says p kind address n (length c.bytes) rule g.0 g.1 (λ is. says (e ∙ ap Some is)) }
 
   -- a process that no access of waits has the same regions
-  copies_same : (p : Process) (kind : Access) (address n k : ℕ) (o : Option Rule) → Copies (without_pending p) kind address n k alone o → Copies p kind address n k alone o
+  copies_same : (p : Process) (kind : Access) (address n k : ℕ) (o : Option Rule) → Copies (without_pending p) kind address n k Lacks o → Copies p kind address n k Lacks o
   copies_same p kind address n k o c = record { granted = λ i l. grants (address + i) (c.granted i l); stops = ends_same o c.stops }
     where
       grants : (at : ℕ) → IsGranted (without_pending p) (byte kind at) → IsGranted p (byte kind at)
       grants at g = record { region = g.region; has = g.has; right = g.right; aligned = g.aligned }
 
-      ends_same : (o : Option Rule) → StopsAfter (without_pending p) kind address n k alone o → StopsAfter p kind address n k alone o
+      ends_same : (o : Option Rule) → StopsAfter (without_pending p) kind address n k Lacks o → StopsAfter p kind address n k Lacks o
       ends_same o (StopsAfter.whole e) = StopsAfter.whole e
       ends_same o (StopsAfter.forbidden l f) = StopsAfter.forbidden l f
       ends_same o (StopsAfter.no_frame l g so) = StopsAfter.no_frame l (grants (address + k) g) so
 
-pub Says : Process → Access → ℕ → ℕ → (ℕ → Reply) → Reply → Type 0
-Says p kind address n alone r = Copies p kind address n (copied r) (alone (copied r)) (stopped_by r)
+pub Says : Process → Access → ℕ → ℕ → (ℕ → Type 0) → Reply → Type 0
+Says p kind address n Lacks r = Copies p kind address n (copied r) (Lacks (copied r)) (stopped_by r)
 
-in_says : (p : Process) (address n : ℕ) (alone : ℕ → Reply) (bs : List ℕ) (o : Option Rule) → Copies p access.Load address n (length bs) (alone (length bs)) o → Says p access.Load address n alone (in_reply bs o)
+in_says : (p : Process) (address n : ℕ) (Lacks : ℕ → Type 0) (bs : List ℕ) (o : Option Rule) → Copies p access.Load address n (length bs) (Lacks (length bs)) o → Says p access.Load address n Lacks (in_reply bs o)
 unfolding Says
-in_says p address n alone bs None c = c
-in_says p address n alone bs (Some r) c = c
+in_says p address n Lacks bs None c = c
+in_says p address n Lacks bs (Some r) c = c
 
-out_says : (p : Process) (address n : ℕ) (alone : ℕ → Reply) (bs : List ℕ) (o : Option Rule) → Copies p access.Store address n (length bs) (alone (length bs)) o → Says p access.Store address n alone (out_reply bs o)
+out_says : (p : Process) (address n : ℕ) (Lacks : ℕ → Type 0) (bs : List ℕ) (o : Option Rule) → Copies p access.Store address n (length bs) (Lacks (length bs)) o → Says p access.Store address n Lacks (out_reply bs o)
 unfolding Says
-out_says p address n alone bs None c = c
-out_says p address n alone bs (Some r) c = c
+out_says p address n Lacks bs None c = c
+out_says p address n Lacks bs (Some r) c = c
 
 -- a copy that runs
 pub record InRan (w : World) (h s : ℕ) (p : Process) (address n : ℕ) : Type 0 where
@@ -295,23 +295,23 @@ out_ran w h s address bytes p on made =
     let r = ran_on w h (nat_le (length bytes.now) longest_copy) (can_call w) always (λ hart. with_its_process w hart (call hart)) (was_made w (CopyOut h address bytes) made) in
     record { hart = r.hart; there = r.there; can = r.can; fits = r.fits; in_kernel = in_phase w h r.hart Kernel r.there (kernel_phase r.hart.phase _ r.can); is = r.is ∙ process_runs w r.hart (call r.hart) s p (has_it w h s r.hart on.there r.there) on.lives }
 
-pub copies_in : (w : World) (h s address n : ℕ) (p : Process) (alone : ℕ → Reply) → InRan w h s p address n
-    → (let c = copied_in (environment_of w s) (initial_progress w (without_pending p)) address n in c.stop ≡ Some NoFrame → is_no_frame_reply (alone (length c.bytes)) ≡ true)
-    → let r = (step w (CopyIn h address n)).reply in Copies p access.Load address n (copied r) (alone (copied r)) (stopped_by r)
+pub copies_in : (w : World) (h s address n : ℕ) (p : Process) (Lacks : ℕ → Type 0) → InRan w h s p address n
+    → (let c = copied_in (environment_of w s) (initial_progress w (without_pending p)) address n in c.stop ≡ Some NoFrame → Lacks (length c.bytes))
+    → let r = (step w (CopyIn h address n)).reply in Copies p access.Load address n (copied r) (Lacks (copied r)) (stopped_by r)
 unfolding Says
-copies_in w h s address n p alone ran says =
+copies_in w h s address n p Lacks ran says =
     let c = copied_in (environment_of w s) (initial_progress w (without_pending p)) address n in
-    subst (Says p access.Load address n alone) (sym (step_reply w (CopyIn h address n) ∙ ap (λ (o : Outcome). o.reply) ran.is))
-    (in_says p address n alone c.bytes c.stop
-    (copies_same (alone (length c.bytes)) p access.Load address n (length c.bytes) c.stop (ends_so (alone (length c.bytes)) (environment_of w s) (without_pending p) access.Load address n c c.stop refl (in_so_far (environment_of w s) (initial_progress w (without_pending p)) address n) says)))
+    subst (Says p access.Load address n Lacks) (sym (step_reply w (CopyIn h address n) ∙ ap (λ (o : Outcome). o.reply) ran.is))
+    (in_says p address n Lacks c.bytes c.stop
+    (copies_same (Lacks (length c.bytes)) p access.Load address n (length c.bytes) c.stop (ends_so (Lacks (length c.bytes)) (environment_of w s) (without_pending p) access.Load address n c c.stop refl (in_so_far (environment_of w s) (initial_progress w (without_pending p)) address n) says)))
 
-pub copies_out : (w : World) (h s address : ℕ) (bytes : Bor (List ℕ)) (p : Process) (alone : ℕ → Reply) → OutRan w h s p address bytes
-    → (let c = copied_out (environment_of w s) (initial_progress w (without_pending p)) address bytes.now in c.stop ≡ Some NoFrame → is_no_frame_reply (alone (length c.bytes)) ≡ true)
-    → let r = (step w (CopyOut h address bytes)).reply in Copies p access.Store address (length bytes.now) (copied r) (alone (copied r)) (stopped_by r)
+pub copies_out : (w : World) (h s address : ℕ) (bytes : Bor (List ℕ)) (p : Process) (Lacks : ℕ → Type 0) → OutRan w h s p address bytes
+    → (let c = copied_out (environment_of w s) (initial_progress w (without_pending p)) address bytes.now in c.stop ≡ Some NoFrame → Lacks (length c.bytes))
+    → let r = (step w (CopyOut h address bytes)).reply in Copies p access.Store address (length bytes.now) (copied r) (Lacks (copied r)) (stopped_by r)
 unfolding Says
-copies_out w h s address bytes p alone ran says =
+copies_out w h s address bytes p Lacks ran says =
     let c = copied_out (environment_of w s) (initial_progress w (without_pending p)) address bytes.now in
-    subst (Says p access.Store address (length bytes.now) alone) (sym (step_reply w (CopyOut h address bytes) ∙ ap (λ (o : Outcome). o.reply) ran.is))
-    (out_says p address (length bytes.now) alone c.bytes c.stop
-    (copies_same (alone (length c.bytes)) p access.Store address (length bytes.now) (length c.bytes) c.stop
-    (ends_so (alone (length c.bytes)) (environment_of w s) (without_pending p) access.Store address (length bytes.now) c c.stop refl (out_so_far (environment_of w s) (initial_progress w (without_pending p)) address bytes.now) says)))
+    subst (Says p access.Store address (length bytes.now) Lacks) (sym (step_reply w (CopyOut h address bytes) ∙ ap (λ (o : Outcome). o.reply) ran.is))
+    (out_says p address (length bytes.now) Lacks c.bytes c.stop
+    (copies_same (Lacks (length c.bytes)) p access.Store address (length bytes.now) (length c.bytes) c.stop
+    (ends_so (Lacks (length c.bytes)) (environment_of w s) (without_pending p) access.Store address (length bytes.now) c c.stop refl (out_so_far (environment_of w s) (initial_progress w (without_pending p)) address bytes.now) says)))

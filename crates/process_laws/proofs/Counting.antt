@@ -1,7 +1,7 @@
 -- Lemmas: for a start, a fork and a service of a page fault there is one number of frames, whatever the size of the memory:
 -- the reply says NoFrame if and only if fewer are free, and else the free count falls by that number (0 if it rises). Before
 -- them: the free count when one process changes or is gone.
-use Rattle.std.proofs.Common.{◌≡◌, ℕ, Bool, true, false, ◌+◌, ◌-◌, ◌≤◌, refl, sym, ap, ◌∙◌, arith, Option, None, Some, List, [], ◌∷◌, ◌++◌, length, length-set}
+use Rattle.std.proofs.Common.{◌≡◌, ℕ, Bool, true, false, cond, ◌+◌, ◌-◌, ◌≤◌, refl, sym, ap, ◌∙◌, arith, Option, None, Some, List, [], ◌∷◌, ◌++◌, length, length-set}
 use Rattle.std.specs.Prelude.{nat_lt, Result, Ok, Err, slice_get, slice_set, sum_by}
 use Rattle.process_laws.proofs.Earlier.{answered_is_first}
 use Rattle.process_laws.proofs.ForkSpends.{fork_spends}
@@ -49,16 +49,16 @@ pub none_less : (a : ℕ) → nat_lt a 0 ≡ false
 none_less a = grind arith
 
 -- nothing is taken
-spends_none : (v : World) (o : Outcome) → is_no_frame_reply o.reply ≡ false → free v ≤ free o.world → Spends v o 0
+pub spends_none : (v : World) (o : Outcome) → is_no_frame_reply o.reply ≡ false → free v ≤ free o.world → Spends v o 0
 spends_none v o e le = (e ∙ sym (none_less (free v)), λ _. omega (arith, le))
 
 -- so much is taken, or it is dry
-spends_need : (v : World) (n : ℕ) (f : Bool → Outcome) (b : Bool) → nat_lt (free v) n ≡ b → is_no_frame_reply (f true).reply ≡ true → is_no_frame_reply (f false).reply ≡ false
+pub spends_need : (v : World) (n : ℕ) (f : Bool → Outcome) (b : Bool) → nat_lt (free v) n ≡ b → is_no_frame_reply (f true).reply ≡ true → is_no_frame_reply (f false).reply ≡ false
     → (nat_lt (free v) n ≡ false → free (f false).world + n ≡ free v) → Spends v (f b) n
 spends_need v n f true e dry wet spends = (dry ∙ sym e, λ is. absurd (let no : true ≡ false = sym dry ∙ is in cc))
 spends_need v n f false e dry wet spends = (wet ∙ sym e, λ is. let h = spends e in omega (arith, h))
 
-marks_spend : (policy : Policy) (v : World) (o : Outcome) (n : ℕ) → Spends v o n → Spends v (with_stale_slots policy v o) n
+pub marks_spend : (policy : Policy) (v : World) (o : Outcome) (n : ℕ) → Spends v o n → Spends v (with_stale_slots policy v o) n
 marks_spend Full v o n t = t
 marks_spend Asid v o n t = t
 
@@ -199,22 +199,19 @@ module _ (w : World) (new : HasNewCopies w) where
         let same = served_free m made in
         omega (arith, spends, same)
 
-    absent_takes : is_resident p a.access page ≡ false → Each (λ u. serves_it u (unless_resident (environment_of u s) a.access page (initial_progress u p) false))
-    unfolding InEach
-    absent_takes absent = (
-      need,
-      λ m. spends_need (at m) need (λ b. serves_it (at m) (unless_dry (environment_of (at m) s) a.access page (initial_progress (at m) p) need b)) (is_dry (at m) (0 + need)) (ap (is_dry (at m)) (omega arith)) refl refl
-          (λ wet. absent_spends m absent (ap (is_dry (at m)) (omega arith) ∙ wet)),
-    )
+    resident_spends : (b : Bool) → is_resident p a.access page ≡ b → (m : ℕ) → Spends (at m) (serves_it (at m) (unless_resident (environment_of (at m) s) a.access page (initial_progress (at m) p) b)) (cond b 0 need)
+    resident_spends true e m = spends_none (at m) (serves_it (at m) (Ok (initial_progress (at m) p))) refl (let same = same_free (at m) s p ((with_served (initial_progress (at m) p) a).process) lives refl refl in omega (arith, same))
+    resident_spends false absent m = spends_need (at m) need (λ b. serves_it (at m) (unless_dry (environment_of (at m) s) a.access page (initial_progress (at m) p) need b)) (is_dry (at m) (0 + need)) (ap (is_dry (at m)) (omega arith)) refl refl
+        (λ wet. absent_spends m absent (ap (is_dry (at m)) (omega arith) ∙ wet))
 
-    resident_takes : (b : Bool) → is_resident p a.access page ≡ b → Each (λ u. serves_it u (unless_resident (environment_of u s) a.access page (initial_progress u p) b))
-    unfolding InEach
-    resident_takes true e = (0, λ m. spends_none (at m) (serves_it (at m) (Ok (initial_progress (at m) p))) refl (let same = same_free (at m) s p ((with_served (initial_progress (at m) p) a).process) lives refl refl in omega (arith, same)))
-    resident_takes false e = absent_takes e
+    -- of a page that stands, nothing; else what it needs
+    pub page_spends : (m : ℕ) → Spends (at m) (serves_it (at m) (resident_at (environment_of (at m) s) a.access page (initial_progress (at m) p))) (cond (is_resident p a.access page) 0 need)
+    unfolding resident_at
+    page_spends = resident_spends (is_resident p a.access page) refl
 
     page_takes : Each (λ u. serves_it u (resident_at (environment_of u s) a.access page (initial_progress u p)))
-    unfolding InEach resident_at
-    page_takes = resident_takes (is_resident p a.access page) refl
+    unfolding InEach
+    page_takes = (cond (is_resident p a.access page) 0 need, page_spends)
 
     rule_takes : (o : Option Rule) → first_rule p.scheme (regions p) a.access a.address a.width ≡ o → Each (λ u. serves_it u (resident_at_address (environment_of u s) a.access a.address (initial_progress u p) o))
     unfolding InEach

@@ -84,7 +84,7 @@ set_or_same (p ∷ ps) zero (suc j) o q e = inr e
 set_or_same (p ∷ ps) (suc i) zero o q e = inr e
 set_or_same (p ∷ ps) (suc i) (suc j) o q e = set_or_same ps i j o q e
 
-none_in_empty : (n s : ℕ) (q : Process) → flat (slice_get (replicate n None) s) ≡ Some q → ⊥
+pub none_in_empty : (n s : ℕ) (q : Process) → flat (slice_get (replicate n None) s) ≡ Some q → ⊥
 none_in_empty zero s q e = cc
 none_in_empty (suc n) zero q e = cc
 none_in_empty (suc n) (suc s) q e = none_in_empty n s q e

@@ -1,12 +1,12 @@
 -- Lemmas about write-back, of a run of pages of a mapping and of all mappings: each byte of a file stays or becomes one that
 -- the process has at that place, on a page with the stored mark (D) of a writable shared mapping; no file changes its
 -- length, or whether it may be written (`Written`).
-use Rattle.std.proofs.Common.{◌≡◌, ◌⊎◌, ℕ, zero, suc, true, false, cond, ◌&&◌, ◌+◌, ◌-◌, ◌*◌, ◌%◌, ◌<◌, ◌≤◌, inl, inr, refl, sym, ap, subst, ◌∙◌, arith, List, [], ◌∷◌, ◌++◌, Option, None, Some, length, take, drop}
+use Rattle.std.proofs.Common.{◌≡◌, ◌⊎◌, ℕ, zero, suc, Bool, true, false, cond, ◌&&◌, ◌+◌, ◌-◌, ◌*◌, ◌%◌, ◌<◌, ◌≤◌, inl, inr, refl, sym, ap, subst, ◌∙◌, arith, List, [], ◌∷◌, ◌++◌, Option, None, Some, length, take, drop}
 use Rattle.std.specs.Prelude.{T, fold, nat_le, nat_lt, slice_get, slice_set}
 use Rattle.std.specs.Ordering.{nat_cmp}
 use Rattle.std.specs.Cmp.{unsigned_tied}
 use Rattle.std.specs.FinMap.Entries.{find, is_sorted}
-use Rattle.std.proofs.lemmas.Bool.{and_parts, cases_eq, cases_lt, eq-eqb, leb-true, ltb-true, ne_eqb}
+use Rattle.std.proofs.lemmas.Bool.{and_parts, cases_eq, cases_lt, eq-eqb, le-leb, leb-true, lt-ltb, ltb-true, ne_eqb}
 use Rattle.std.proofs.lemmas.Bool.Decides.{nat_tests}
 use Rattle.std.proofs.lemmas.List.{length-append, length-take, get_or-append_right, get_or-drop, get_or-take}
 use Rattle.std.proofs.lemmas.Option.{same_Some}
@@ -18,16 +18,16 @@ use Rattle.process_laws.proofs.Untouched.{get_set_other}
 use Rattle.process_laws.proofs.WrittenBack.{below_stays, length_stays, over_is, page_goes}
 use Rattle.process_laws.specs.FilePlaces.{file_bytes}
 use Rattle.process_laws.specs.Latest.{byte_at, page_byte}
-use Rattle.process_laws.specs.Pages.{grant, grant_in, has_mark, has_stored_mark, pages_on}
-use Rattle.process_laws.specs.Words.{is_page_written_back, Written, WroteBack}
+use Rattle.process_laws.specs.Pages.{Grant, grant, grant_in, has_mark, has_stored_mark, pages_on}
+use Rattle.process_laws.specs.Words.{is_page_written_back, IsWritten, Written, WroteBack}
 use Rattle.process_model.specs.declared.step.Step.{Step}
 use Rattle.process_model.specs.Bytes.{pages_for, write_bytes}
 use Rattle.process_model.specs.Files.{bytes_of, File, is_writable, with_file_at, with_page_written, written_over}
 use Rattle.process_model.specs.Mappings.{all_written_back, is_written_back, mapping_around, mapping_written_back, page_written, with_written, written_back}
-use Rattle.process_model.specs.Order.{IsInOrder, Row}
+use Rattle.process_model.specs.Order.{EachRegion, HasNoFile, is_file, IsInOrder, Row}
 use Rattle.process_model.specs.PageMap.{get}
-use Rattle.process_model.specs.Process.{Page, Process}
-use Rattle.process_model.specs.Regions.{end_of, file, image, is_shared_kind, keeps_stores, Region, RegionKind, guard, heap, private_mapping, segment, shared_mapping, Source, stack, zeros}
+use Rattle.process_model.specs.Process.{heap_of, Page, Process}
+use Rattle.process_model.specs.Regions.{end_of, file, holds_page, image, region_at, is_shared_kind, keeps_stores, Region, RegionKind, guard, heap, private_mapping, segment, shared_mapping, Source, stack, zeros}
 use Rattle.sv39_entry.specs.Address.{page_of}
 use Rattle.sv39_entry.specs.Schemes.{trapframe_page}
 
@@ -153,6 +153,40 @@ module _ (x : Step) (p : Process) (sized : AllSized p.settled) where
               ]
             ]
 
+    -- what has to be written is there then
+    same_source : (n i b : ℕ) (wb : WroteBack x p n i b) → page_of wb.address ≡ e.0 → pages_on m.source (e.0 - m.first) ≡ file n wb.offset
+    same_source n i b wb at =
+        let both : grant_in (Some m) e.0 ≡ Some wb.grant = sym grants ∙ ap (grant p) (sym at) ∙ wb.has in
+        ap (λ (g : Grant). g.source) (same_Some _ _ both) ∙ wb.of_file
+
+    page_wrote : (n i b : ℕ) (wb : WroteBack x p n i b) → page_of wb.address ≡ e.0 → (files : List File) (s : Source) → m.source ≡ s → i < length (file_bytes files n)
+        → WroteBack x p n i (byte_at (file_bytes (page_written s files (4096 * (e.0 - m.first)) (e.1).bytes) n) i)
+    page_wrote n i b wb at files zeros is less = absurd (let no = sym (ap (λ s. pages_on s (e.0 - m.first)) is) ∙ same_source n i b wb at in cc)
+    page_wrote n i b wb at files image is less = absurd (let no = sym (ap (λ s. pages_on s (e.0 - m.first)) is) ∙ same_source n i b wb at in cc)
+    page_wrote n i b wb at files (file k offset) is less =
+        let same = sym (ap (λ s. pages_on s (e.0 - m.first)) is) ∙ same_source n i b wb at in
+        let number : k ≡ n = same_file k n (offset + 4096 * (e.0 - m.first)) wb.offset same in
+        let start : offset + 4096 * (e.0 - m.first) ≡ wb.offset = same_offset k n (offset + 4096 * (e.0 - m.first)) wb.offset same in
+        let j = wb.address % 4096 in
+        let place : offset + 4096 * (e.0 - m.first) + j ≡ i = ap (λ o. o + j) start ∙ wb.place in
+        let few : j < 4096 = omega arith in
+        let long = size in
+        let bs = file_bytes files k in
+        let o = offset + 4096 * (e.0 - m.first) in
+        let room : o + j < length bs = let f = ap (λ z. length (file_bytes files z)) number in omega (arith, place, less, f) in
+        let now : byte_at (file_bytes (with_page_written files k o (e.1).bytes) k) (o + j) ≡ byte_at (e.1).bytes j = ap (λ ys. byte_at ys (o + j)) (page_goes files k o (e.1).bytes) ∙ over_is bs (e.1).bytes o j (omega (arith, few, long)) room in
+        let is_byte : byte_at (file_bytes (with_page_written files k o (e.1).bytes) n) i ≡ byte_at (e.1).bytes j =
+        ap (λ z. byte_at (file_bytes (with_page_written files k o (e.1).bytes) z) i) (sym number) ∙ ap (byte_at (file_bytes (with_page_written files k o (e.1).bytes) k)) (sym place) ∙ now in
+        subst (λ z. WroteBack x p z i (byte_at (file_bytes (with_page_written files k o (e.1).bytes) n) i)) number
+        (subst (λ z. WroteBack x p k z (byte_at (file_bytes (with_page_written files k o (e.1).bytes) n) i)) place
+        (wrote k offset j (byte_at (file_bytes (with_page_written files k o (e.1).bytes) n) i) is few (sym is_byte)))
+      where
+        same_file : (k n a c : ℕ) → file k a ≡ file n c → k ≡ n
+        same_file k n a c e = cc
+
+        same_offset : (k n a c : ℕ) → file k a ≡ file n c → a ≡ c
+        same_offset k n a c e = cc
+
     source_written : (files : List File) (s : Source) → m.source ≡ s → Written x p files (page_written s files (4096 * (e.0 - m.first)) (e.1).bytes)
     source_written files zeros is = none_written x p files
     source_written files image is = none_written x p files
@@ -179,6 +213,71 @@ module _ (x : Step) (p : Process) (sized : AllSized p.settled) where
         let above = found_above e.0 k v es (first _ _ rising) there in
         sub k v (rw (unsigned_tied k e.0, ne_eqb k e.0 (λ same. omega (arith, above, same))) there)))
 
+    -- what has to be written on a page of the run is there then
+
+    module _ (n i b : ℕ) (wb : WroteBack x p n i b) (inside : (from ≤ page_of wb.address) × (page_of wb.address < end)) where
+      abbrev Has : List File → Type 0
+      Has files = WroteBack x p n i (byte_at (file_bytes files n) i)
+
+      abbrev IsLong : List File → Type 0
+      IsLong files = i < length (file_bytes files n)
+
+      stays_written : (one two : List File) → Written x p one two → IsLong one → Has one → Has two
+      stays_written one two f less was = elim (f.bytes n i less) [
+        | inl same ↦ subst (WroteBack x p n i) (sym same) was
+        | inr wrote ↦ wrote
+      ]
+
+      stays_long : (one two : List File) → Written x p one two → IsLong one → IsLong two
+      stays_long one two f less = let same = f.long n in omega (arith, same, less)
+
+      here_wrote : (files : List File) (e : ℕ × Page) → get p.settled e.0 ≡ Some e.1 → page_of wb.address ≡ e.0 → IsLong files → Has (with_written m from end files e)
+      here_wrote files e there at less =
+          let start : from ≤ e.0 = let s = inside.0 in omega (arith, s, at) in
+          let stop : e.0 < end = let s = inside.1 in omega (arith, s, at) in
+          let given = grants e.0 start stop in
+          let both : grant_in (Some m) e.0 ≡ Some wb.grant = sym given ∙ ap (grant p) (sym at) ∙ wb.has in
+          let same = same_Some _ _ both in
+          let writes : m.writes ≡ true = ap (λ (g : Grant). g.writes) same ∙ wb.writes in
+          let shared : is_shared_kind m.kind ≡ true = ap (λ (g : Grant). is_shared_kind g.kind) same ∙ ap is_shared_kind wb.shared in
+          let mark : (e.1).stored_mark ≡ true = sym (ap (has_mark (λ x. x.stored_mark)) there) ∙ ap (has_stored_mark p) (sym at) ∙ wb.stored in
+          let due : is_written_back m e.1 ≡ true = rw (writes, shared, mark) refl in
+          let low : nat_le from e.0 ≡ true = le-leb from e.0 start in
+          let high : nat_lt e.0 end ≡ true = lt-ltb e.0 end stop in
+          subst (λ t. Has (cond t (page_written m.source files (4096 * (e.0 - m.first)) (e.1).bytes) files)) (sym (all_three _ _ _ low high due))
+          (page_wrote m e there given due (go e.0 start stop) n i b wb at files m.source refl less)
+        where
+          all_three : (a b c : Bool) → a ≡ true → b ≡ true → c ≡ true → (a && b && c) ≡ true
+          all_three true true true e f g = refl
+          all_three true true false e f g = absurd cc
+          all_three true false c e f g = absurd cc
+          all_three false b c e f g = absurd cc
+
+      all_wrote : (es : List (ℕ × Page)) (files : List File) → T (is_sorted nat_cmp es) → ((k : ℕ) (v : Page) → find nat_cmp k es ≡ Some v → get p.settled k ≡ Some v) → (v : Page) → find nat_cmp (page_of wb.address) es ≡ Some v → IsLong files
+          → Has (fold (with_written m from end) files es)
+      all_wrote [] files rising sub v found less = absurd cc
+      all_wrote (e ∷ es) files rising sub v found less =
+          let there = sub e.0 e.1 (rw (unsigned_tied e.0 e.0, eq-eqb e.0 e.0 refl) refl) in
+          let one = one_written files e there in
+          let long = stays_long files (with_written m from end files e) one less in
+          let rest : (k : ℕ) (v : Page) → find nat_cmp k es ≡ Some v → get p.settled k ≡ Some v = λ k v there.
+          let above = found_above e.0 k v es (first _ _ rising) there in
+          sub k v (rw (unsigned_tied k e.0, ne_eqb k e.0 (λ same. omega (arith, above, same))) there) in
+          elim (cases_eq (page_of wb.address) e.0) [
+            | inl same ↦ stays_written (with_written m from end files e) (fold (with_written m from end) (with_written m from end files e) es) (all_written es (with_written m from end files e) (second _ _ rising) rest) long (here_wrote files e there same less)
+            | inr apart ↦ all_wrote es (with_written m from end files e) (second _ _ rising) rest v (sym (later e es apart) ∙ found) long
+          ]
+        where
+          later : (e : ℕ × Page) (es : List (ℕ × Page)) → (page_of wb.address ≡ e.0 → ⊥) → find nat_cmp (page_of wb.address) (e ∷ es) ≡ find nat_cmp (page_of wb.address) es
+          later e es apart = rw (unsigned_tied (page_of wb.address) e.0, ne_eqb (page_of wb.address) e.0 apart) refl
+
+      marked_there : (o : Option Page) → has_mark (λ x. x.stored_mark) o ≡ true → (v : Page) × (o ≡ Some v)
+      marked_there None e = absurd cc
+      marked_there (Some v) e = (v, refl)
+
+      pub run_wrote : (files : List File) → IsLong files → Has (written_back files p m from end)
+      run_wrote files less = let v = marked_there (get p.settled (page_of wb.address)) wb.stored in all_wrote p.settled.entries files p.settled.sorted (λ k v there. there) v.0 v.1 less
+
     pub run_written : (files : List File) → Written x p files (written_back files p m from end)
     run_written files = all_written p.settled.entries files p.settled.sorted (λ k v there. there)
 
@@ -197,6 +296,63 @@ module _ (x : Step) (p : Process) (sized : AllSized p.settled) where
 
     pub end_written : ((page : ℕ) → is_page_written_back x page ≡ true) → (files : List File) → Written x p files (all_written_back files p)
     end_written all files = mappings_written all (pages_for p.size) (trapframe_page p.scheme) p.mappings files (omega arith) order.above (λ page from. refl)
+
+    -- a page of a file is a mapping's
+
+    not_of_file : (s : Source) (k n o : ℕ) → is_file s ≡ false → pages_on s k ≡ file n o → ⊥
+    not_of_file zeros k n o e f = absurd cc
+    not_of_file image k n o e f = absurd cc
+    not_of_file (file a b) k n o e f = absurd cc
+
+    past_files : (parts rest : List Region) (page n o : ℕ) (g : Grant) → EachRegion HasNoFile parts → g.source ≡ file n o → Found (parts ++ rest) page ≡ Some g → Found rest page ≡ Some g
+    past_files [] rest page n o g none is e = e
+    past_files (r ∷ rs) rest page n o g none is e = elim (holds_page r page) as (λ t. grant_in (cond t (Some r) (region_at (rs ++ rest) page)) page ≡ Some g → Found rest page ≡ Some g) [
+      | true ↦ λ f. absurd (not_of_file r.source (page - r.first) n o none.0 (ap (λ (z : Grant). z.source) (same_Some _ _ f) ∙ is))
+      | false ↦ λ f. past_files rs rest page n o g none.1 is f
+    ] e
+
+    of_mapping : (page n o : ℕ) (g : Grant) → g.source ≡ file n o → grant p page ≡ Some g → Found p.mappings page ≡ Some g
+    of_mapping page n o g is e = past_files (heap_of p ∷ []) p.mappings page n o g (refl, tt) is (past_files p.parts (heap_of p ∷ p.mappings) page n o g order.sources is e)
+
+    mappings_wrote : ((page : ℕ) → is_page_written_back x page ≡ true) → (n i b : ℕ) (wb : WroteBack x p n i b) (low high : ℕ) (ms : List Region) (files : List File) → pages_for p.size ≤ low → Row 1 low ms high
+        → ((page : ℕ) → low ≤ page → Found p.mappings page ≡ Found ms page) → Found ms (page_of wb.address) ≡ Some wb.grant → i < length (file_bytes files n) → WroteBack x p n i (byte_at (file_bytes (fold (mapping_written_back p) files ms) n) i)
+    mappings_wrote all n i b wb low high [] files base row sub found less = absurd cc
+    mappings_wrote all n i b wb low high (m ∷ ms) files base row sub found less = by (holds_page m (page_of wb.address)) refl
+        (λ e. mappings_wrote all n i b wb (end_of m) high ms (mapping_written_back p files m) (omega (arith, base, start, some)) row.2 others (sym (skipped m ms (page_of wb.address) e) ∙ found) long)
+      where
+        start : low ≤ m.first
+        start = row.0
+
+        some : 1 ≤ m.pages
+        some = row.1
+
+        given : (page : ℕ) → m.first ≤ page → page < end_of m → grant p page ≡ grant_in (Some m) page
+        given page from to = past_heap p order page p.mappings (omega (arith, base, start, from)) ∙ sub page (omega (arith, start, from)) ∙ here m ms page (grind (arith, nat_tests, from, to))
+
+        one : Written x p files (mapping_written_back p files m)
+        one = run_written m m.first (end_of m) given (λ page from to. all page) files
+
+        long : i < length (file_bytes (mapping_written_back p files m) n)
+        long = let same = one.long n in omega (arith, same, less)
+
+        others : (page : ℕ) → end_of m ≤ page → Found p.mappings page ≡ Found ms page
+        others page from = sub page (omega (arith, start, some, from)) ∙ skipped m ms page (grind (arith, nat_tests, from))
+
+        rest : Written x p (mapping_written_back p files m) (fold (mapping_written_back p) (mapping_written_back p files m) ms)
+        rest = mappings_written all (end_of m) high ms (mapping_written_back p files m) (omega (arith, base, start, some)) row.2 others
+
+        between : holds_page m (page_of wb.address) ≡ true → (m.first ≤ page_of wb.address) × (page_of wb.address < end_of m)
+        between e = let t = and_parts (nat_le m.first (page_of wb.address)) (nat_lt (page_of wb.address) (end_of m)) e in (leb-true m.first (page_of wb.address) t.0, ltb-true (page_of wb.address) (end_of m) t.1)
+
+        by : (t : Bool) → holds_page m (page_of wb.address) ≡ t → (holds_page m (page_of wb.address) ≡ false → WroteBack x p n i (byte_at (file_bytes (fold (mapping_written_back p) (mapping_written_back p files m) ms) n) i)) → WroteBack x p n i (byte_at (file_bytes (fold (mapping_written_back p) (mapping_written_back p files m) ms) n) i)
+        by true e next =
+            let inside = between e in
+            stays_written m m.first (end_of m) given (λ page from to. all page) n i b wb inside (mapping_written_back p files m) (fold (mapping_written_back p) (mapping_written_back p files m) ms) rest long
+            (run_wrote m m.first (end_of m) given (λ page from to. all page) n i b wb inside files less)
+        by false e next = next e
+
+    pub end_wrote : ((page : ℕ) → is_page_written_back x page ≡ true) → (files : List File) → IsWritten x p files (all_written_back files p)
+    end_wrote all files = record { goes = λ n i b less wb. mappings_wrote all n i b wb (pages_for p.size) (trapframe_page p.scheme) p.mappings files (omega arith) order.above (λ page from. refl) (of_mapping (page_of wb.address) n wb.offset wb.grant wb.of_file wb.has) less }
 
     around_found : (low high first_page end page : ℕ) (ms : List Region) (m : Region) → first_page ≤ page → page < end → Row 1 low ms high → mapping_around ms first_page end ≡ Some m → (low ≤ page) × (Found ms page ≡ grant_in (Some m) page)
     around_found low high first_page end page [] m from to row e = absurd cc
@@ -220,3 +376,11 @@ module _ (x : Step) (p : Process) (sized : AllSized p.settled) where
     unmap_written m from end go files around = run_written m from end (λ page start stop.
         let k = around_found (pages_for p.size) (trapframe_page p.scheme) from end page p.mappings m start stop order.above around in
         past_heap p order page p.mappings k.0 ∙ k.1) go files
+
+    pub unmap_wrote : (m : Region) (from end : ℕ) → ((page : ℕ) → from ≤ page → page < end → is_page_written_back x page ≡ true) → ((page : ℕ) → is_page_written_back x page ≡ true → (from ≤ page) × (page < end)) → (files : List File)
+        → mapping_around p.mappings from end ≡ Some m → IsWritten x p files (written_back files p m from end)
+    unmap_wrote m from end go only files around = record {
+      goes = λ n i b less wb. run_wrote m from end (λ page start stop.
+          let k = around_found (pages_for p.size) (trapframe_page p.scheme) from end page p.mappings m start stop order.above around in
+          past_heap p order page p.mappings k.0 ∙ k.1) go n i b wb (only (page_of wb.address) wb.goes) files less;
+    }

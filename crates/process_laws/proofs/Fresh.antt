@@ -66,11 +66,11 @@ each_fresh n f same m fresh = record {
 
 -- numbers in a row
 
-record IsRow (first n : ℕ) (m : PageMap Page) : Type 0 where
-  fresh : IsFresh n m
-  above : (page : ℕ) (x : Page) → get m page ≡ Some x → first ≤ x.copy
+pub record IsRow (first n : ℕ) (m : PageMap Page) : Type 0 where
+  pub fresh : IsFresh n m
+  pub above : (page : ℕ) (x : Page) → get m page ≡ Some x → first ≤ x.copy
 
-row_of : (first n : ℕ) (es : List (ℕ × List ℕ)) → n ≡ first + length es → IsRow first n (from_list (numbered first es))
+pub row_of : (first n : ℕ) (es : List (ℕ × List ℕ)) → n ≡ first + length es → IsRow first n (from_list (numbered first es))
 row_of first n [] e = record { fresh = record { below = λ page x e. cc; once = λ a b x y e. cc }; above = λ page x e. cc }
 row_of first n (e ∷ es) is =
     let v : Page = record { bytes = e.1; copy = first; fork_mark = false; stored_mark = false } in

@@ -36,7 +36,7 @@ none_above least low high page (r ∷ rs) row le =
     let out : holds_page r page ≡ false = grind (arith, nat_tests, end, le) in
     skipped r rs page out ∙ none_above least (end_of r) high page rs row.2 le
 
-none_below : (least low high page : ℕ) (rs : List Region) → Row least low rs high → page < low → Found rs page ≡ None
+pub none_below : (least low high page : ℕ) (rs : List Region) → Row least low rs high → page < low → Found rs page ≡ None
 none_below least low high page [] row less = refl
 none_below least low high page (r ∷ rs) row less =
     let start = row.0 in

@@ -4,7 +4,7 @@
 use Rattle.std.proofs.Common.{◌≡◌, ◌≢◌, ◌⊎◌, ◌==◌, ℕ, zero, suc, Bool, true, false, ◌&&◌, inl, inr, refl, sym, ap, subst, ◌∙◌, arith, List, [], ◌∷◌, Option, None, Some, pos}
 use Rattle.std.specs.Prelude.{Err, Ok, option_map, Result, slice_get, slice_set, unwrap_or}
 use Rattle.std.specs.List.{list_any}
-use Rattle.std.proofs.lemmas.Bool.{eqb-true, false≢true}
+use Rattle.std.proofs.lemmas.Bool.{eqb-true}
 use Rattle.std.proofs.lemmas.Option.{slice_get-map}
 use Rattle.process_laws.proofs.Givens.{image_given, image_idle, image_sized, image_unmarked, image_based}
 use Rattle.process_laws.proofs.HeldBytes.{free_there, Puts, set_puts}
@@ -12,14 +12,12 @@ use Rattle.process_laws.proofs.Possible.{stands}
 use Rattle.process_laws.proofs.Running.{has_it, hart_runs, process_runs, step_process, step_reply}
 use Rattle.process_laws.specs.Moments.{slot_at, slot_on}
 use Rattle.process_laws.specs.Pages.{image_grant, image_size, size_after}
-use Rattle.process_laws.specs.Words.{Begins, IsInPhase, IsMade, IsOnHart, is_no_frame_reply}
+use Rattle.process_laws.specs.Words.{Begins, IsInPhase, IsOnHart}
 use Rattle.process_model.specs.Calls.{started, started_as, started_unless, with_image}
-use Rattle.process_model.specs.Frames.{start_need}
 use Rattle.process_model.specs.Harts.{cleaned_at, cleaned_for, cleaned_if, emptied_if, fenced, Hart, is_kernel, is_user, may_switch, next_phase, phase_for}
 use Rattle.process_model.specs.Images.{image_loads, LoadSegment}
 use Rattle.process_model.specs.ImageProcess.{process_of}
 use Rattle.process_model.specs.Process.{Process, without_pending}
-use Rattle.process_model.specs.Service.{is_dry}
 use Rattle.process_model.specs.Stale.{changed_slots, with_stale, with_stale_slots}
 use Rattle.process_model.specs.Steps.{advanced, plain_step, step}
 use Rattle.process_model.specs.World.{always, answers, can_go_on, can_run, free_slot, has_slot, is_unserved_access, Outcome, process_in, with_hart, with_its_process, with_process, World}
@@ -160,16 +158,6 @@ switch_goes w h s p lives apart phase = by phase
     by (inl idle) = goes_in Idle refl idle
     by (inr kernel) = goes_in Kernel refl kernel
 
-pub leave_goes : (w : World) (h : ℕ) → IsInPhase w h Kernel → (slot_on (step w (Switch h None)).world h ≡ None) × IsInPhase (step w (Switch h None)).world h Idle
-leave_goes w h kernel =
-    let k = stands w h Kernel kernel in
-    let can : (may_switch k.hart.phase && can_run w None) ≡ true = rw (k.in_phase) refl in
-    let hart = record k.hart { phase = Idle; slot = None } in
-    let goes = hart_runs w h true (λ hart. may_switch hart.phase && can_run w None) always (λ hart. answers (with_hart w h (record hart { phase = phase_for None; slot = None })) Done) k.hart k.there refl can refl in
-    let at : At (with_hart w h hart) h None Idle = put_at w h k.hart hart k.there in
-    let there = step_at w (Switch h None) h None Idle (subst (λ (o : Outcome). At o.world h None Idle) (sym goes) at) in
-    (there.on, there.is_in)
-
 -- ---- a trap
 
 pub trap_goes : (w : World) (h s : ℕ) (p : Process) → IsOnHart w h s p → IsInPhase w h User → (slot_on (step w (Trap h)).world h ≡ Some s) × IsInPhase (step w (Trap h)).world h Enter0
@@ -219,14 +207,3 @@ module _ (w : World) (image : Image) where
   -- the process that it brings
   pub start_brings : (s : ℕ) → (step w (Start image)).reply ≡ Started s → Starts w image s (step w (Start image)).reply (step w (Start image)).world
   start_brings s e = in_slot (step w (Start image)).world (step w (Start image)).reply s e (free_slot w) refl (sym (step_reply w (Start image)) ∙ e) (step_process w (Start image))
-
-  -- it is made
-  pub start_goes : (s : ℕ) (ls : List LoadSegment) → free_slot w ≡ Some s → image_loads w.scheme image ≡ Ok ls → is_no_frame_reply (step w (Start image)).reply ≡ false → IsMade (step w (Start image)).reply
-  start_goes s ls free loads quiet = made (is_dry w (start_need w.scheme ls)) is
-    where
-      is : plain_step w (Start image) ≡ started_unless w s ls (is_dry w (start_need w.scheme ls))
-      is = ap (λ r. started w r (free_slot w)) loads ∙ ap (started w (Ok ls)) free
-
-      made : (b : Bool) → plain_step w (Start image) ≡ started_unless w s ls b → IsMade (step w (Start image)).reply
-      made true e = absurd (false≢true (sym quiet ∙ ap is_no_frame_reply (step_reply w (Start image) ∙ ap (λ (o : Outcome). o.reply) e)))
-      made false e = λ r f. absurd (let no = sym f ∙ step_reply w (Start image) ∙ ap (λ (o : Outcome). o.reply) e in cc)

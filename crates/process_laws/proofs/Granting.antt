@@ -45,7 +45,7 @@ region_if : (z : Scheme) (rs : List Region) (kind : Access) (address : ℕ) (o :
 region_if z rs kind address None f e = grind (arith, common_steps)
 region_if z rs kind address (Some r) f e = (r, refl, right_there z rs kind address r f e)
 
-region_there : (z : Scheme) (rs : List Region) (kind : Access) (address : ℕ) → copy_rule z rs kind address ≡ None → (r : Region) × (region_at rs (page_of address) ≡ Some r) × (has_right r kind ≡ true)
+pub region_there : (z : Scheme) (rs : List Region) (kind : Access) (address : ℕ) → copy_rule z rs kind address ≡ None → (r : Region) × (region_at rs (page_of address) ≡ Some r) × (has_right r kind ≡ true)
 region_there z rs kind address e = region_if z rs kind address _ refl e
 
 pub granted_by : (p : Process) (a : UserAccess) → first_rule p.scheme (regions p) a.access a.address a.width ≡ None → IsGranted p a

@@ -1,18 +1,18 @@
 -- The proof of the headline theorem: each step of every run since boot, with the model's reply, meets all its parts, users'
 -- accesses, kernel copies, frames, bytes, other processes, own steps and steps made; from the lemmas of the other files.
-use Rattle.std.proofs.Common.{false, ◌≡◌, ◌≢◌, ◌⊎◌, length, ◌+◌, ◌/◌, ◌%◌, ℕ, true, refl, sym, subst, ◌∙◌, Option, None, Some, List, [], ◌∷◌, ◌++◌, take, Bor, ◌≤◌}
-use Rattle.std.specs.Prelude.{Err, slice_get}
-use Rattle.process_laws.proofs.CopyAlone.{in_alone, out_alone}
+use Rattle.std.proofs.Common.{ap, false, ◌≡◌, ◌≢◌, ◌⊎◌, length, ◌+◌, ℕ, true, refl, sym, subst, ◌∙◌, Option, None, Some, List, [], ◌∷◌, ◌++◌, take, Bor}
+use Rattle.std.specs.Prelude.{nat_lt, option_map}
+use Rattle.process_laws.proofs.CopyAlone.{in_lacks, out_lacks}
 use Rattle.process_laws.proofs.CopyFronts.{in_front_world, out_front_world}
 use Rattle.process_laws.proofs.CopyFrames.{copies_in_spend, copies_out_spend, New, are_new}
 use Rattle.process_laws.proofs.Copying.{copies_in, copies_out, in_ran, out_ran}
-use Rattle.process_laws.proofs.Counting.{forks, serves, Spends, starts}
+use Rattle.process_laws.proofs.Counting.{Spends}
 use Rattle.process_laws.proofs.Earlier.{granted_is_denied_by_none}
 use Rattle.process_laws.proofs.EveryChange.{always_holds, Holds}
-use Rattle.process_laws.proofs.Execs.{execs}
 use Rattle.process_laws.proofs.Faults.{faults}
 use Rattle.process_laws.proofs.Fresh.{fresh_is_kept}
-use Rattle.process_laws.proofs.Going.{leave_goes, next_goes, start_brings, start_goes, switch_goes, trap_goes}
+use Rattle.process_laws.proofs.Going.{next_goes, start_brings, switch_goes, trap_goes}
+use Rattle.process_laws.proofs.SharedFrames.{always_shares, lone_of, shared_page, Shares}
 use Rattle.process_laws.proofs.Granting.{always_sound, IsSound, sound_grants}
 use Rattle.process_laws.proofs.Kept.{step_keeps}
 use Rattle.process_laws.proofs.KeptFrames.{keeps_free}
@@ -20,41 +20,40 @@ use Rattle.process_laws.proofs.KnownRuns.{copy_holds, has_latest, fetch_reads, H
 use Rattle.process_laws.proofs.OnHarts.{access_good}
 use Rattle.process_laws.proofs.Others.{kept_by}
 use Rattle.process_laws.proofs.HeldBytes.{Sized}
-use Rattle.process_laws.proofs.CallsMade.{exec_goes, exit_goes, fork_goes}
+use Rattle.process_laws.proofs.CallReplies.{exec_replies, fork_replies, mmap_replies, munmap_replies, sbrk_replies, start_replies}
+use Rattle.process_laws.proofs.HartReplies.{fill_counts, is_made, is_refused}
 use Rattle.process_laws.proofs.Children.{child_is}
 use Rattle.process_laws.proofs.OneHart.{always_one, one_after, OneEach}
-use Rattle.process_laws.proofs.OwnFiles.{own_files}
+use Rattle.process_laws.proofs.OwnFiles.{own_files, own_written}
+use Rattle.process_laws.proofs.OwnFrames.{child_frames, kept_frames, one_copy, replaced_frames, started_frames}
 use Rattle.process_laws.proofs.OwnSteps.{becomes_as, Own, owns, told_as}
-use Rattle.process_laws.proofs.Proper.{access_wide, call_quiet, copy_few, exit_tells, fetch_tells, fetches, map_tells, next_quiet, step_in_phase, switch_off, switch_was}
-use Rattle.process_laws.proofs.Possible.{access_made, calls_possible, copy_in_made, copy_out_made}
+use Rattle.process_laws.proofs.Proper.{exit_tells, fetch_tells, next_quiet, switch_off, switch_phase, switch_was}
 use Rattle.process_laws.proofs.Refused.{refused_same}
-use Rattle.process_laws.proofs.Replies.{bad_exec, bad_start, served_waits, serves_it, step_hosted}
+use Rattle.process_laws.proofs.Replies.{step_hosted}
 use Rattle.process_laws.proofs.Running.{step_reply}
 use Rattle.process_laws.proofs.SameScheme.{always_scheme}
 use Rattle.process_laws.proofs.StepReplies.{step_suits}
-use Rattle.process_laws.proofs.QuietSteps.{untold}
+use Rattle.process_laws.proofs.NeedSpends.{exec_needs, fork_needs, says_only, serve_needs, start_needs}
 use Rattle.process_laws.proofs.Users.{ends}
 use Rattle.process_laws.proofs.Users as users
 use Rattle.process_laws.specs.Headline as headline
-use Rattle.process_laws.specs.Headline.{AllHold, AnswersUser, Copies, CopiesForKernel, CountsFrames, with_frames, Headline, IsDry, ChangesOwn, LeavesOthers, ReadsLatest}
+use Rattle.process_laws.specs.Headline.{AllHold, AnswersUser, Copies, CopiesForKernel, CountsFrames, Headline, HoldsFrames, ChangesOwn, LeavesOthers, ReadsLatest}
+use Rattle.process_laws.specs.FrameNeeds.{frames_for_child, frames_for_image, frames_for_page, HasNewFrames, LacksFrames, SharesFrames}
+use Rattle.process_laws.specs.CallReplies.{ExecReply, ForkReply, MapReply, SizeReply, StartReply, UnmapReply}
 use Rattle.process_laws.specs.MadeSteps.{MakesOwn, MakesSteps}
 use Rattle.process_laws.specs.Latest.{AreLatest, bytes_in, IsLatest}
 use Rattle.process_laws.specs.Moments.{Moment, moment_of, moments_from, slot_on}
-use Rattle.process_laws.specs.Words.{UserAccess, IsAccessStep, Begins, copied, CopiesBytes, Forbids, in_memory, IsChild, IsInPhase, IsMade, IsOnHart, IsResident, LoadsImage, hart_of_step, MayCall, stopped_by, takes_frames, is_no_frame_reply, Written}
-use Rattle.process_model.specs.Copies.{longest_copy}
-use Rattle.process_model.specs.Files.{File, is_writable}
-use Rattle.process_model.specs.Images.{image_loads}
-use Rattle.process_model.specs.Mappings.{is_bad_mapping}
+use Rattle.process_laws.specs.Words.{UserAccess, IsAccessStep, Begins, copied, CopiesBytes, Forbids, in_memory, IsChild, IsInPhase, IsMade, IsOnHart, IsResident, keys_on, hart_of_step, stopped_by, is_no_frame_reply, with_pending_access, IsWritten, writes_back, Written}
+use Rattle.process_model.specs.Files.{File}
 use Rattle.process_model.specs.Process.{Process, regions}
 use Rattle.process_model.specs.Steps.{plain_step, run, step}
-use Rattle.process_model.specs.World.{booted, free_slot, Outcome, process_in, World}
+use Rattle.process_model.specs.World.{booted, free, Outcome, process_in, without_process, World}
 use Rattle.process_model.specs.declared.config.Config.{Config}
-use Rattle.process_model.specs.declared.image.BadImage.{BadImage}
-use Rattle.process_model.specs.declared.image.Image.{Image}
 use Rattle.process_model.specs.declared.phase.Phase.TheVariants.{Enter0, Idle, Kernel}
-use Rattle.process_model.specs.declared.step.Reply.TheVariants.{Done, Ended, Exited, Forked, InFrame, MappedAt, Ready, Started, Value}
+use Rattle.process_model.specs.declared.step.Reply.TheVariants.{Done, Ended, Exited, Filled, Forked, InFrame, Ready, Started, Value}
 use Rattle.process_model.specs.declared.step.Step.{Step}
-use Rattle.process_model.specs.declared.step.Step.TheVariants.{CopyIn, CopyOut, Exec, Exit, Fork, Next, Serve, Start, Store, Switch}
+use Rattle.process_model.specs.declared.step.Step.TheVariants.{CopyIn, CopyOut, Fork, Next, Store, Switch}
+use Rattle.sv39_entry.specs.Address.{page_of}
 use Rattle.sv39_entry.specs.declared.access.Access.TheVariants as access
 use Rattle.sv39_entry.specs.declared.rule.Rule.{Rule}
 use Rattle.sv39_entry.specs.declared.rule.Rule.TheVariants.{NoFrame}
@@ -78,19 +77,20 @@ module _ (w : World) (x : Step) where
     }
 
     own_steps : (h s : ℕ) (p : Process) → IsOnHart w h s p → hart_of_step x ≡ Some h → ChangesOwn m h s p
-    own_steps h s p on makes = by (owns w h s p on (sound s p on.lives) x makes) (own_files w h s p on (sound s p on.lives) (sized.pages s p on.lives) x makes)
+    own_steps h s p on makes = by (owns w h s p on (sound s p on.lives) x makes) (own_files w h s p on (sound s p on.lives) (sized.pages s p on.lives) x makes) (own_written w h s p on (sound s p on.lives) (sized.pages s p on.lives) x makes)
       where
-        children : (t : ℕ) → x ≡ Fork h → (step w x).reply ≡ Forked t → (free_slot w ≡ Some t) × (c : Process) × (process_in (step w x).world t ≡ Some c) × IsChild p c
-        children t is = subst (λ (y : Step). (step w y).reply ≡ Forked t → (free_slot w ≡ Some t) × (c : Process) × (process_in (step w y).world t ≡ Some c) × IsChild p c) (sym is) (child_is w h s p on t)
+        children : (t : ℕ) → x ≡ Fork h → (step w x).reply ≡ Forked t → (c : Process) × (process_in (step w x).world t ≡ Some c) × IsChild p c
+        children t is = subst (λ (y : Step). (step w y).reply ≡ Forked t → (c : Process) × (process_in (step w y).world t ≡ Some c) × IsChild p c) (sym is) (λ e. let k = child_is w h s p on t e in (k.1, k.2, k.3))
 
-        by : Own w h s x p (step w x) → Written x p w.files ((step w x).world).files → ChangesOwn m h s p
-        by (Own.alive q e lives k) written = record {
+        by : Own w h s x p (step w x) → Written x p w.files ((step w x).world).files → (writes_back x (step w x).reply ≡ true → IsWritten x p w.files ((step w x).world).files) → ChangesOwn m h s p
+        by (Own.alive q e lives k) written all = record {
           files = written;
+          written = all;
           lives = λ _. (q, e, becomes_as (told_as w x (step w x).reply) m h p q refl refl refl k);
           gone = λ is. absurd (let no : true ≡ false = sym is ∙ lives in cc);
           child = children;
         }
-        by (Own.gone e is at _) written = record { files = written; lives = λ no. absurd (let both : true ≡ false = sym is ∙ no in cc); gone = λ _. (e, at.on, at.is_in); child = children }
+        by (Own.gone e is at _) written all = record { files = written; written = all; lives = λ no. absurd (let both : true ≡ false = sym is ∙ no in cc); gone = λ _. (e, at.on, at.is_in); child = children }
 
   module _ (holds : Holds New w) where
     module _ (h s address : ℕ) (p : Process) (on : IsOnHart w h s p) (made : IsMade (step w x).reply) where
@@ -98,72 +98,56 @@ module _ (w : World) (x : Step) where
       made_as y is = subst (λ (z : Step). IsMade (step w z).reply) is made
 
       abbrev In : ℕ → Step → Type 0
-      In n y = let o = step w y in let k = copied o.reply in Copies p access.Load address n k (step o.world (CopyIn h (address + k) 1)).reply (stopped_by o.reply)
+      In n y = let o = step w y in let k = copied o.reply in Copies p access.Load address n k (LacksFrames o.world s access.Load (address + k)) (stopped_by o.reply)
 
-      abbrev Out : Bor (List ℕ) → Bor (List ℕ) → Step → Type 0
-      Out bytes one y = let o = step w y in let k = copied o.reply in Copies p access.Store address (length bytes.now) k (step o.world (CopyOut h (address + k) one)).reply (stopped_by o.reply)
+      abbrev Out : Bor (List ℕ) → Step → Type 0
+      Out bytes y = let o = step w y in let k = copied o.reply in Copies p access.Store address (length bytes.now) k (LacksFrames o.world s access.Store (address + k)) (stopped_by o.reply)
 
-      copies_for_kernel : CopiesForKernel m h address (copied (step w x).reply) p
+      copies_for_kernel : CopiesForKernel m h s address (copied (step w x).reply) p
       copies_for_kernel = record {
         from = λ n is. subst (In n) (sym is)
-            (let ran = in_ran w h s address n p on (made_as (CopyIn h address n) is) in copies_in w h s address n p (λ k. (step (step w (CopyIn h address n)).world (CopyIn h (address + k) 1)).reply) ran (in_alone w h s p on holds address n ran));
+            (let ran = in_ran w h s address n p on (made_as (CopyIn h address n) is) in copies_in w h s address n p (λ k. LacksFrames (step w (CopyIn h address n)).world s access.Load (address + k)) ran (in_lacks w h s p on holds address n ran));
         from_front = λ n is. subst (λ (y : Step). (step w y).world ≡ (step w (CopyIn h address (copied (step w y).reply))).world) (sym is) (in_front_world w h s p on address n (in_ran w h s address n p on (made_as (CopyIn h address n) is)));
-        to = λ bytes one is long. subst (Out bytes one) (sym is)
+        to = λ bytes is. subst (Out bytes) (sym is)
             (let ran = out_ran w h s address bytes p on (made_as (CopyOut h address bytes) is) in
-            copies_out w h s address bytes p (λ k. (step (step w (CopyOut h address bytes)).world (CopyOut h (address + k) one)).reply) ran (out_alone w h s p on holds address bytes one long ran));
+            copies_out w h s address bytes p (λ k. LacksFrames (step w (CopyOut h address bytes)).world s access.Store (address + k)) ran (out_lacks w h s p on holds address bytes ran));
         to_front = λ bytes front is. subst (λ (y : Step). front.now ≡ take (copied (step w y).reply) bytes.now → (step w y).world ≡ (step w (CopyOut h address front)).world) (sym is)
             (out_front_world w h s p on address bytes front (out_ran w h s address bytes p on (made_as (CopyOut h address bytes) is)));
       }
 
   leaves_others : OneEach w → ((s : ℕ) (q : Process) → process_in m.after s ≡ Some q → q.scheme ≡ (m.after).scheme) → LeavesOthers m
   leaves_others one schemes =
-      let k = step_keeps w x in
+      let keeps = step_keeps w x in
       record {
         kept = λ s q apart lives. kept_by s q w x apart lives;
         refused = λ e is. refused_same w x e is;
-        empty = k.empty;
-        harts = k.harts;
+        empty = keeps.empty;
+        harts = keeps.harts;
+        buffers = λ k hart made. keeps.buffers made k hart;
+        filled = λ h address n is. subst (λ (y : Step). (step w y).reply ≡ Filled n → option_map length (keys_on (step w y).world h) ≡ Some (n + 1)) (sym is) (fill_counts w h address n);
         one_hart = one_after w x one;
-        files = k.files;
+        files = keeps.files;
         memory = (step_suits w x).memory;
-        slots = k.places;
+        slots = keeps.places;
         scheme = (step_suits w x).scheme;
+        policy = (step_suits w x).policy;
         schemes = schemes;
       }
 
-  refuses_bad : (image : Image) (e : BadImage) (y : Step) → LoadsImage image y → image_loads w.scheme image ≡ Err e → IsMade (step w y).reply → ⊥
-  refuses_bad image e y LoadsImage.start bad made = bad_start w image e bad made
-  refuses_bad image e y (LoadsImage.exec {h}) bad made = bad_exec w h image e bad made
-
-  module _ (h s : ℕ) (p : Process) (on : IsOnHart w h s p) where
-    copies_made : (n : ℕ) (y : Step) → MayCall w h p → CopiesBytes h n y → n ≤ longest_copy → IsMade (step w y).reply
-    copies_made n y k (CopiesBytes.copy_in {address}) few = copy_in_made w h s p on k.quiet k.in_kernel address n few
-    copies_made n y k (CopiesBytes.copy_out {address} {bytes}) few = copy_out_made w h s p on k.quiet k.in_kernel address bytes few
-
-    frames_there : (y : Step) → x ≡ y → is_no_frame_reply (step w x).reply ≡ false → is_no_frame_reply (step w y).reply ≡ false
-    frames_there y is = subst (λ (z : Step). is_no_frame_reply (step w z).reply ≡ false) is
-
-    made_if : (y : Step) → x ≡ y → IsMade (step w y).reply → IsMade (step w x).reply
-    made_if y is = subst (λ (z : Step). IsMade (step w z).reply) (sym is)
-
+  module _ (sound : (s : ℕ) (p : Process) → process_in w s ≡ Some p → IsSound p) (h s : ℕ) (p : Process) (on : IsOnHart w h s p) where
     made_as_one : (y : Step) → x ≡ y → IsMade (step w x).reply → IsMade (step w y).reply
     made_as_one y is = subst (λ (z : Step). IsMade (step w z).reply) is
 
     makes_own : MakesOwn m h s p
     makes_own = record {
-      next = λ phase after from next quiet is. subst (λ (y : Step). IsOnHart (step w y).world h s p × IsInPhase (step w y).world h after) (sym is) (next_goes w h s p phase after on from next quiet);
-      only_served = λ is kernel made. next_quiet w h s p on kernel (made_as_one (Next h) is made);
+      next = λ phase after is made from next. subst (λ (y : Step). IsOnHart (step w y).world h s p × IsInPhase (step w y).world h after) (sym is)
+          (next_goes w h s p phase after on from next (λ kernel. next_quiet w h s p on (from ∙ ap Some kernel) (made_as_one (Next h) is made)));
       trap = λ user is. subst (λ (y : Step). (slot_on (step w y).world h ≡ Some s) × IsInPhase (step w y).world h Enter0) (sym is) (trap_goes w h s p on user);
-      leave = λ kernel is. subst (λ (y : Step). (slot_on (step w y).world h ≡ None) × IsInPhase (step w y).world h Idle) (sym is) (leave_goes w h kernel);
-      access = λ a user asks wide. access_made w h s p a x on user asks wide;
-      service = λ kernel waits is. made_if (Serve h) is (serves_it w h s p on kernel waits);
-      only_waiting = λ is made. served_waits w h s p on (made_as_one (Serve h) is made);
-      fork = λ t k is free calm. made_if (Fork h) is (fork_goes w h s t p on k free (frames_there (Fork h) is calm));
-      exec = λ image ls k is loads calm. made_if (Exec h image) is (exec_goes w h s p image ls on k loads (frames_there (Exec h image) is calm));
-      copy = λ n k copies few. copies_made n x k copies few;
-      exit = λ status k is. made_if (Exit h status) is (exit_goes w h s p status on k);
-      call = λ phase k calls. calls_possible w h s p on k.quiet k.in_kernel x calls phase;
-      only_quiet = λ calls made. call_quiet w h s p on x calls made;
+      fork = λ k is. subst (λ (y : Step). ForkReply w (step w y).reply) (sym is) (fork_replies w h s p on k);
+      exec = λ image k is. subst (λ (y : Step). ExecReply w image (step w y).reply) (sym is) (exec_replies w h s p on k image);
+      sbrk = λ delta k is. subst (λ (y : Step). SizeReply p delta (step w y).reply) (sym is) (sbrk_replies w h s p on k (sound s p on.lives).ordered delta);
+      mmap = λ len protection flags n k is. subst (λ (y : Step). MapReply w.files p len protection flags n (step w y).reply) (sym is) (mmap_replies w h s p on k len protection flags n);
+      munmap = λ address len k is. subst (λ (y : Step). UnmapReply p address len (step w y).reply) (sym is) (munmap_replies w h s p on k address len);
     }
 
   as_made : (y : Step) → x ≡ y → IsMade (step w x).reply → IsMade (step w y).reply
@@ -174,43 +158,48 @@ module _ (w : World) (x : Step) where
     replies = (step_suits w x).replies;
     exited = λ h status code is. subst (λ (y : Step). (step w y).reply ≡ Exited code → code ≡ status) (sym is) (exit_tells w h status code);
     in_frame = λ h offset n via is. subst (λ (y : Step). (step w y).reply ≡ InFrame n → n ≡ 0) (sym is) (fetch_tells w h offset n via);
-    mapped = λ h len protection flags n at is. subst (λ (y : Step). (step w y).reply ≡ MappedAt at → (at % 4096 ≡ 0) × (is_bad_mapping w.files len protection flags n ≡ false) × (flags ≡ 1 → protection / 2 % 2 ≡ 1 → is_writable (slice_get w.files n) ≡ true)) (sym is) (map_tells w len protection flags n at h);
-    in_phase = λ h e made. step_in_phase w x h e made;
-    wide = λ h a via asks made. access_wide w h a via x asks made;
-    few = λ h n copies made. copy_few w h n x copies made;
+    refused = λ h e on applies. is_refused w x h e on applies;
+    made = λ h on none own host. is_made w x h on none own host;
     hosted = λ h e made. step_hosted w h x e made;
-    start = λ image s ls free loads is quiet. subst (λ (y : Step). IsMade (step w y).reply) (sym is) (start_goes w image s ls free loads (subst (λ (y : Step). is_no_frame_reply (step w y).reply ≡ false) is quiet));
-    started = λ image s is. subst (λ (y : Step). (step w y).reply ≡ Started s → (free_slot w ≡ Some s) × (p : Process) × (process_in (step w y).world s ≡ Some p) × Begins (moment_of w y) p) (sym is) (start_brings w image s);
-    bad_image = λ image e is bad made. refuses_bad image e x is bad made;
-    only_off = λ h s is made. switch_was w h s (as_made (Switch h (Some s)) is made);
+    start = λ image is. subst (λ (y : Step). StartReply w image (step w y).reply) (sym is) (start_replies w image);
+    started = λ image s is. subst (λ (y : Step). (step w y).reply ≡ Started s → (p : Process) × (process_in (step w y).world s ≡ Some p) × Begins (moment_of w y) p) (sym is) (λ e. let k = start_brings w image s e in (k.1, k.2, k.3));
+    switch = λ h s p is made lives. let goes = as_made (Switch h (Some s)) is made in subst (λ (y : Step). IsOnHart (step w y).world h s p × IsInPhase (step w y).world h Kernel) (sym is)
+        (switch_goes w h s p lives (switch_was w h s goes).2 (switch_phase w h s goes));
     left = λ h is made. subst (λ (y : Step). (slot_on (step w y).world h ≡ None) × IsInPhase (step w y).world h Idle) (sym is) (switch_off w h (as_made (Switch h None) is made));
-    trampoline = λ h offset phase in_phase runs whole low is. subst (λ (y : Step). IsMade (step w y).reply) (sym is) (fetches w h offset phase in_phase runs whole low);
-    switch = λ h s p lives apart phase is. subst (λ (y : Step). IsOnHart (step w y).world h s p × IsInPhase (step w y).world h Kernel) (sym is) (switch_goes w h s p lives apart phase);
   }
 
   -- ---- frames
 
-  module _ (holds : Holds New w) where
+  module _ (holds : Holds New w) (sound : (s : ℕ) (p : Process) → process_in w s ≡ Some p → IsSound p) where
     abbrev Spending : Step → Type 0
     Spending y = (n : ℕ) × ((frames : ℕ) → Spends (in_memory w frames) (step (in_memory w frames) y) n)
 
-    spending : (y : Step) → takes_frames y ≡ true → Spending y
-    spending (Start image) e = starts w (are_new w holds) image
-    spending (Fork h) e = forks w (are_new w holds) h
-    spending (Serve h) e = serves w (are_new w holds) h
-    spending (CopyIn h address n) e = copies_in_spend w holds h address n
-    spending (CopyOut h address bytes) e = copies_out_spend w holds h address bytes
-    spending _ e = absurd cc
+    copy_spending : (h k : ℕ) (y : Step) → CopiesBytes h k y → Spending y
+    copy_spending h k y (CopiesBytes.copy_in {address} {n}) = copies_in_spend w holds h address n
+    copy_spending h k y (CopiesBytes.copy_out {address} {bytes}) = copies_out_spend w holds h address bytes
 
     counts_frames : CountsFrames m
     counts_frames = record {
-      takes = λ e. let t = spending x e in (t.0, t.1 w.frames, t.1);
-      replaces = λ h image is. subst (λ (y : Step). Replaces y image) (sym is) (let t = execs w image h in (t.0, (t.1 w.frames).0, λ frames. (t.1 frames).0, (t.1 w.frames).1));
-      no_other = λ e not. (untold w x e not, keeps_free w x e not);
-    } where
-      Replaces : Step → Image → Type 0
-      Replaces y image = (n : ℕ) × IsDry (moment_of w y) n × ((frames : ℕ) → IsDry (with_frames (moment_of w y) frames) n)
-          × ((step w y).reply ≡ Done → (u : World) (s : ℕ) → u.scheme ≡ w.scheme → free_slot u ≡ Some s → IsDry (moment_of u (Start image)) (n + 1))
+      start = λ image s ls to loads is. subst (λ (y : Step). Spends w (step w y) (1 + frames_for_image w.scheme ls)) (sym is) (start_needs w (are_new w holds) image s ls to loads);
+      exec = λ h s p image ls on k loads is. subst (λ (y : Step). (is_no_frame_reply (step w y).reply ≡ nat_lt (free w) (frames_for_image w.scheme ls)) × ((step w y).reply ≡ Done → free (step w y).world + (1 + frames_for_image w.scheme ls) ≡ free (without_process w s))) (sym is)
+          (exec_needs w (are_new w holds) h s p on image ls k loads);
+      fork = λ h s t p on k to is. subst (λ (y : Step). Spends w (step w y) (frames_for_child p)) (sym is) (fork_needs w (are_new w holds) h s p on t k to);
+      serve = λ h s p a t g. subst (λ (y : Step). Spends w (step w y) (frames_for_page w s p a.access (page_of a.address))) (sym t.serves)
+          (serve_needs w (are_new w holds) h s p a (sound s (with_pending_access p a) t.on.lives) t.on (subst (λ (y : Step). IsMade (step w y).reply) t.serves t.made) g);
+      copy = λ h k copies. let t = copy_spending h k x copies in (t.0, t.1 w.frames, t.1);
+      only = says_only w x;
+      no_other = keeps_free w x;
+    }
+
+    holds_frames : Shares w → Holds New m.after → Shares m.after → HoldsFrames m
+    holds_frames f later shares = record {
+      once = one_copy m.after (are_new m.after later);
+      shared = shared_page m.after shares;
+      started = λ image s p is. subst (λ (y : Step). (step w y).reply ≡ Started s → process_in (step w y).world s ≡ Some p → HasNewFrames w p) (sym is) (started_frames w (are_new w holds) s p image);
+      replaced = λ h s p q image on is. subst (λ (y : Step). (step w y).reply ≡ Done → process_in (step w y).world s ≡ Some q → HasNewFrames w q) (sym is) (replaced_frames w h s p on (lone_of w s p on.lives f) (are_new w holds) image q);
+      child = λ h s t p c on is. subst (λ (y : Step). (step w y).reply ≡ Forked t → process_in (step w y).world t ≡ Some c → SharesFrames p c) (sym is) (child_frames w h s p on (lone_of w s p on.lives f) t c);
+      kept = λ h s p q on makes not there. kept_frames w h s p on (lone_of w s p on.lives f) (are_new w holds) x q makes not there;
+    }
 
   -- ---- bytes
 
@@ -255,11 +244,13 @@ module _ (c : Config) (files : List File) where
       record {
         users = answers_user w x (latest_held c files done).sized (always_sound c files done);
         copies = copies_for_kernel w x (always_holds New c files done (fresh_is_kept c.scheme));
-        frames = counts_frames w x (always_holds New c files done (fresh_is_kept c.scheme));
+        frames = counts_frames w x (always_holds New c files done (fresh_is_kept c.scheme)) (always_sound c files done);
+        held = holds_frames w x (always_holds New c files done (fresh_is_kept c.scheme)) (always_sound c files done) (always_shares c files done)
+            (subst (λ (v : World). Holds New v) (run_one_more done (booted c files) x) (always_holds New c files (done ++ x ∷ []) (fresh_is_kept c.scheme))) (subst Shares (run_one_more done (booted c files) x) (always_shares c files (done ++ x ∷ [])));
         bytes = reads_latest w x (past_of done) (latest_held c files done);
         others = leaves_others w x (always_one c files done) (subst SameSchemes (run_one_more done (booted c files) x) (always_scheme c files (done ++ x ∷ [])).processes);
         own = own_steps w x (latest_held c files done).sized (always_sound c files done);
-        made_own = makes_own w x;
+        made_own = makes_own w x (always_sound c files done);
         made = makes_steps w x;
       }
 

@@ -68,7 +68,7 @@ pub becomes_as : (m n : Moment) (h : ℕ) (p q : Process) → (n.before).scheme 
 becomes_as m n h p q scheme step reply k =
     let access_outcome = subst (λ r. Becomes (record { before = m.before; step = m.step; reply = r; after = m.after }) h p q) (sym reply) k in
     let j = subst (λ x. Becomes (record { before = m.before; step = x; reply = n.reply; after = m.after }) h p q) (sym step) access_outcome in
-    record { waits = j.waits; stays = j.stays; remapped = λ page inside. rw scheme (j.remapped page inside); vacant = j.vacant; below = j.below; forked = j.forked; unforked = j.unforked; base = j.base; stored = j.stored; cleared = j.cleared; size = rw scheme j.size; old_size = j.old_size }
+    record { waits = j.waits; stays = j.stays; remapped = λ page inside. rw scheme (j.remapped page inside); vacant = j.vacant; below = j.below; forked = j.forked; unforked = j.unforked; base = j.base; new_base = j.new_base; stored = j.stored; cleared = j.cleared; size = rw scheme j.size }
 
 -- marks change no file
 
@@ -113,11 +113,11 @@ module _ (w : World) (h s : ℕ) (p : Process) (on : IsOnHart w h s p) (x : Step
     below = λ page e. absurd (let no : true ≡ false = sym e ∙ none page in cc);
     forked = λ other. f.forked;
     unforked = λ page out. f.kept page;
-    base = inl f.base;
+    base = λ other. f.base;
+    new_base = λ image e is. absurd (let no : true ≡ false = sym (ap (λ y. is_remapped y r 0) e ∙ ap (λ t. is_remapped (step_of.Exec h image) t 0) is) ∙ none 0 in cc);
     stored = f.anew;
     cleared = λ image e is. absurd (let no : true ≡ false = sym (ap (λ y. is_remapped y r 0) e ∙ ap (λ t. is_remapped (step_of.Exec h image) t 0) is) ∙ none 0 in cc);
     size = ap pos f.size ∙ sym same;
-    old_size = λ delta n e is. absurd (calm n is);
   }
 
   -- no page is remapped, and the size stays
@@ -239,12 +239,12 @@ module _ (w : World) (h s : ℕ) (p : Process) (on : IsOnHart w h s p) where
         vacant = λ page inside other. resized_vacant p sound.ordered page (wanted_size p delta) none inside;
         below = λ page inside. resized_base p sound.ordered page (wanted_size p delta) none inside;
         unforked = λ page out e. inl (mark_at (λ z. z.fork_mark) (get (without_pages p (pages_for size) (pages_for p.size)).settled page) (get p.settled page) (resized_same p size page out).settled ∙ e);
-        base = inl refl;
+        base = λ other. refl;
+        new_base = λ image e is. absurd cc;
         forked = λ other page. released_mark (λ z. z.fork_mark) p (pages_for size) (pages_for p.size) page;
         stored = λ page e. inl (released_mark (λ z. z.stored_mark) p (pages_for size) (pages_for p.size) page e);
         cleared = λ image e is. absurd cc;
         size = resized_size p sound.ordered 0 (wanted_size p delta) none;
-        old_size = λ other n e is. cc;
       })
 
   sbrk_fate : IsSound p → (delta : ℤ) → Own w h s (step_of.Sbrk h delta) p (resized_to w s p (sbrk_result p delta))
@@ -269,12 +269,12 @@ module _ (w : World) (h s : ℕ) (p : Process) (on : IsOnHart w h s p) where
         vacant = λ page inside other. inl (mapped_vacant p sound.ordered page m (place_fits p (pages_for len) first at) (at_first page inside));
         below = λ page inside. mapped_above p sound.ordered page m (place_fits p (pages_for len) first at) (at_first page inside);
         unforked = λ page out e. inl e;
-        base = inl refl;
+        base = λ other. refl;
+        new_base = λ image e is. absurd cc;
         forked = λ other page e. e;
         stored = λ page e. inl e;
         cleared = λ image e is. absurd cc;
         size = refl;
-        old_size = λ delta n e is. absurd cc;
       })
 
   mmap_fate : IsSound p → (len protection flags n : ℕ) → Own w h s (step_of.Mmap h len protection flags n) p (mapped_to w s (mapped w.files p len protection flags n))
@@ -299,12 +299,12 @@ module _ (w : World) (h s : ℕ) (p : Process) (on : IsOnHart w h s p) where
       vacant = λ page inside other. inr (unmapped_given p sound.ordered page first end inside m environment_of);
       below = λ page inside. unmapped_above p sound.ordered page first end inside m environment_of;
       unforked = λ page out e. inl (mark_at (λ z. z.fork_mark) (get (without_pages p first end).settled page) (get p.settled page) (unmapped_same p m (pages_for p.size) (trapframe_page p.scheme) first end page (omega arith) out (sound.ordered).above environment_of).settled ∙ e);
-      base = inl refl;
+      base = λ other. refl;
+      new_base = λ image e is. absurd cc;
       forked = λ other page. released_mark (λ z. z.fork_mark) p first end page;
       stored = λ page e. inl (released_mark (λ z. z.stored_mark) p first end page e);
       cleared = λ image e is. absurd cc;
       size = refl;
-      old_size = λ delta n e is. absurd cc;
     })
 
     in_fate_of : (o : Option Region) → mapping_around p.mappings first end ≡ o → Own w h s (step_of.Munmap h address len) p (unmapped_to w s (unmapped_in w.files p first end o))
@@ -328,12 +328,12 @@ module _ (w : World) (h s : ℕ) (p : Process) (on : IsOnHart w h s p) where
     vacant = λ page inside other. absurd (other image refl);
     below = λ page inside. refl;
     unforked = λ page out. absurd cc;
-    base = inr (image, refl, image_based w.scheme w.counter ls);
+    base = λ other. absurd (other image refl);
+    new_base = λ other e is. image_based w.scheme w.counter ls;
     forked = λ other page e. absurd (let no : true ≡ false = sym e ∙ (image_unmarked w.scheme w.counter ls page).0 in cc);
     stored = λ page e. absurd (let no : true ≡ false = sym e ∙ (image_unmarked w.scheme w.counter ls page).1 in cc);
     cleared = λ other e is. image_unmarked w.scheme w.counter ls;
     size = ap pos (image_sized w.scheme w.counter ls ∙ ap image_size (sym loads));
-    old_size = λ delta n e is. absurd cc;
   })
 
   exec_fate : (image : Image) (r : Result (List LoadSegment) BadImage) → image_loads w.scheme image ≡ r → Own w h s (step_of.Exec h image) p (replaced w s p r)
@@ -354,11 +354,11 @@ module _ (w : World) (h s : ℕ) (p : Process) (on : IsOnHart w h s p) where
     below = λ page inside. absurd cc;
     forked = λ other. absurd (other refl);
     unforked = λ page out e. inl (fork_kept p page e);
-    base = inl refl;
+    base = λ other. refl;
+    new_base = λ image e is. absurd cc;
     stored = λ page e. inl (sym (fork_stored p page) ∙ e);
     cleared = λ image e is. absurd cc;
     size = refl;
-    old_size = λ delta n e is. absurd cc;
   })
     where
       lives : process_in (with_process (with_process w s (marked p)) child (child_of p)) s ≡ Some (marked p)

@@ -90,16 +90,27 @@ each_below c (e ∷ es) t h q (inr i) = each_below c es (second _ _ t) (λ k x f
     | false ↦ λ _. f
   ] refl
 
+-- a copy number is that of a page that is looked up
+pub among_found : (es : List (ℕ × Page)) → T (is_sorted nat_cmp es) → (q : ℕ) → Among q (copies es) → (k : ℕ) × (x : Page) × (find nat_cmp k es ≡ Some x) × (q ≡ x.copy)
+among_found [] t q i = absurd i
+among_found (e ∷ es) t q (inl same) = (e.0, e.1, rw (equal_to e.0 e.0 refl) refl, same)
+among_found (e ∷ es) t q (inr i) = let rest = among_found es (second _ _ t) q i in (rest.0, rest.1, later rest.0 rest.1 rest.2, rest.3) where
+  later : (k : ℕ) (x : Page) → find nat_cmp k es ≡ Some x → find nat_cmp k (e ∷ es) ≡ Some x
+  later k x f = elim (eq_by_cmp nat_cmp k e.0) as (λ b. eq_by_cmp nat_cmp k e.0 ≡ b → cond b (Some e.1) (find nat_cmp k es) ≡ Some x) [
+    | true ↦ λ same. let is : k ≡ e.0 = equal_of k e.0 same in let high : e.0 < k = found_above e.0 k x es (first _ _ t) f in absurd (omega (is, high, arith))
+    | false ↦ λ _. f
+  ] refl
+
 -- tests of copy numbers
 
-one_of : (x y : Bool) → (x || y) ≡ true → (x ≡ true) ⊎ (y ≡ true)
+pub one_of : (x y : Bool) → (x || y) ≡ true → (x ≡ true) ⊎ (y ≡ true)
 one_of true y e = inl refl
 one_of false y e = inr e
 
 same_of : (c n : ℕ) → (n == c) ≡ true → c ≡ n
 same_of c n e = grind arith
 
-any_copy : (c : ℕ) (ns : List ℕ) → list_any (λ n. n == c) ns ≡ true → Among c ns
+pub any_copy : (c : ℕ) (ns : List ℕ) → list_any (λ n. n == c) ns ≡ true → Among c ns
 any_copy c [] t = absurd (cc)
 any_copy c (n ∷ ns) t = elim (one_of (n == c) (list_any (λ m. m == c) ns) t) [ inl e ↦ inl (same_of c n e) | inr e ↦ inr (any_copy c ns e) ]
 

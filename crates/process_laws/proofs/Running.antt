@@ -69,7 +69,7 @@ pub record Ran (w : World) (h : ℕ) (proper : Bool) (possible : Hart → Bool) 
   pub can : possible hart ≡ true
   pub is : o ≡ run hart
 
-none_refuses : (a b c : Bool) (x y z : Refusal) → first_true ((not a, x) ∷ (not b, y) ∷ (not c, z) ∷ []) ≡ None → (a ≡ true) × (b ≡ true)
+pub none_refuses : (a b c : Bool) (x y z : Refusal) → first_true ((not a, x) ∷ (not b, y) ∷ (not c, z) ∷ []) ≡ None → (a ≡ true) × (b ≡ true)
 none_refuses true true c x y z e = (refl, refl)
 none_refuses true false c x y z e = absurd cc
 none_refuses false b c x y z e = absurd cc

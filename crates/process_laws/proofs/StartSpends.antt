@@ -73,11 +73,11 @@ count_image low fresh (e ∷ es) ns r below =
     count_image (e.0 + 1) (fresh + 1) es ns r.1 (λ q i. let low : q < fresh = below q i in omega (low, arith)) in
     omega (same, one, others, arith)
 
-pub start_spends : (w : World) (s : ℕ) (image : Image) (ls : List LoadSegment) → HasNewCopies w → free_slot w ≡ Some s → image_loads w.scheme image ≡ Ok ls → is_dry w (start_need w.scheme ls) ≡ false
+-- an image's process is put into an empty slot
+pub image_spends : (w : World) (s : ℕ) (image : Image) (ls : List LoadSegment) → HasNewCopies w → slice_get w.slots s ≡ Some None → image_loads w.scheme image ≡ Ok ls → is_dry w (start_need w.scheme ls) ≡ false
     → free (with_image w s ls) + start_need w.scheme ls ≡ free w
 unfolding process_of
-start_spends w s image ls new to loaded wet =
-    let empty : slice_get w.slots s ≡ Some None = empty_slot w.slots 0 s s to (omega arith) in
+image_spends w s image ls new empty loaded wet =
     let p : Process = process_of w.scheme w.counter ls in
     let after : List (Option Process) = slice_set w.slots s (Some p) in
     let put : different after ≡ count (numbers (copies_of p ++ all_copies (slice_set w.slots s None))) = count_set w.slots s None (Some p) empty in
@@ -90,3 +90,7 @@ start_spends w s image ls new to loaded wet =
     let need : exec_need w.scheme ls ≡ length (page_numbers ls) + tables_needed w.scheme (page_numbers ls) = exec_need_is w.scheme ls (accepted_is_placed w.scheme image ls loaded) in
     let long : length (page_numbers ls) ≡ length (image_pages ls) = length-map (image_pages ls) (λ e. e.0) in
     spent w.scheme w.frames (start_need w.scheme ls) w.slots after (length-set w.slots s (Some p)) (omega (put, alone, pages, sums, tables, need, long, arith)) wet
+
+pub start_spends : (w : World) (s : ℕ) (image : Image) (ls : List LoadSegment) → HasNewCopies w → free_slot w ≡ Some s → image_loads w.scheme image ≡ Ok ls → is_dry w (start_need w.scheme ls) ≡ false
+    → free (with_image w s ls) + start_need w.scheme ls ≡ free w
+start_spends w s image ls new to = image_spends w s image ls new (empty_slot w.slots 0 s s to (omega arith))

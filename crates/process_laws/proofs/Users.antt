@@ -58,20 +58,20 @@ user_ran w h s p access address width value via on n =
 
 -- ---- service
 
-abbrev fault_of : UserAccess → Pending
+abbrev pub fault_of : UserAccess → Pending
 fault_of a = record { access = a.access; address = a.address; width = a.width; served = false }
 
-record ServeRan (w : World) (h s : ℕ) (p : Process) (a : UserAccess) (o : Outcome) : Type 0 where
-  hart : Hart
-  is : o ≡ served w h hart s (with_pending_access p a) (Some (fault_of a))
+pub record ServeRan (w : World) (h s : ℕ) (p : Process) (a : UserAccess) (o : Outcome) : Type 0 where
+  pub hart : Hart
+  pub is : o ≡ served w h hart s (with_pending_access p a) (Some (fault_of a))
 
-serve_ran : (w : World) (h s : ℕ) (p : Process) (a : UserAccess) → IsOnHart w h s (with_pending_access p a) → IsMade (plain_step w (Serve h)).reply → ServeRan w h s p a (plain_step w (Serve h))
+pub serve_ran : (w : World) (h s : ℕ) (p : Process) (a : UserAccess) → IsOnHart w h s (with_pending_access p a) → IsMade (plain_step w (Serve h)).reply → ServeRan w h s p a (plain_step w (Serve h))
 serve_ran w h s p a on n =
     let r = ran_on w h true (can_serve w) always (λ hart. with_its_process w hart (λ s p. served w h hart s p p.pending)) n in
     record { hart = r.hart; is = r.is ∙ process_runs w r.hart (λ s p. served w h r.hart s p p.pending) s (with_pending_access p a) (has_it w h s r.hart on.there r.there) on.lives }
 
 -- to wait changes no region
-same_grant : (p : Process) (a : UserAccess) → IsGranted p a → IsGranted (with_pending_access p a) a
+pub same_grant : (p : Process) (a : UserAccess) → IsGranted p a → IsGranted (with_pending_access p a) a
 same_grant p a g = record { region = g.region; has = g.has; right = g.right; aligned = g.aligned }
 
 back_grant : (p : Process) (a : UserAccess) → IsGranted (with_pending_access p a) a → IsGranted p a

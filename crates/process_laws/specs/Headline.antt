@@ -8,25 +8,30 @@
 -- the machine answered; worlds, and the replies of the past and of each `moment_of`, are the model's. A world has files and,
 -- in its slots, processes; a process has regions, and the bytes of its settled pages (xv6: those with a valid leaf: an
 -- image's from the start, others by a service or a copy). `Words` has the words, `Pages` what a region gives to a page,
--- `Latest` the latest byte at an address, and `MadeSteps` part (g).
-use Rattle.std.specs.Prelude.{◌≡◌, ◌≢◌, ◌⊎◌, ℕ, ℤ, false, true, ◌+◌, ◌-◌, ◌<◌, ◌≤◌, nat_lt, Option, None, Some, List, [], ◌∷◌, length, take, pos}
+-- `Latest` the latest byte at an address, `FrameNeeds` what is counted in frames, `CallReplies` what calls reply, and `MadeSteps`
+-- part (g).
+use Rattle.std.specs.Prelude.{◌≡◌, ◌≢◌, ◌⊎◌, ℕ, false, true, ◌+◌, ◌-◌, ◌<◌, ◌≤◌, nat_lt, Option, None, Some, List, [], ◌∷◌, length, option_map, slice_get, take, pos, Ok, if◌then◌else◌}
 use Rattle.std.specs.Borrow.{Bor}
 use Rattle.process_laws.specs.Latest.{AreLatest, byte_had, bytes_in, IsLatest, latest}
 use Rattle.process_laws.specs.Moments.{Moment, moment_of, moments_from, slot_on}
 use Rattle.process_laws.specs.Pages.{grant, grant_after, has_fork_mark, has_stored_mark, is_remapped, is_stored_to, may_remap, size_after}
-use Rattle.process_laws.specs.Words.{UserAccess, IsAccessStep, byte, cause, copied, Forbids, in_memory, is_end, is_fault, IsAnswer, IsChild, IsGranted, IsInPhase, IsMade, IsOnHart, IsResident, starts_in_slot, hart_of_step, moved_hart, phase_on, Serves, stopped_by, takes_frames, is_no_frame_reply, Tries, with_pending_access, writes_back, Written}
+use Rattle.process_laws.specs.FrameNeeds.{copy_on, frames_for_child, frames_for_image, frames_for_page, HasNewFrames, IsSharedPage, KeepsFrames, LacksFrames, MayLackFrames, SharesFrames}
+use Rattle.process_laws.specs.Words.{UserAccess, IsAccessStep, byte, cause, copied, CopiesBytes, Forbids, in_memory, is_end, is_fault, IsAnswer, IsChild, IsGranted, IsInPhase, IsMade, IsOnHart, IsResident, IsWritten, MayCall, is_on_hart, keys_after, keys_on, starts_in_slot, hart_of_step, moved_hart, phase_on, Serves, stopped_by, takes_frames, is_no_frame_reply, Tries, with_pending_access, writes_back, Written}
 use Rattle.process_model.specs.Files.{File}
+use Rattle.process_model.specs.Harts.{Hart}
 use Rattle.process_model.specs.Process.{Process}
 use Rattle.process_model.specs.Steps.{run}
-use Rattle.process_model.specs.World.{booted, free, free_slot, is_unserved_access, process_in, World}
+use Rattle.process_model.specs.Images.{image_loads, LoadSegment}
+use Rattle.process_model.specs.World.{booted, free, free_slot, is_unserved_access, process_in, without_process, World}
 use Rattle.process_model.specs.declared.config.Config.{Config}
 use Rattle.process_model.specs.declared.image.Image.{Image}
 use Rattle.process_model.specs.declared.phase.Phase.TheVariants.{Enter0, Idle}
 use Rattle.process_model.specs.declared.step.Refusal.{Refusal}
 use Rattle.process_model.specs.declared.step.Reply.{Reply}
-use Rattle.process_model.specs.declared.step.Reply.TheVariants.{Done, Ended, Fault, Forked, OldSize, Ready, Refused, Value}
+use Rattle.process_model.specs.declared.step.Reply.TheVariants.{Done, Ended, Fault, Filled, Forked, Ready, Refused, Started, Value}
 use Rattle.process_model.specs.declared.step.Step.{Step}
-use Rattle.process_model.specs.declared.step.Step.TheVariants.{CopyIn, CopyOut, Exec, Fork, Sbrk, Start}
+use Rattle.process_model.specs.declared.step.Step.TheVariants.{CopyIn, CopyOut, Exec, Fill, Fork, Start}
+use Rattle.sv39_entry.specs.Address.{page_of}
 use Rattle.sv39_entry.specs.declared.access.Access.{Access}
 use Rattle.sv39_entry.specs.declared.access.Access.TheVariants.{Load, Store}
 use Rattle.sv39_entry.specs.declared.rule.Rule.{Rule}
@@ -50,30 +55,29 @@ pub record AnswersUser (m : Moment) (h s : ℕ) (p : Process) (a : UserAccess) :
   -- If a is not granted, p ends by the first rule that forbids it
   pub ended : Serves m h s p a → (IsGranted p a → ⊥) → (rule : Rule) × (m.reply ≡ Ended rule) × Forbids p a rule
 
--- (b) A kernel copy of n bytes stops after k: all are copied; or the next is forbidden; or the next lacks a frame, and the
--- reply to a copy of it `alone`, made next, says so too. `copyin 0 0x1ffd 8`, whose last five bytes are the guard's, answers
+-- (b) A kernel copy of n bytes stops after k: all are copied; or the next is forbidden; or the next lacks frames: fewer are
+-- free then than its page needs (`LacksFrames`). `copyin 0 0x1ffd 8`, whose last five bytes are the guard's, answers
 -- `short 4 GuardPage done 3 000000`
-pub data StopsAfter (p : Process) (access : Access) (address n k : ℕ) (alone : Reply) : Option Rule → Type 0 where
-  whole : k ≡ n → StopsAfter p access address n k alone None
-  forbidden : {rule : Rule} → k < n → Forbids p (byte access (address + k)) rule → StopsAfter p access address n k alone (Some rule)
-  no_frame : k < n → IsGranted p (byte access (address + k)) → is_no_frame_reply alone ≡ true → StopsAfter p access address n k alone (Some NoFrame)
+pub data StopsAfter (p : Process) (access : Access) (address n k : ℕ) (Lacks : Type 0) : Option Rule → Type 0 where
+  whole : k ≡ n → StopsAfter p access address n k Lacks None
+  forbidden : {rule : Rule} → k < n → Forbids p (byte access (address + k)) rule → StopsAfter p access address n k Lacks (Some rule)
+  no_frame : k < n → IsGranted p (byte access (address + k)) → Lacks → StopsAfter p access address n k Lacks (Some NoFrame)
 
 -- Each of the k bytes that are copied is granted, and the copy stops after them
-pub record Copies (p : Process) (access : Access) (address n k : ℕ) (alone : Reply) (stop : Option Rule) : Type 0 where
+pub record Copies (p : Process) (access : Access) (address n k : ℕ) (Lacks : Type 0) (stop : Option Rule) : Type 0 where
   pub granted : (i : ℕ) → i < k → IsGranted p (byte access (address + i))
-  pub stops : StopsAfter p access address n k alone stop
+  pub stops : StopsAfter p access address n k Lacks stop
 
 -- A copy that stops early changes what a copy of the first k bytes changes: it neither undoes them nor takes a frame for the
--- rest. (`one` is any byte, and `front` the first k)
-pub record CopiesForKernel (m : Moment) (h address k : ℕ) (p : Process) : Type 0 where
-  pub from : (n : ℕ) → m.step ≡ CopyIn h address n → Copies p Load address n k (moment_of m.after (CopyIn h (address + k) 1)).reply (stopped_by m.reply)
+-- rest. (`front` has the first k bytes)
+pub record CopiesForKernel (m : Moment) (h s address k : ℕ) (p : Process) : Type 0 where
+  pub from : (n : ℕ) → m.step ≡ CopyIn h address n → Copies p Load address n k (LacksFrames m.after s Load (address + k)) (stopped_by m.reply)
   pub from_front : (n : ℕ) → m.step ≡ CopyIn h address n → m.after ≡ (moment_of m.before (CopyIn h address k)).after
-  pub to : (bytes one : Bor (List ℕ)) → m.step ≡ CopyOut h address bytes → length one.now ≡ 1 → Copies p Store address (length bytes.now) k (moment_of m.after (CopyOut h (address + k) one)).reply (stopped_by m.reply)
+  pub to : (bytes : Bor (List ℕ)) → m.step ≡ CopyOut h address bytes → Copies p Store address (length bytes.now) k (LacksFrames m.after s Store (address + k)) (stopped_by m.reply)
   pub to_front : (bytes front : Bor (List ℕ)) → m.step ≡ CopyOut h address bytes → front.now ≡ take k bytes.now → m.after ≡ (moment_of m.before (CopyOut h address front)).after
 
--- (c) A reply says NoFrame exactly when fewer frames are free than the step needs, n; and n is the same however many frames
--- the memory has (`with_frames`). Which number n is, this page leaves to the model: a start of nine pages in the first two
--- megabytes needs 17, under Sv48 19
+-- (c) A reply says NoFrame exactly when fewer frames are free than the step needs, n; and `FrameNeeds` counts n. A start of nine
+-- pages in the first two megabytes needs 17: these, guard and stack, five page tables and the trapframe; under Sv48 19
 abbrev pub IsDry : Moment → ℕ → Type 0
 IsDry m n = is_no_frame_reply m.reply ≡ nat_lt (free m.before) n
 
@@ -84,15 +88,35 @@ abbrev pub with_frames : Moment → ℕ → Moment
 with_frames m frames = moment_of (in_memory m.before frames) m.step
 
 pub record CountsFrames (m : Moment) : Type 0 where
-  -- A start, a service, a fork and a copy need the number of frames by which the free count then falls (0 if it grows), if
-  -- the reply does not say NoFrame
-  pub takes : takes_frames m.step ≡ true → (n : ℕ) × TakesExactly m n × ((frames : ℕ) → TakesExactly (with_frames m frames) n)
-  -- An exec that is done needs one less than a start of the same image in any world with a free slot, since the process
-  -- keeps its trapframe; the frames of its old pages do not count as free
-  pub replaces : (h : ℕ) (image : Image) → m.step ≡ Exec h image → (n : ℕ) × IsDry m n × ((frames : ℕ) → IsDry (with_frames m frames) n)
-      × (m.reply ≡ Done → (u : World) (s : ℕ) → u.scheme ≡ (m.before).scheme → free_slot u ≡ Some s → IsDry (moment_of u (Start image)) (n + 1))
-  -- No other step says NoFrame or takes a frame
-  pub no_other : takes_frames m.step ≡ false → ((h : ℕ) (image : Image) → m.step ≢ Exec h image) → (is_no_frame_reply m.reply ≡ false) × (free m.before ≤ free m.after)
+  -- A start of a good image takes the image's frames and one for the trapframe
+  pub start : (image : Image) (s : ℕ) (ls : List LoadSegment) → free_slot m.before ≡ Some s → image_loads (m.before).scheme image ≡ Ok ls → m.step ≡ Start image → TakesExactly m (1 + frames_for_image (m.before).scheme ls)
+  -- An exec needs one less, since the process keeps its trapframe; the frames of its old pages and tables do not count as
+  -- free. If it is done, they are free: there are as many as if the process had ended and the image had been started
+  pub exec : (h s : ℕ) (p : Process) (image : Image) (ls : List LoadSegment) → IsOnHart m.before h s p → MayCall m.before h p → image_loads (m.before).scheme image ≡ Ok ls → m.step ≡ Exec h image
+      → IsDry m (frames_for_image (m.before).scheme ls) × (m.reply ≡ Done → free m.after + (1 + frames_for_image (m.before).scheme ls) ≡ free (without_process m.before s))
+  -- A fork takes frames for the child, and none for a page
+  pub fork : (h s t : ℕ) (p : Process) → IsOnHart m.before h s p → MayCall m.before h p → free_slot m.before ≡ Some t → m.step ≡ Fork h → TakesExactly m (frames_for_child p)
+  -- The service of a granted access takes those that its page needs
+  pub serve : (h s : ℕ) (p : Process) (a : UserAccess) → Serves m h s p a → IsGranted p a → TakesExactly m (frames_for_page m.before s p a.access (page_of a.address))
+  -- A copy takes a number that is the same however many frames the memory has ((b) says what the page needs at which it stops)
+  pub copy : (h k : ℕ) → CopiesBytes h k m.step → (n : ℕ) × TakesExactly m n × ((frames : ℕ) → TakesExactly (with_frames m frames) n)
+  -- Only these steps say NoFrame, and no other step takes a frame
+  pub only : is_no_frame_reply m.reply ≡ true → MayLackFrames m.before m.step
+  pub no_other : takes_frames m.step ≡ false → ((h : ℕ) (image : Image) → m.step ≢ Exec h image) → free m.before ≤ free m.after
+
+-- What `free` counts of a process: the trapframe, its page tables, and the frames of its settled pages. Two settled pages are
+-- on one frame if they have one copy number
+pub record HoldsFrames (m : Moment) : Type 0 where
+  -- No process has two pages on one frame, and two processes only the same page, with the same bytes, and with the fork mark
+  -- where it may be written: so no store changes what another process has
+  pub once : (s one two copy : ℕ) (p : Process) → process_in m.after s ≡ Some p → copy_on p one ≡ Some copy → copy_on p two ≡ Some copy → one ≡ two
+  pub shared : (s t one two copy : ℕ) (p q : Process) → s ≢ t → process_in m.after s ≡ Some p → process_in m.after t ≡ Some q → copy_on p one ≡ Some copy → copy_on q two ≡ Some copy → IsSharedPage p q one two
+  -- A process that was started is on new frames, and so is one after an exec that is done; a child is on its parent's. By any
+  -- other step of its own a process keeps its frames, but for pages that go
+  pub started : (image : Image) (s : ℕ) (p : Process) → m.step ≡ Start image → m.reply ≡ Started s → process_in m.after s ≡ Some p → HasNewFrames m.before p
+  pub replaced : (h s : ℕ) (p q : Process) (image : Image) → IsOnHart m.before h s p → m.step ≡ Exec h image → m.reply ≡ Done → process_in m.after s ≡ Some q → HasNewFrames m.before q
+  pub child : (h s t : ℕ) (p c : Process) → IsOnHart m.before h s p → m.step ≡ Fork h → m.reply ≡ Forked t → process_in m.after t ≡ Some c → SharesFrames p c
+  pub kept : (h s : ℕ) (p q : Process) → IsOnHart m.before h s p → hart_of_step m.step ≡ Some h → ((image : Image) → m.step ≡ Exec h image → m.reply ≢ Done) → process_in m.after s ≡ Some q → KeepsFrames m.before s p q
 
 -- (d) At each address a process has the latest byte that was left there since the page was settled, else the page's initial
 -- byte; none if the page is not settled. These bytes are what is read. A forked child reads what its parent stored before
@@ -112,6 +136,10 @@ pub record LeavesOthers (m : Moment) : Type 0 where
   pub empty : (s : ℕ) → process_in m.before s ≡ None → starts_in_slot m.reply s ≡ false → process_in m.after s ≡ None
   -- A hart keeps its process and its phase but for its own switch, trap, step in the trampoline (`Next`), fault or end
   pub harts : (k : ℕ) → moved_hart m.step m.reply ≢ Some k → (slot_on m.after k ≡ slot_on m.before k) × (phase_on m.after k ≡ phase_on m.before k)
+  -- Its buffer has the entries that it had but for its own fills, evictions and fences (`keys_after`); a fill replies the number
+  -- of the entry that it added, the last
+  pub buffers : (k : ℕ) (hart : Hart) → IsMade m.reply → slice_get (m.before).harts k ≡ Some hart → keys_on m.after k ≡ Some (if is_on_hart m.step k then keys_after (m.before).policy hart m.step else hart.keys)
+  pub filled : (h address n : ℕ) → m.step ≡ Fill h address → m.reply ≡ Filled n → option_map length (keys_on m.after h) ≡ Some (n + 1)
   -- A process is on one hart at a time
   pub one_hart : (h k s : ℕ) → slot_on m.after h ≡ Some s → slot_on m.after k ≡ Some s → h ≡ k
   -- Files stay but for what munmap, exec, an exit and an end write back; the memory keeps its
@@ -119,8 +147,9 @@ pub record LeavesOthers (m : Moment) : Type 0 where
   pub files : writes_back m.step m.reply ≡ false → (m.after).files ≡ (m.before).files
   pub memory : (m.after).frames ≡ (m.before).frames
   pub slots : length (m.after).slots ≡ length (m.before).slots
-  -- The scheme of translation stays, and each process has it
+  -- The scheme of translation stays, and each process has it; and the policy of fences
   pub scheme : (m.after).scheme ≡ (m.before).scheme
+  pub policy : (m.after).policy ≡ (m.before).policy
   pub schemes : (s : ℕ) (q : Process) → process_in m.after s ≡ Some q → q.scheme ≡ (m.after).scheme
 
 -- (f) By its own step on hart h a process p becomes q
@@ -141,11 +170,11 @@ pub record Becomes (m : Moment) (h : ℕ) (p q : Process) : Type 0 where
   pub unforked : (page : ℕ) → is_remapped m.step m.reply page ≡ false → has_fork_mark p page ≡ true → (has_fork_mark q page ≡ true) ⊎ (is_stored_to p m.step page ≡ true)
   pub stored : (page : ℕ) → has_stored_mark q page ≡ true → (has_stored_mark p page ≡ true) ⊎ (is_stored_to p m.step page ≡ true)
   pub cleared : (image : Image) → m.step ≡ Exec h image → m.reply ≡ Done → (page : ℕ) → (has_fork_mark q page ≡ false) × (has_stored_mark q page ≡ false)
-  -- The size is what sbrk or exec makes of it, else what it was; sbrk replies the old one. The heap's base stays, but for
-  -- exec
+  -- The size is what sbrk or exec makes of it, else what it was. The heap's base stays; after an exec that is done the heap is
+  -- empty
   pub size : pos q.size ≡ size_after (m.before).scheme m.step m.reply p.size
-  pub base : (q.heap_base ≡ p.heap_base) ⊎ ((image : Image) × (m.step ≡ Exec h image) × (q.heap_base ≡ q.size))
-  pub old_size : (delta : ℤ) (n : ℕ) → m.step ≡ Sbrk h delta → m.reply ≡ OldSize n → n ≡ p.size
+  pub base : ((image : Image) → m.step ≢ Exec h image) → q.heap_base ≡ p.heap_base
+  pub new_base : (image : Image) → m.step ≡ Exec h image → m.reply ≡ Done → q.heap_base ≡ q.size
 
 -- What its own step on hart h does to process p, in slot s
 pub record ChangesOwn (m : Moment) (h s : ℕ) (p : Process) : Type 0 where
@@ -156,15 +185,17 @@ pub record ChangesOwn (m : Moment) (h s : ℕ) (p : Process) : Type 0 where
   -- A byte of a file that changes becomes the byte that p had at that place, on a page with the stored mark of a writable
   -- shared mapping (of the range, if the step is munmap). No file changes its length, or whether it may be written
   pub files : Written m.step p (m.before).files (m.after).files
-  -- A child is in the lowest free slot; it has its parent's regions, heap base and size, waits
-  -- for nothing, and has no stored mark
-  pub child : (t : ℕ) → m.step ≡ Fork h → m.reply ≡ Forked t → (free_slot m.before ≡ Some t) × (c : Process) × (process_in m.after t ≡ Some c) × IsChild p c
+  -- And if the step writes back, every byte of such a page is written, up to the file's length
+  pub written : writes_back m.step m.reply ≡ true → IsWritten m.step p (m.before).files (m.after).files
+  -- A child has its parent's regions, heap base and size, waits for nothing, and has no stored mark
+  pub child : (t : ℕ) → m.step ≡ Fork h → m.reply ≡ Forked t → (c : Process) × (process_in m.after t ≡ Some c) × IsChild p c
 
 -- Parts (a) to (g) hold of a moment, after those of the past
 pub record Holds (past : List Moment) (m : Moment) : Type 0 where
   pub users : (h s : ℕ) (p : Process) (a : UserAccess) → AnswersUser m h s p a
-  pub copies : (h s address : ℕ) (p : Process) → IsOnHart m.before h s p → IsMade m.reply → CopiesForKernel m h address (copied m.reply) p
+  pub copies : (h s address : ℕ) (p : Process) → IsOnHart m.before h s p → IsMade m.reply → CopiesForKernel m h s address (copied m.reply) p
   pub frames : CountsFrames m
+  pub held : HoldsFrames m
   pub bytes : ReadsLatest past m
   pub others : LeavesOthers m
   pub own : (h s : ℕ) (p : Process) → IsOnHart m.before h s p → hart_of_step m.step ≡ Some h → ChangesOwn m h s p

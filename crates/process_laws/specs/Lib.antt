@@ -8,4 +8,6 @@ pub mod Moments
 pub mod Pages
 pub mod Latest
 pub mod Words
+pub mod FrameNeeds
+pub mod CallReplies
 pub mod FilePlaces

@@ -1,7 +1,7 @@
--- The words of the headline, predicates and functions: steps, with their harts, phases (idle, user mode, kernel, the way
--- between) and kinds; `UserAccess`, and whether it is granted, resident or forbidden; kinds of replies; which steps take
--- frames; how a process or a forked child begins; and what a step writes back to files.
-use Rattle.std.specs.Prelude.{◌≡◌, ◌≢◌, ◌⊎◌, ℕ, Bool, true, false, ◌+◌, ◌<◌, ◌%◌, ◌==◌, Option, None, Some, List, length, is_some, option_map, pos, slice_get, if◌then◌else◌}
+-- The words of the headline, predicates and functions: steps, with their harts and phases (idle, user mode, kernel, the way
+-- between), and buffers after them; `UserAccess`, and whether it is granted, resident or forbidden; kinds of replies; which
+-- steps take frames; how a process or a forked child begins; and what a step writes back to files.
+use Rattle.std.specs.Prelude.{◌≡◌, ◌≢◌, ◌⊎◌, ℕ, Bool, true, false, ◌+◌, ◌<◌, ◌%◌, ◌==◌, Option, None, Some, List, length, option_map, pos, remove, slice_get, if◌then◌else◌}
 use Rattle.std.specs.Borrow.{Bor}
 use Rattle.process_laws.specs.RuleDenials.{IsFirst}
 use Rattle.process_laws.specs.Moments.{Moment, slot_on}
@@ -10,11 +10,11 @@ use Rattle.process_laws.specs.Latest.{byte_at, byte_had}
 use Rattle.process_laws.specs.Pages.{Grant, grant as grant_of, grant_after, has_fork_mark, has_stored_mark, is_between, is_ready_page, size_after}
 use Rattle.process_model.specs.Bytes.{pages_for}
 use Rattle.process_model.specs.Files.{File, is_writable}
-use Rattle.process_model.specs.Harts.{in_trampoline, is_kernel, is_user, may_switch, next_phase}
+use Rattle.process_model.specs.Harts.{fenced, Hart, Key, present_asid, with_key}
 use Rattle.process_model.specs.Process.{Process, regions}
 use Rattle.process_model.specs.Regions.{file, Region, region_at, shared_mapping}
-use Rattle.process_model.specs.World.{World, is_unserved_access, process_in}
-use Rattle.process_model.specs.declared.image.Image.{Image}
+use Rattle.process_model.specs.World.{has_slot, World, is_unserved_access, process_in}
+use Rattle.process_model.specs.declared.config.Policy.{Policy}
 use Rattle.process_model.specs.declared.phase.Phase.{Phase}
 use Rattle.process_model.specs.declared.phase.Phase.TheVariants.{Kernel}
 use Rattle.process_model.specs.declared.step.Refusal.{Refusal}
@@ -75,20 +75,6 @@ hart_of (Evict h n) = Some h
 hart_of (TrampolineFetch h offset via) = Some h
 hart_of x = hart_of_step x
 
--- the phases in which a step may be made
-abbrev pub is_phase_for : Step → Phase → Bool
-is_phase_for (Switch h slot) phase = may_switch phase
-is_phase_for (Next h) phase = is_some (next_phase phase)
-is_phase_for (TrampolineFetch h offset via) phase = in_trampoline phase
-is_phase_for (Trap h) phase = is_user phase
-is_phase_for (Fetch h address via) phase = is_user phase
-is_phase_for (Load h address width via) phase = is_user phase
-is_phase_for (Store h address width value via) phase = is_user phase
-is_phase_for (Start image) phase = true
-is_phase_for (Fill h address) phase = true
-is_phase_for (Evict h n) phase = true
-is_phase_for x phase = is_kernel phase
-
 -- the hart whose phase or process the step may change
 abbrev pub moved_hart : Step → Reply → Option ℕ
 moved_hart (Switch h slot) r = Some h
@@ -98,6 +84,22 @@ moved_hart x (Fault cause) = hart_of_step x
 moved_hart x (Ended rule) = hart_of_step x
 moved_hart x (Exited status) = hart_of_step x
 moved_hart x r = None
+
+-- whether the step is made on hart k
+abbrev pub is_on_hart : Step → ℕ → Bool
+is_on_hart x k = has_slot k (hart_of x)
+
+-- the keys (page and ASID) of the entries in the buffer of hart k, in the order of filling; None if there is no such hart
+abbrev pub keys_on : World → ℕ → Option (List Key)
+keys_on w k = option_map (λ hart. hart.keys) (slice_get w.harts k)
+
+-- the keys after a step on the hart: a fill adds one, last, and a full buffer loses its first; an eviction removes one, and the
+-- instructions of entry and return those that their fences say (`fenced`)
+abbrev pub keys_after : Policy → Hart → Step → List Key
+keys_after policy hart (Fill h address) = with_key hart.keys (record { page = page_of address; asid = present_asid policy hart })
+keys_after policy hart (Evict h n) = remove hart.keys n
+keys_after policy hart (Next h) = (fenced policy hart).keys
+keys_after policy hart x = hart.keys
 
 -- the reply says that the process ended
 abbrev pub is_end : Reply → Bool
@@ -127,26 +129,10 @@ pub record MayCall (w : World) (h : ℕ) (p : Process) : Type 0 where
   pub in_kernel : IsInPhase w h Kernel
   pub quiet : is_unserved_access p.pending ≡ false
 
--- the step is a kernel call for the process on hart h
-pub data IsKernelCall (h : ℕ) : Step → Type 0 where
-  fork : IsKernelCall h (Fork h)
-  exec : {image : _} → IsKernelCall h (Exec h image)
-  sbrk : {delta : _} → IsKernelCall h (Sbrk h delta)
-  mmap : {len protection flags n : ℕ} → IsKernelCall h (Mmap h len protection flags n)
-  munmap : {address len : ℕ} → IsKernelCall h (Munmap h address len)
-  copy_in : {address n : ℕ} → IsKernelCall h (CopyIn h address n)
-  copy_out : {address : ℕ} {bytes : _} → IsKernelCall h (CopyOut h address bytes)
-  exit : {status : _} → IsKernelCall h (Exit h status)
-
 -- the step is a kernel copy of n bytes for the process on hart h
 pub data CopiesBytes (h : ℕ) : ℕ → Step → Type 0 where
   copy_in : {address n : ℕ} → CopiesBytes h n (CopyIn h address n)
   copy_out : {address : ℕ} {bytes : Bor (List ℕ)} → CopiesBytes h (length bytes.now) (CopyOut h address bytes)
-
--- the step is a start or an exec of the image
-pub data LoadsImage (image : Image) : Step → Type 0 where
-  start : LoadsImage image (Start image)
-  exec : {h : ℕ} → LoadsImage image (Exec h image)
 
 -- accesses
 
@@ -331,3 +317,8 @@ pub record Written (x : Step) (p : Process) (files later : List File) : Type 0 w
   pub mode : (n : ℕ) → is_writable (slice_get later n) ≡ is_writable (slice_get files n)
   pub long : (n : ℕ) → length (file_bytes later n) ≡ length (file_bytes files n)
   pub bytes : (n i : ℕ) → i < length (file_bytes files n) → (byte_at (file_bytes later n) i ≡ byte_at (file_bytes files n) i) ⊎ WroteBack x p n i (byte_at (file_bytes later n) i)
+
+-- what p has to write back to a place of a file (`WroteBack`) is there: the byte becomes such a byte (the last one, if two
+-- pages map the place)
+pub record IsWritten (x : Step) (p : Process) (files later : List File) : Type 0 where
+  pub goes : (n i b : ℕ) → i < length (file_bytes files n) → WroteBack x p n i b → WroteBack x p n i (byte_at (file_bytes later n) i)

@@ -1,39 +1,57 @@
-// One law, `wrong_models_are_refused`: the parts of the headline exclude fourteen wrong behaviors of a kernel, such as a
+// One law, `wrong_models_are_refused`: the parts of the headline exclude 30 wrong behaviors of a kernel, such as a
 // second fault, a copy that stops although frames suffice, a byte lost at a trap, a released page that keeps bytes, a
 // misplaced grant or mark, or the start of a bad image.
-ghost use Rattle.std.specs.Prelude.{◌≡◌, ◌≢◌, ◌≤◌, ◌+◌, ◌-◌, ℕ, ℤ, Err, false, length, None, Some, true};
-ghost use Rattle.process_laws.specs.Headline.{AnswersUser, Becomes, ChangesOwn, CopiesForKernel, IsDry, ReadsLatest};
-ghost use Rattle.process_laws.specs.Latest.{byte_had, is_released, latest};
-ghost use Rattle.process_laws.specs.MadeSteps.{MakesSteps};
-ghost use Rattle.process_laws.specs.Moments.{Moment, moment_of, slot_on};
+ghost use Rattle.std.specs.Prelude.{◌≡◌, ◌≢◌, ◌≤◌, ◌<◌, ◌+◌, ◌-◌, ◌*◌, ℕ, ℤ, Err, false, length, List, None, Ok, slice_get, Some, true};
+ghost use Rattle.process_laws.specs.Headline.{AnswersUser, Becomes, ChangesOwn, CopiesForKernel, CountsFrames, HoldsFrames, ReadsLatest};
+ghost use Rattle.process_laws.specs.CallReplies.{is_below_base, is_range};
+ghost use Rattle.process_laws.specs.FilePlaces.{file_bytes};
+ghost use Rattle.process_laws.specs.Latest.{byte_at, byte_had, page_byte, is_released, latest};
+ghost use Rattle.process_laws.specs.MadeSteps.{MakesOwn, MakesSteps};
+ghost use Rattle.process_laws.specs.Moments.{Moment, slot_on};
+ghost use Rattle.process_laws.specs.FrameNeeds.{copy_on, frames_for_image, frames_for_page, has_tables, is_settled};
 ghost use Rattle.process_laws.specs.Pages.{grant, has_fork_mark, has_stored_mark, is_between, is_store_at, mapping_grant};
-ghost use Rattle.process_laws.specs.Words.{UserAccess, cause, copied, IsGranted, IsResident, Tries};
+ghost use Rattle.process_laws.specs.Words.{UserAccess, cause, copied, IsGranted, IsOnHart, IsResident, MayCall, Serves, Tries, writes_back, WroteBack};
 ghost use Rattle.process_model.specs.Bytes.{pages_for};
-ghost use Rattle.process_model.specs.Images.{image_loads};
+ghost use Rattle.process_model.specs.Harts.{Hart, is_kernel};
+ghost use Rattle.process_model.specs.Images.{image_loads, LoadSegment};
+ghost use Rattle.process_model.specs.Mappings.{most_mappings};
+ghost use Rattle.process_model.specs.Places.{Fits};
+ghost use Rattle.process_model.specs.PageMap.{get};
 ghost use Rattle.process_model.specs.Process.{Process, regions};
-ghost use Rattle.process_model.specs.World.{free, has_slot, process_in};
+ghost use Rattle.process_model.specs.World.{free, free_slot, has_slot, others_have, process_in, without_process};
 ghost use Rattle.process_model.specs.declared.image.BadImage.{BadImage};
 ghost use Rattle.process_model.specs.declared.image.Image.{Image};
-ghost use Rattle.process_model.specs.declared.step.Reply.TheVariants.{CopiedIn, Done, Fault, Forked, MappedAt, OldSize, ShortIn, Started};
-ghost use Rattle.process_model.specs.declared.step.Step.TheVariants.{CopyIn, CopyOut, Fork, Mmap, Munmap, Sbrk, Serve, Start, Trap};
+ghost use Rattle.process_model.specs.declared.step.Refusal.TheVariants as refusal;
+ghost use Rattle.process_model.specs.declared.step.Reply.TheVariants.{CopiedIn, Done, Ended, Fault, Forked, MappedAt, OldSize, Refused, ShortIn, Started};
+ghost use Rattle.process_model.specs.declared.step.Step.TheVariants.{CopyIn, CopyOut, Exec, Fork, Mmap, Munmap, Sbrk, Serve, Start, Trap};
 ghost use Rattle.sv39_entry.specs.Address.{page_of};
+ghost use Rattle.sv39_entry.specs.declared.access.Access.TheVariants.{Load};
 ghost use Rattle.sv39_entry.specs.declared.rule.Rule.TheVariants.{NoFrame};
 
 /// For any moment of any model: if the part of the headline that a clause names holds of the moment, this does not happen:
 ///
-/// `second_fault`: a granted access of a resident page faults. `other_cause`: an access that is not granted, or whose page
-/// is not resident, faults with another cause than its own. `short_copy`: copyin stops by NoFrame although the frames that
-/// the next byte alone needs are free. `trap`: a trap drops or changes a byte. `released`: a page that sbrk releases has
-/// bytes afterwards. `place`: munmap changes the grant of a page outside its range, such as its place in the file. `mapped`:
-/// a page of a new mapping has another grant than mmap was asked for. `over`: a new mapping lies over a page that had a
-/// grant. `fork_mark`: service sets a fork mark. `stored_mark`: service sets the stored mark on a page to which the pending
-/// access is no store. `child`: a child has other regions than its parent had. `kind`: copyout replies as copyin does.
-/// `bad_image`: a bad image starts. `nobody`: munmap is done on a hart without a process.
+/// `second_fault`: a granted access of a resident page faults. `other_cause`: an access that is not granted, or whose
+/// page is not resident, faults with another cause than its own. `short_copy`: copyin stops by NoFrame although the
+/// frames that the next byte alone needs are free. `trap`: a trap drops or changes a byte. `released`: a page that sbrk
+/// releases has bytes afterwards. `place`: munmap changes the grant of a page outside its range, such as its place in the
+/// file. `mapped`: a page of a new mapping has another grant than mmap was asked for. `over`: a new mapping lies over a
+/// page that had a grant. `fork_mark`: service sets a fork mark. `stored_mark`: service sets the stored mark on a page to
+/// which the pending access is no store. `child`: a child has other regions than its parent had. `kind`: copyout replies
+/// as copyin does. `bad_image`: a bad image starts. `nobody`: munmap is done on a hart without a process. `start_frames`,
+/// `service_frames`: a start or a service says NoFrame although the frames that it needs are free. `bad_exec`: an exec of
+/// a bad image says NoFrame. `exec_frees`: after an exec some frames of the old process are not free. `heap_base`: exec
+/// keeps the old heap's base. `settled_frame`: service settles a page on a frame that a process has. `unasked_frame`:
+/// copyin gives another frame to a page that it only reads. `shared_frame`: service takes a page over that stays on the
+/// frame of another process. `tables`: munmap takes or gives page tables. `no_range`: munmap is done for an address
+/// inside a page or a length of 0. `below_base`: sbrk is done below the heap's base. `high`: mmap maps below a page at
+/// which the pages fit, or a 17th time. `written`: a byte that had to be written back is not. `one_frame`: two processes
+/// have pages with different bytes on one frame. `order`: a copy of more than 256 bytes gets another refusal than
+/// BadArgument. `phase`: a call outside the kernel gets another one than Impossible with the hart's phase.
 pub fn wrong_models_are_refused()
     ensures second_fault { (m : Moment) (h s cause : ℕ) (p : Process) (a : UserAccess) → AnswersUser m h s p a → Tries m h s p a → IsGranted p a → IsResident p a → m.reply ≢ Fault cause }
     ensures other_cause { (m : Moment) (h s c : ℕ) (p : Process) (a : UserAccess) → AnswersUser m h s p a → Tries m h s p a → (IsGranted p a → IsResident p a → ⊥) → m.reply ≡ Fault c → c ≡ cause a }
-    ensures short_copy { (m : Moment) (h address n need : ℕ) (p : Process) (bytes : _) → CopiesForKernel m h address (copied m.reply) p → m.step ≡ CopyIn h address n → m.reply ≡ ShortIn NoFrame bytes
-        → (let alone = moment_of m.after (CopyIn h (address + length bytes.items) 1) in IsDry alone need → need ≤ free alone.before → ⊥) }
+    ensures short_copy { (m : Moment) (h s address n : ℕ) (p q : Process) (bytes : _) → CopiesForKernel m h s address (copied m.reply) p → m.step ≡ CopyIn h address n → m.reply ≡ ShortIn NoFrame bytes
+        → process_in m.after s ≡ Some q → frames_for_page m.after s q Load (page_of (address + length bytes.items)) ≤ free m.after → ⊥ }
     ensures trap { (past : _) (m : Moment) → ReadsLatest past m → (h s a b : ℕ) → m.step ≡ Trap h → latest past s a ≡ Some b → byte_had (process_in m.after s) a ≡ Some b }
     ensures released { (past : _) (m : Moment) → ReadsLatest past m → (h s a n : ℕ) (delta : ℤ) → m.step ≡ Sbrk h delta → m.reply ≡ OldSize n → has_slot s (slot_on m.before h) ≡ true
         → is_released n delta a ≡ true → byte_had (process_in m.after s) a ≡ None }
@@ -50,4 +68,31 @@ pub fn wrong_models_are_refused()
     ensures kind { (m : Moment) (h address : ℕ) (bytes : _) (bytes_in : _) → MakesSteps m → m.step ≡ CopyOut h address bytes → m.reply ≢ CopiedIn bytes_in }
     ensures bad_image { (m : Moment) (image : Image) (e : BadImage) (s : ℕ) → MakesSteps m → m.step ≡ Start image → image_loads (m.before).scheme image ≡ Err e → m.reply ≢ Started s }
     ensures nobody { (m : Moment) (h address len : ℕ) → MakesSteps m → m.step ≡ Munmap h address len → slot_on m.before h ≡ None → m.reply ≢ Done }
+    ensures start_frames { (m : Moment) (image : Image) (s : ℕ) (ls : List LoadSegment) → CountsFrames m → free_slot m.before ≡ Some s → image_loads (m.before).scheme image ≡ Ok ls → m.step ≡ Start image
+        → 1 + frames_for_image (m.before).scheme ls ≤ free m.before → m.reply ≢ Refused refusal.NoFrame }
+    ensures service_frames { (m : Moment) (h s : ℕ) (p : Process) (a : UserAccess) → CountsFrames m → Serves m h s p a → IsGranted p a → frames_for_page m.before s p a.access (page_of a.address) ≤ free m.before
+        → m.reply ≢ Ended NoFrame }
+    ensures bad_exec { (m : Moment) (h : ℕ) (image : Image) (b : BadImage) → CountsFrames m → m.step ≡ Exec h image → image_loads (m.before).scheme image ≡ Err b → m.reply ≢ Refused refusal.NoFrame }
+    ensures exec_frees { (m : Moment) (h s : ℕ) (p : Process) (image : Image) (ls : List LoadSegment) → CountsFrames m → IsOnHart m.before h s p → MayCall m.before h p → image_loads (m.before).scheme image ≡ Ok ls
+        → m.step ≡ Exec h image → m.reply ≡ Done → free m.after + (1 + frames_for_image (m.before).scheme ls) ≡ free (without_process m.before s) }
+    ensures heap_base { (m : Moment) (h : ℕ) (image : Image) (p q : Process) → Becomes m h p q → m.step ≡ Exec h image → m.reply ≡ Done → q.heap_base ≡ q.size }
+    ensures settled_frame { (m : Moment) (h s t page other copy : ℕ) (p q r : Process) → HoldsFrames m → IsOnHart m.before h s p → m.step ≡ Serve h → process_in m.after s ≡ Some q → is_settled p page ≡ false
+        → copy_on q page ≡ Some copy → process_in m.before t ≡ Some r → copy_on r other ≢ Some copy }
+    ensures unasked_frame { (m : Moment) (h s address n page old copy : ℕ) (p q : Process) → HoldsFrames m → IsOnHart m.before h s p → m.step ≡ CopyIn h address n → process_in m.after s ≡ Some q
+        → has_fork_mark q page ≡ has_fork_mark p page → copy_on p page ≡ Some old → copy_on q page ≡ Some copy → copy ≡ old }
+    ensures shared_frame { (m : Moment) (h s page copy : ℕ) (p q : Process) → HoldsFrames m → IsOnHart m.before h s p → m.step ≡ Serve h → process_in m.after s ≡ Some q → has_fork_mark p page ≡ true
+        → has_fork_mark q page ≡ false → copy_on p page ≡ Some copy → others_have m.before s copy ≡ true → copy_on q page ≢ Some copy }
+    ensures tables { (m : Moment) (h s address len page : ℕ) (p q : Process) → HoldsFrames m → IsOnHart m.before h s p → m.step ≡ Munmap h address len → process_in m.after s ≡ Some q → is_settled q page ≡ false
+        → has_tables q page ≡ has_tables p page }
+    ensures no_range { (m : Moment) (h s address len : ℕ) (p : Process) → MakesOwn m h s p → MayCall m.before h p → m.step ≡ Munmap h address len → is_range address len ≡ false → m.reply ≢ Done }
+    ensures below_base { (m : Moment) (h s n : ℕ) (delta : ℤ) (p : Process) → MakesOwn m h s p → MayCall m.before h p → m.step ≡ Sbrk h delta → is_below_base p delta ≡ true → m.reply ≢ OldSize n }
+    ensures high { (m : Moment) (h s len protection flags n at : ℕ) (p : Process) → MakesOwn m h s p → MayCall m.before h p → m.step ≡ Mmap h len protection flags n → m.reply ≡ MappedAt at
+        → (length p.mappings < most_mappings) × ((other : ℕ) → Fits p (pages_for len) other → 4096 * other ≤ at) }
+    ensures written { (m : Moment) (h s n i b : ℕ) (p : Process) → ChangesOwn m h s p → writes_back m.step m.reply ≡ true → i < length (file_bytes (m.before).files n) → WroteBack m.step p n i b
+        → WroteBack m.step p n i (byte_at (file_bytes (m.after).files n) i) }
+    ensures one_frame { (m : Moment) (s t one two copy i : ℕ) (p q : Process) → HoldsFrames m → s ≢ t → process_in m.after s ≡ Some p → process_in m.after t ≡ Some q → copy_on p one ≡ Some copy → copy_on q two ≡ Some copy
+        → page_byte (get p.settled one) i ≡ page_byte (get q.settled two) i }
+    ensures order { (m : Moment) (h address n : ℕ) → MakesSteps m → m.step ≡ CopyIn h address n → 256 < n → m.reply ≡ Refused refusal.BadArgument }
+    ensures phase { (m : Moment) (h : ℕ) (delta : ℤ) (hart : Hart) → MakesSteps m → slice_get (m.before).harts h ≡ Some hart → m.step ≡ Sbrk h delta → is_kernel hart.phase ≡ false
+        → m.reply ≡ Refused (refusal.Impossible hart.phase) }
 {}

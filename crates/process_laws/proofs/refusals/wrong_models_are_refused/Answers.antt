@@ -1,4 +1,4 @@
-use Rattle.process_laws.proofs.WrongModels.{bad_image_never_starts, child_has_the_regions, copy_of_another_kind, copy_with_frames, fault_tells_its_cause, loaded_page_stays_unmarked, mapped_as_asked, no_call_for_nobody, no_mapping_over_another, no_mark_by_service, no_second_fault, place_stays, released_has_none, trap_keeps}
+use Rattle.process_laws.proofs.WrongModels.{read_page_keeps_its_frame, bad_argument_first, impossible_in_its_phase, maps_as_high_as_fits, one_frame_one_page, sizes_above_the_base, unmaps_a_range, writes_what_it_must, bad_image_never_starts, exec_empties_the_heap, exec_frees_the_old, exec_lacks_no_frame, no_tables_unasked, parted_if_shared, service_with_frames, settled_on_its_own, start_with_frames, child_has_the_regions, copy_of_another_kind, copy_with_frames, fault_tells_its_cause, loaded_page_stays_unmarked, mapped_as_asked, no_call_for_nobody, no_mapping_over_another, no_mark_by_service, no_second_fault, place_stays, released_has_none, trap_keeps}
 use Rattle.process_laws.proofs.refusals.wrong_models_are_refused.Goals as goal
 
 pub returns : goal.returns
@@ -17,4 +17,20 @@ returns c = record {
   kind = copy_of_another_kind;
   bad_image = bad_image_never_starts;
   nobody = no_call_for_nobody;
+  start_frames = start_with_frames;
+  service_frames = service_with_frames;
+  bad_exec = exec_lacks_no_frame;
+  exec_frees = exec_frees_the_old;
+  heap_base = exec_empties_the_heap;
+  settled_frame = settled_on_its_own;
+  unasked_frame = read_page_keeps_its_frame;
+  shared_frame = parted_if_shared;
+  tables = no_tables_unasked;
+  no_range = unmaps_a_range;
+  below_base = sizes_above_the_base;
+  high = maps_as_high_as_fits;
+  written = writes_what_it_must;
+  one_frame = one_frame_one_page;
+  order = bad_argument_first;
+  phase = impossible_in_its_phase;
 }
