@@ -10,4 +10,5 @@ pub mod Latest
 pub mod Words
 pub mod FrameNeeds
 pub mod CallReplies
+pub mod HeadlineExamples
 pub mod FilePlaces
