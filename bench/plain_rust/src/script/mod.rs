@@ -192,17 +192,26 @@ fn width(n: u64) -> Result<u8, Cause> {
     }
 }
 
+/// Reads the next line; `None` after the last.
+#[inline(always)]
+fn next_line(
+    lines: &mut Lines<impl Read>,
+    reader: &mut Reader,
+) -> Result<Option<Result<(), Cause>>, Fault> {
+    let (block, odd) = lines.block()?;
+    if block.is_empty() {
+        return Ok(None);
+    }
+    let (length, read) = reader.next(block, odd);
+    lines.skip(length);
+    Ok(Some(read))
+}
+
 /// Reads a script, to its end before anything is played.
 pub fn read_play(from: impl Read) -> Result<Script, Fault> {
     let mut lines = Lines::new(from);
     let mut reader = Reader::new(false);
-    loop {
-        let (block, odd) = lines.block()?;
-        if block.is_empty() {
-            break;
-        }
-        let (length, read) = reader.next(block, odd);
-        lines.skip(length);
+    while let Some(read) = next_line(&mut lines, &mut reader)? {
         if let Err(cause) = read {
             lines.drain()?;
             return Err(Fault::Script(reader.line, cause));
@@ -220,13 +229,7 @@ pub fn read_threads(from: impl Read) -> Result<Script, Fault> {
     let mut lines = Lines::new(from);
     let mut reader = Reader::new(true);
     let mut first = None;
-    loop {
-        let (block, odd) = lines.block()?;
-        if block.is_empty() {
-            break;
-        }
-        let (length, read) = reader.next(block, odd);
-        lines.skip(length);
+    while let Some(read) = next_line(&mut lines, &mut reader)? {
         if let Err(cause) = read {
             first.get_or_insert((reader.line, cause));
         }
