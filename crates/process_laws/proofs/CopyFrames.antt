@@ -76,7 +76,7 @@ module _ (w : World) (s : ℕ) (p : Process) (holds : Holds New w) (lives : proc
   -- what it took is gone from the free frames
   pub record Spent (g : Progress) : Type 0 where
     goes : every.Goes New w.counter g
-    spent : free (with_progress w s g) + g.taken ≡ free w
+    pub spent : free (with_progress w s g) + g.taken ≡ free w
 
   data SpentIfOk : Result Progress Rule → Type 0 where
     stopped : {r : Rule} → SpentIfOk (Err r)
@@ -193,10 +193,10 @@ out_goes = record {
 }
 
 -- with no byte copied no frame is taken
-nothing_beside : (frames : ℕ) (w : World) (p : Process) → Beside frames (copy_begun (initial_progress w p)) (copy_begun (initial_progress w p))
+pub nothing_beside : (frames : ℕ) (w : World) (p : Process) → Beside frames (copy_begun (initial_progress w p)) (copy_begun (initial_progress w p))
 nothing_beside frames w p = Beside.along refl (omega arith) refl
 
-tells_in : (bytes : List ℕ) (o : Option Rule) → is_no_frame_reply (in_reply bytes o) ≡ is_dry_stop o
+pub tells_in : (bytes : List ℕ) (o : Option Rule) → is_no_frame_reply (in_reply bytes o) ≡ is_dry_stop o
 tells_in bytes None = refl
 tells_in bytes (Some rule.Misaligned) = refl
 tells_in bytes (Some rule.BeyondMax) = refl
@@ -208,7 +208,7 @@ tells_in bytes (Some rule.NoWrite) = refl
 tells_in bytes (Some rule.NoExec) = refl
 tells_in bytes (Some rule.NoFrame) = refl
 
-tells_out : (bytes : List ℕ) (o : Option Rule) → is_no_frame_reply (out_reply bytes o) ≡ is_dry_stop o
+pub tells_out : (bytes : List ℕ) (o : Option Rule) → is_no_frame_reply (out_reply bytes o) ≡ is_dry_stop o
 tells_out bytes None = refl
 tells_out bytes (Some rule.Misaligned) = refl
 tells_out bytes (Some rule.BeyondMax) = refl
@@ -221,7 +221,7 @@ tells_out bytes (Some rule.NoExec) = refl
 tells_out bytes (Some rule.NoFrame) = refl
 
 module _ (w : World) (holds : Holds New w) where
-  holds_at : (m : ℕ) → Holds New (in_memory w m)
+  pub holds_at : (m : ℕ) → Holds New (in_memory w m)
   holds_at m = record { each = holds.each }
 
   module _ (s : ℕ) (p : Process) (lives : process_in w s ≡ Some p) (address : ℕ) where

@@ -119,7 +119,7 @@ copied_of_in : (bs : List ℕ) (o : Option Rule) → copied (in_reply bs o) ≡ 
 copied_of_in bs None = refl
 copied_of_in bs (Some r) = refl
 
-copied_of_out : (bs : List ℕ) (o : Option Rule) → copied (out_reply bs o) ≡ length bs
+pub copied_of_out : (bs : List ℕ) (o : Option Rule) → copied (out_reply bs o) ≡ length bs
 copied_of_out bs None = refl
 copied_of_out bs (Some r) = refl
 

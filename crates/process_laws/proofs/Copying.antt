@@ -102,7 +102,7 @@ pub record SoFar (a : Environment) (p : Process) (kind : Access) (address n : �
   goes_on : c.stop ≡ None → length c.bytes ≡ n
   stops : (rule : Rule) → c.stop ≡ Some rule → (length c.bytes < n) × Stops p kind (address + length c.bytes) rule
 
-none_and_some : {A : Type 0} {o : Option A} {x : A} → o ≡ None → o ≡ Some x → ⊥
+pub none_and_some : {A : Type 0} {o : Option A} {x : A} → o ≡ None → o ≡ Some x → ⊥
 none_and_some e f = cc
 
 module _ (a : Environment) (p : Process) (address : ℕ) where

@@ -21,10 +21,11 @@ use Rattle.sv39_entry.specs.declared.access.Access.{Access}
 use Rattle.sv39_entry.specs.declared.access.Access.TheVariants as access
 use Rattle.sv39_entry.specs.declared.rule.Rule.{Rule}
 
--- The regions, the size and the heap's base are the same, no page has a fork mark anew, and none lost its stored mark; only those that may have
+-- The regions, among them the mappings, the size and the heap's base are the same, no page has a fork mark anew, and none lost its stored mark; only those that may have
 -- a stored mark anew, or lost their fork mark
 pub record Further (may : ℕ → Bool) (p q : Process) : Type 0 where
   pub same : regions q ≡ regions p
+  pub maps : q.mappings ≡ p.mappings
   pub size : q.size ≡ p.size
   pub base : q.heap_base ≡ p.heap_base
   pub kept : (page : ℕ) → has_fork_mark p page ≡ true → (has_fork_mark q page ≡ true) ⊎ (may page ≡ true)
@@ -35,6 +36,7 @@ pub record Further (may : ℕ → Bool) (p q : Process) : Type 0 where
 further_on : (may : ℕ → Bool) (p q r : Process) → Further may p q → Further may q r → Further may p r
 further_on may p q r f g = record {
   same = g.same ∙ f.same;
+  maps = g.maps ∙ f.maps;
   size = g.size ∙ f.size;
   base = g.base ∙ f.base;
   kept = λ page e. elim (f.kept page e) [ inl there ↦ g.kept page there | inr here ↦ inr here ];
@@ -48,6 +50,7 @@ put_further : (may : ℕ → Bool) (p : Process) (n : ℕ) (x y : Page) → get 
     → (y.stored_mark ≡ true → (x.stored_mark ≡ true) ⊎ (may n ≡ true)) → (x.fork_mark ≡ true → (y.fork_mark ≡ true) ⊎ (may n ≡ true)) → Further may p (with_page p n y)
 put_further may p n x y there fork store goes keep = record {
   same = refl;
+  maps = refl;
   size = refl;
   base = refl;
   kept = λ page e. elim (cases_eq page n) [
@@ -80,7 +83,7 @@ answer_further may p n x access.Load offset width value there = put_further may 
 answer_further may p n x access.Store offset width value there = put_further may p n x _ there (λ e. e) (λ e. e) (λ e. inl e) (λ e. inl e)
 
 pub still : (may : ℕ → Bool) (p : Process) → Further may p p
-still may p = record { same = refl; size = refl; base = refl; kept = λ page e. inl e; forked = λ page e. e; stored = λ page e. e; anew = λ page e. inl e }
+still may p = record { same = refl; maps = refl; size = refl; base = refl; kept = λ page e. inl e; forked = λ page e. e; stored = λ page e. e; anew = λ page e. inl e }
 
 leaves_store : (kind : Access) (r : Option Region) → leaves_mark kind r ≡ true → is_store kind ≡ true
 leaves_store access.Fetch r e = absurd cc
@@ -92,6 +95,7 @@ anew_further may files fresh p kind page none goes =
     let new : Page = record { bytes = initial_page files p page; copy = fresh; fork_mark = false; stored_mark = leaves_mark kind (region_on p page) } in
     record {
       same = refl;
+      maps = refl;
       size = refl;
       base = refl;
       kept = λ at e. elim (cases_eq at page) [

@@ -1,9 +1,11 @@
 -- The proof of the headline theorem: each step of every run since boot, with the model's reply, meets all its parts, users'
 -- accesses, kernel copies, frames, bytes, other processes, own steps and steps made; from the lemmas of the other files.
-use Rattle.std.proofs.Common.{ap, false, ◌≡◌, ◌≢◌, ◌⊎◌, length, ◌+◌, ℕ, true, refl, sym, subst, ◌∙◌, Option, None, Some, List, [], ◌∷◌, ◌++◌, take, Bor}
+use Rattle.std.proofs.Common.{ap, false, ◌≡◌, ◌≢◌, ◌⊎◌, ◌<◌, length, ◌+◌, ℕ, true, refl, sym, subst, ◌∙◌, Option, None, Some, List, [], ◌∷◌, ◌++◌, take, Bor}
 use Rattle.std.specs.Prelude.{nat_lt, option_map}
 use Rattle.process_laws.proofs.CopyAlone.{in_lacks, out_lacks}
 use Rattle.process_laws.proofs.CopyFronts.{in_front_world, out_front_world}
+use Rattle.process_laws.proofs.CopyReady.{out_ready}
+use Rattle.process_laws.proofs.CopyRoom.{copy_room}
 use Rattle.process_laws.proofs.CopyFrames.{copies_in_spend, copies_out_spend, New, are_new}
 use Rattle.process_laws.proofs.Copying.{copies_in, copies_out, in_ran, out_ran}
 use Rattle.process_laws.proofs.Counting.{Spends}
@@ -43,7 +45,7 @@ use Rattle.process_laws.specs.CallReplies.{ExecReply, ForkReply, MapReply, SizeR
 use Rattle.process_laws.specs.MadeSteps.{MakesOwn, MakesSteps}
 use Rattle.process_laws.specs.Latest.{AreLatest, bytes_in, IsLatest}
 use Rattle.process_laws.specs.Moments.{Moment, moment_of, moments_from, slot_on}
-use Rattle.process_laws.specs.Words.{UserAccess, IsAccessStep, Begins, copied, CopiesBytes, Forbids, in_memory, IsChild, IsInPhase, IsMade, IsOnHart, IsResident, keys_on, hart_of_step, stopped_by, is_no_frame_reply, with_pending_access, IsWritten, writes_back, Written}
+use Rattle.process_laws.specs.Words.{UserAccess, IsAccessStep, Begins, byte, copied, CopiesBytes, Forbids, in_memory, IsChild, IsInPhase, IsMade, IsOnHart, IsResident, keys_on, hart_of_step, stopped_by, is_no_frame_reply, with_pending_access, IsWritten, writes_back, Written}
 use Rattle.process_model.specs.Files.{File}
 use Rattle.process_model.specs.Process.{Process, regions}
 use Rattle.process_model.specs.Steps.{plain_step, run, step}
@@ -113,10 +115,12 @@ module _ (w : World) (x : Step) where
             copies_out w h s address bytes p (λ k. LacksFrames (step w (CopyOut h address bytes)).world s access.Store (address + k)) ran (out_lacks w h s p on holds address bytes ran));
         to_front = λ bytes front is. subst (λ (y : Step). front.now ≡ take (copied (step w y).reply) bytes.now → (step w y).world ≡ (step w (CopyOut h address front)).world) (sym is)
             (out_front_world w h s p on address bytes front (out_ran w h s address bytes p on (made_as (CopyOut h address bytes) is)));
+        to_ready = λ bytes q i is. subst (λ (y : Step). i < copied (step w y).reply → process_in (step w y).world s ≡ Some q → IsResident q (byte access.Store (address + i))) (sym is)
+            (out_ready w h s address bytes p on (out_ran w h s address bytes p on (made_as (CopyOut h address bytes) is)) q i);
       }
 
-  leaves_others : OneEach w → ((s : ℕ) (q : Process) → process_in m.after s ≡ Some q → q.scheme ≡ (m.after).scheme) → LeavesOthers m
-  leaves_others one schemes =
+  leaves_others : OneEach w → ((s : ℕ) (q : Process) → process_in m.after s ≡ Some q → q.scheme ≡ (m.after).scheme) → ((s : ℕ) (q : Process) → process_in m.after s ≡ Some q → IsSound q) → LeavesOthers m
+  leaves_others one schemes sound =
       let keeps = step_keeps w x in
       record {
         kept = λ s q apart lives. kept_by s q w x apart lives;
@@ -129,6 +133,7 @@ module _ (w : World) (x : Step) where
         files = keeps.files;
         memory = (step_suits w x).memory;
         slots = keeps.places;
+        order = λ s q lives. (sound s q lives).ordered;
         scheme = (step_suits w x).scheme;
         policy = (step_suits w x).policy;
         schemes = schemes;
@@ -186,6 +191,7 @@ module _ (w : World) (x : Step) where
       fork = λ h s t p on k to is. subst (λ (y : Step). Spends w (step w y) (frames_for_child p)) (sym is) (fork_needs w (are_new w holds) h s p on t k to);
       serve = λ h s p a t g. subst (λ (y : Step). Spends w (step w y) (frames_for_page w s p a.access (page_of a.address))) (sym t.serves)
           (serve_needs w (are_new w holds) h s p a (sound s (with_pending_access p a) t.on.lives) t.on (subst (λ (y : Step). IsMade (step w y).reply) t.serves t.made) g);
+      room = λ h k copies. copy_room w holds h k x copies;
       copy = λ h k copies. let t = copy_spending h k x copies in (t.0, t.1 w.frames, t.1);
       only = says_only w x;
       no_other = keeps_free w x;
@@ -227,6 +233,9 @@ module _ (w : World) (x : Step) where
 abbrev SameSchemes : World → Type 0
 SameSchemes w = (s : ℕ) (q : Process) → process_in w s ≡ Some q → q.scheme ≡ w.scheme
 
+abbrev AllSound : World → Type 0
+AllSound w = (s : ℕ) (q : Process) → process_in w s ≡ Some q → IsSound q
+
 one_more_moment : (xs : List Step) (x : Step) (w : World) (past : List Moment) → moments_from past w (xs ++ x ∷ []) ≡ moment_of (run w xs).world x ∷ moments_from past w xs
 one_more_moment [] x w past = refl
 one_more_moment (y ∷ ys) x w past = one_more_moment ys x (step w y).world (moment_of w y ∷ past)
@@ -248,7 +257,8 @@ module _ (c : Config) (files : List File) where
         held = holds_frames w x (always_holds New c files done (fresh_is_kept c.scheme)) (always_sound c files done) (always_shares c files done)
             (subst (λ (v : World). Holds New v) (run_one_more done (booted c files) x) (always_holds New c files (done ++ x ∷ []) (fresh_is_kept c.scheme))) (subst Shares (run_one_more done (booted c files) x) (always_shares c files (done ++ x ∷ [])));
         bytes = reads_latest w x (past_of done) (latest_held c files done);
-        others = leaves_others w x (always_one c files done) (subst SameSchemes (run_one_more done (booted c files) x) (always_scheme c files (done ++ x ∷ [])).processes);
+        others = leaves_others w x (always_one c files done) (subst SameSchemes (run_one_more done (booted c files) x) (always_scheme c files (done ++ x ∷ [])).processes)
+            (subst AllSound (run_one_more done (booted c files) x) (always_sound c files (done ++ x ∷ [])));
         own = own_steps w x (latest_held c files done).sized (always_sound c files done);
         made_own = makes_own w x (always_sound c files done);
         made = makes_steps w x;

@@ -23,6 +23,9 @@ pub mod Going
 pub mod Faults
 pub mod CopyAlone
 pub mod CopyFronts
+pub mod CopyReady
+pub mod CopyRoom
+pub mod Joined
 pub mod Kept
 pub mod KeptFrames
 pub mod Grants

@@ -1,7 +1,7 @@
 -- Lemma: by its own step a process becomes what part (f) of the headline says of regions, marks, size and pending access
 -- (`Becomes`), or it ended: its slot (place in the process table) is empty, its hart idle, all its mappings written back
 -- (`Own`). Its bytes are in `KnownSteps`.
-use Rattle.std.proofs.Common.{pos, ◌≡◌, ◌≢◌, ℕ, ℤ, Bool, true, false, cond, ◌+◌, ◌-◌, ◌*◌, ◌%◌, inl, inr, refl, sym, ap, subst, ◌∙◌, arith, List, [], ◌∷◌, length, Option, None, Some, Bor, ◌||◌}
+use Rattle.std.proofs.Common.{pos, ◌≡◌, ◌≢◌, ℕ, ℤ, Bool, true, false, cond, ◌+◌, ◌-◌, ◌*◌, ◌%◌, inl, inr, refl, sym, ap, subst, ◌∙◌, arith, List, [], ◌∷◌, length, Option, None, Some, Bor, ◌&&◌, ◌||◌}
 use Rattle.std.specs.Prelude.{nat_abs, Result, Ok, Err, slice_get, unwrap_or}
 use Rattle.std.specs.Ordering.{eq_by_cmp, nat_cmp}
 use Rattle.std.specs.FinMap.Entries.{find}
@@ -16,11 +16,12 @@ use Rattle.process_laws.proofs.Grants.{inside_released, mapped_same, outside_set
 use Rattle.process_laws.proofs.HeldBytes.{in_range, none_some, set_puts}
 use Rattle.process_laws.proofs.OnHarts.{access_good, its_good, kernel_good, on_hart_good}
 use Rattle.process_laws.proofs.OnHarts as harts
+use Rattle.process_laws.proofs.Joined.{image_joined, instead_joined, mapped_joined, resized_joined, unpicked}
 use Rattle.process_laws.proofs.Running.{set_lives, step_process, step_reply}
 use Rattle.process_laws.proofs.Untouched.{free_is_empty}
 use Rattle.process_laws.specs.Moments.{Moment, slot_on}
 use Rattle.process_laws.specs.Headline.{Becomes}
-use Rattle.process_laws.specs.Pages.{grant_in, has_mark, has_some_of, has_stored_mark, image_grant, image_size, is_between, is_remapped, is_store, is_store_at, is_stored_to, mapping_grant, size_after, has_fork_mark}
+use Rattle.process_laws.specs.Pages.{are_joined, grant_in, has_mark, has_some_of, has_stored_mark, image_grant, image_size, in_one_of, is_between, is_remapped, is_store, is_store_at, is_stored_to, joins, mapping_grant, size_after, has_fork_mark}
 use Rattle.process_laws.specs.Words.{is_end, is_fault, IsMade, IsOnHart, hart_of_step}
 use Rattle.process_model.specs.Environment.{Progress}
 use Rattle.process_model.specs.Bytes.{pages_for}
@@ -31,7 +32,7 @@ use Rattle.process_model.specs.Harts.{Hart}
 use Rattle.process_model.specs.Heap.{resized_unless, sbrk_result, size_refusal, wanted_size, without_pages}
 use Rattle.process_model.specs.Images.{image_loads, LoadSegment}
 use Rattle.process_model.specs.ImageProcess.{process_of}
-use Rattle.process_model.specs.Mappings.{all_written_back, map_refusal, mapped, mapped_unless, mapping_around, mapping_of, mapping_place, unmapped, unmapped_if, unmapped_in, unmapped_unless}
+use Rattle.process_model.specs.Mappings.{all_written_back, leaves_hole, map_refusal, mapped, mapped_unless, mapping_around, mapping_of, mapping_place, unmapped, unmapped_if, unmapped_in, unmapped_unless, with_mapping}
 use Rattle.process_model.specs.PageMap.{each_value, get}
 use Rattle.process_model.specs.Process.{grants_write, Page, Pending, Process, regions, without_pending}
 use Rattle.process_model.specs.Regions.{first_rule, Region, region_at}
@@ -68,7 +69,7 @@ pub becomes_as : (m n : Moment) (h : ℕ) (p q : Process) → (n.before).scheme 
 becomes_as m n h p q scheme step reply k =
     let access_outcome = subst (λ r. Becomes (record { before = m.before; step = m.step; reply = r; after = m.after }) h p q) (sym reply) k in
     let j = subst (λ x. Becomes (record { before = m.before; step = x; reply = n.reply; after = m.after }) h p q) (sym step) access_outcome in
-    record { waits = j.waits; stays = j.stays; remapped = λ page inside. rw scheme (j.remapped page inside); vacant = j.vacant; below = j.below; forked = j.forked; unforked = j.unforked; base = j.base; new_base = j.new_base; stored = j.stored; cleared = j.cleared; size = rw scheme j.size }
+    record { waits = j.waits; stays = j.stays; joined = j.joined; remapped = λ page inside. rw scheme (j.remapped page inside); vacant = j.vacant; below = j.below; forked = j.forked; unforked = j.unforked; base = j.base; new_base = j.new_base; stored = j.stored; cleared = j.cleared; size = rw scheme j.size }
 
 -- marks change no file
 
@@ -108,6 +109,7 @@ module _ (w : World) (h s : ℕ) (p : Process) (on : IsOnHart w h s p) (x : Step
   becomes r q waits none same calm f = record {
     waits = waits;
     stays = λ page out. (ap (λ rs. grant_in (region_at rs page) page) f.same, f.stored page);
+    joined = λ page. ap (λ ms. in_one_of ms page) f.maps ∙ unpicked (is_remapped x r page) (is_remapped x r (page + 1)) (joins x r page) (are_joined p page) (none page) (none (page + 1));
     remapped = λ page e. absurd (let no : true ≡ false = sym e ∙ none page in cc);
     vacant = λ page e. absurd (let no : true ≡ false = sym e ∙ none page in cc);
     below = λ page e. absurd (let no : true ≡ false = sym e ∙ none page in cc);
@@ -147,19 +149,19 @@ module _ (w : World) (h s : ℕ) (p : Process) (on : IsOnHart w h s p) (x : Step
   -- accesses
 
   fault_fate : (hart : Hart) (a : service.AccessRequest) (cause : ℕ) → Calm (Fault cause) → Fate (access_outcome w h hart s (faulted p a cause))
-  fault_fate hart a cause still = further _ _ _ refl refl refl still (λ n e. absurd cc) (record { same = refl; size = refl; base = refl; kept = λ page e. inl e; forked = λ page e. e; stored = λ page e. e; anew = λ page e. inl e })
+  fault_fate hart a cause still = further _ _ _ refl refl refl still (λ n e. absurd cc) (record { same = refl; maps = refl; size = refl; base = refl; kept = λ page e. inl e; forked = λ page e. e; stored = λ page e. e; anew = λ page e. inl e })
 
   answer_fate : (v : World) (r : Reply) (kind : Access) (address width value : ℕ) (page : Page) → v.slots ≡ (with_process w s (without_pending (with_page p (page_of address) (access_answer kind page (address % 4096) width value).1))).slots
       → is_end r ≡ false → false ≡ is_fault r → Calm r → ((n : ℕ) → r ≢ OldSize n) → get p.settled (page_of address) ≡ Some page → Fate (answers v r)
   answer_fate v r kind address width value page e lives calm still other there =
       let f = answer_further (is_stored_to p x) p (page_of address) page kind (address % 4096) width value there in
-      further v r (without_pending (with_page p (page_of address) (access_answer kind page (address % 4096) width value).1)) e lives calm still other (record { same = f.same; size = f.size; base = f.base; kept = f.kept; forked = f.forked; stored = f.stored; anew = f.anew })
+      further v r (without_pending (with_page p (page_of address) (access_answer kind page (address % 4096) width value).1)) e lives calm still other (record { same = f.same; maps = f.maps; size = f.size; base = f.base; kept = f.kept; forked = f.forked; stored = f.stored; anew = f.anew })
 
   -- service
 
   serve_or : (hart : Hart) (a : Pending) (r : Result Progress Rule) → slice_get w.harts h ≡ Some hart → Calm Ready → FurtherIfOk (is_stored_to p x) p r → Fate (served_or_ended w h hart s p a r)
   serve_or hart a (Err r) there still FurtherIfOk.stopped = ends hart _ there refl
-  serve_or hart a (Ok g) there still (FurtherIfOk.came f) = further _ _ (with_served g a).process refl refl refl still (λ n e. absurd cc) (record { same = f.same; size = f.size; base = f.base; kept = f.kept; forked = f.forked; stored = f.stored; anew = f.anew })
+  serve_or hart a (Ok g) there still (FurtherIfOk.came f) = further _ _ (with_served g a).process refl refl refl still (λ n e. absurd cc) (record { same = f.same; maps = f.maps; size = f.size; base = f.base; kept = f.kept; forked = f.forked; stored = f.stored; anew = f.anew })
 
   serve_fate : (hart : Hart) (o : Option Pending) → slice_get w.harts h ≡ Some hart → Calm Ready → ((a : Pending) → o ≡ Some a → is_store a.access ≡ true → is_stored_to p x (page_of a.address) ≡ true) → Fate (served w h hart s p o)
   serve_fate hart None there still goes = quiet _
@@ -176,7 +178,7 @@ module _ (w : World) (h s : ℕ) (p : Process) (on : IsOnHart w h s p) (x : Step
   out_fate c (Some r) still idle f = further _ _ (c.progress).process refl refl (ap is_unserved_access idle) still (λ n e. absurd cc) f
 
   begun_further : (may : ℕ → Bool) (q : Process) → Further may (without_pending p) q → Further may p q
-  begun_further may q f = record { same = f.same; size = f.size; base = f.base; kept = f.kept; forked = f.forked; stored = f.stored; anew = f.anew }
+  begun_further may q f = record { same = f.same; maps = f.maps; size = f.size; base = f.base; kept = f.kept; forked = f.forked; stored = f.stored; anew = f.anew }
 
   copy_in_fate : (address n : ℕ) → ((r : Reply) → Calm r) → ((q : Process) → Further (λ page. false) p q → Further (is_stored_to p x) p q) → Fate (copy_in_outcome w s (copied_in (environment_of w s) (initial_progress w (without_pending p)) address n))
   copy_in_fate address n still may =
@@ -235,6 +237,7 @@ module _ (w : World) (h s : ℕ) (p : Process) (on : IsOnHart w h s p) where
         stays = λ page out.
             let k = resized_same p size page out in
             (k.grants, λ e. mark_at (λ z. z.stored_mark) (get (without_pages p (pages_for size) (pages_for p.size)).settled page) (get p.settled page) k.settled ∙ e);
+        joined = λ page. resized_joined page p sound.ordered (wanted_size p delta) none;
         remapped = λ page inside. resized_given p sound.ordered page (wanted_size p delta) none inside;
         vacant = λ page inside other. resized_vacant p sound.ordered page (wanted_size p delta) none inside;
         below = λ page inside. resized_base p sound.ordered page (wanted_size p delta) none inside;
@@ -265,6 +268,8 @@ module _ (w : World) (h s : ℕ) (p : Process) (on : IsOnHart w h s p) where
       puts w h s p on _ _ _ _ refl refl (record {
         waits = λ made. refl;
         stays = λ page out. let k = mapped_same p m page (first_page first (pages_for len) page out) in (k.grants, λ e. e);
+        joined = λ page. subst (λ k. are_joined (record p { mappings = with_mapping m p.mappings }) page ≡ cond (is_between k (k + pages_for len) page || is_between k (k + pages_for len) (page + 1)) (is_between k (k + pages_for len) page && is_between k (k + pages_for len) (page + 1)) (are_joined p page)) (sym start)
+            (mapped_joined page p m (place_fits p (pages_for len) first at));
         remapped = λ page inside. mapped_given p sound.ordered page m (place_fits p (pages_for len) first at) (at_first page inside) ∙ mapping_given first (pages_for len) protection flags n page ∙ ap (λ k. Some (mapping_grant protection flags n (page - k))) (sym start);
         vacant = λ page inside other. inl (mapped_vacant p sound.ordered page m (place_fits p (pages_for len) first at) (at_first page inside));
         below = λ page inside. mapped_above p sound.ordered page m (place_fits p (pages_for len) first at) (at_first page inside);
@@ -288,13 +293,14 @@ module _ (w : World) (h s : ℕ) (p : Process) (on : IsOnHart w h s p) where
     abbrev end : ℕ
     end = first + pages_for len
 
-    hole_fate : (m : Region) (b : Bool) → mapping_around p.mappings first end ≡ Some m → Own w h s (step_of.Munmap h address len) p (unmapped_to w s (unmapped_unless w.files p m first end b))
-    hole_fate m true environment_of = quiet w h s p on _ _
-    hole_fate m false environment_of = puts w h s p on _ _ _ _ refl refl (record {
+    hole_fate : (m : Region) (b : Bool) → leaves_hole m first end ≡ b → mapping_around p.mappings first end ≡ Some m → Own w h s (step_of.Munmap h address len) p (unmapped_to w s (unmapped_unless w.files p m first end b))
+    hole_fate m true whole environment_of = quiet w h s p on _ _
+    hole_fate m false whole environment_of = puts w h s p on _ _ _ _ refl refl (record {
       waits = λ made. refl;
       stays = λ page out.
           let k = unmapped_same p m (pages_for p.size) (trapframe_page p.scheme) first end page (omega arith) out (sound.ordered).above environment_of in
           (k.grants, λ e. mark_at (λ z. z.stored_mark) (get (without_pages p first end).settled page) (get p.settled page) k.settled ∙ e);
+      joined = λ page. instead_joined page first end (omega arith) (pages_for p.size) (trapframe_page p.scheme) p.mappings m (sound.ordered).above environment_of whole;
       remapped = λ page inside. unmapped_given p sound.ordered page first end inside m environment_of;
       vacant = λ page inside other. inr (unmapped_given p sound.ordered page first end inside m environment_of);
       below = λ page inside. unmapped_above p sound.ordered page first end inside m environment_of;
@@ -309,7 +315,7 @@ module _ (w : World) (h s : ℕ) (p : Process) (on : IsOnHart w h s p) where
 
     in_fate_of : (o : Option Region) → mapping_around p.mappings first end ≡ o → Own w h s (step_of.Munmap h address len) p (unmapped_to w s (unmapped_in w.files p first end o))
     in_fate_of None environment_of = quiet w h s p on _ _
-    in_fate_of (Some m) environment_of = hole_fate m _ environment_of
+    in_fate_of (Some m) environment_of = hole_fate m _ refl environment_of
 
     if_fate : (b : Bool) → Own w h s (step_of.Munmap h address len) p (unmapped_to w s (unmapped_if w.files p first end b))
     if_fate false = quiet w h s p on _ _
@@ -324,6 +330,7 @@ module _ (w : World) (h s : ℕ) (p : Process) (on : IsOnHart w h s p) where
   exec_unless image ls false loads = puts w h s p on _ _ _ (process_of w.scheme w.counter ls) refl refl (record {
     waits = λ made. image_idle w.scheme w.counter ls;
     stays = λ page out. absurd cc;
+    joined = λ page. image_joined w.scheme w.counter ls page;
     remapped = λ page inside. image_given w.scheme w.counter ls page ∙ ap (λ r. image_grant r page) (sym loads);
     vacant = λ page inside other. absurd (other image refl);
     below = λ page inside. refl;
@@ -349,6 +356,7 @@ module _ (w : World) (h s : ℕ) (p : Process) (on : IsOnHart w h s p) where
   fork_unless child false free = Own.alive (marked p) lives refl (record {
     waits = λ made. refl;
     stays = λ page out. (refl, λ e. fork_stored p page ∙ e);
+    joined = λ page. refl;
     remapped = λ page inside. absurd cc;
     vacant = λ page inside. absurd cc;
     below = λ page inside. absurd cc;
@@ -387,7 +395,7 @@ module _ (w : World) (h s : ℕ) (p : Process) (on : IsOnHart w h s p) where
       let x = step_of.Trap h in
       on_hart_good w (Own w h s x p) (quiet w h s p on x) h true _ _ _ (λ hart is _. its_good w (Own w h s x p) (quiet w h s p on x) h hart _ is
       (λ t q at here. its w h s p on x (λ t q. answers (with_hart (with_process w t (without_pending q)) h (record hart { phase = Enter0 })) Done) t q at here
-      (further w h s p on x (with_hart (with_process w s (without_pending p)) h (record hart { phase = Enter0 })) Done (without_pending p) refl refl refl ((λ page. refl), refl) (λ n e. absurd cc) (record { same = refl; size = refl; base = refl; kept = λ page e. inl e; forked = λ page e. e; stored = λ page e. e; anew = λ page e. inl e }))))
+      (further w h s p on x (with_hart (with_process w s (without_pending p)) h (record hart { phase = Enter0 })) Done (without_pending p) refl refl refl ((λ page. refl), refl) (λ n e. absurd cc) (record { same = refl; maps = refl; size = refl; base = refl; kept = λ page e. inl e; forked = λ page e. e; stored = λ page e. e; anew = λ page e. inl e }))))
 
   answer_there : (hart : Hart) (kind : Access) (address width value : ℕ) (x : Step) → (page : Page) (t : ℕ) (q : Process) → slot_on w h ≡ Some t → process_in w t ≡ Some q → get q.settled (page_of address) ≡ Some page
       → get p.settled (page_of address) ≡ Some page

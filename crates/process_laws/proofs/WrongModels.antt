@@ -1,20 +1,20 @@
 -- Lemmas, one for each wrong behavior of a kernel (a copy, a start or a service that lacks frames although they suffice, a
 -- byte lost at a trap, a second fault, a mapping over another, a bad image started, ..): a part of the headline excludes it,
 -- for moments of any model.
-use Rattle.std.proofs.Common.{◌≡◌, ◌≢◌, ◌≤◌, ◌<◌, inl, inr, ◌+◌, ◌*◌, ◌-◌, ◌&&◌, ◌||◌, not, ℕ, ℤ, Bool, true, false, refl, sym, ap, subst, ◌∙◌, List, Option, None, Some, length, arith}
+use Rattle.std.proofs.Common.{◌≡◌, ◌≢◌, ◌≤◌, ◌<◌, inl, inr, ◌+◌, ◌*◌, ◌-◌, ◌&&◌, ◌||◌, not, ℕ, zero, suc, ℤ, Bool, true, false, cond, refl, sym, ap, subst, ◌∙◌, List, [], ◌∷◌, Option, None, Some, length, arith}
 use Rattle.std.specs.Prelude.{Err, Ok, is_some, nat_le, nat_lt, option_map, slice_get}
 use Rattle.std.proofs.lemmas.Bool.{false≢true}
 use Rattle.std.proofs.lemmas.Bool.Decides.{nat_tests}
 use Rattle.std.proofs.lemmas.Option.{same_Some}
-use Rattle.process_laws.specs.Headline.{AnswersUser, Becomes, ChangesOwn, CopiesForKernel, CountsFrames, HoldsFrames, StopsAfter, ReadsLatest}
+use Rattle.process_laws.specs.Headline.{AnswersUser, Becomes, ChangesOwn, CopiesForKernel, CountsFrames, HoldsFrames, LeavesOthers, StopsAfter, ReadsLatest}
 use Rattle.process_laws.specs.FrameNeeds.{copy_on, frames_for_image, frames_for_page, has_tables, is_settled, LacksFrames, MayLackFrames}
 use Rattle.process_laws.specs.CallReplies.{is_below_base, is_range, MapReply, refusal_on, SizeReply, StartReply, UnmapReply}
 use Rattle.process_laws.specs.FilePlaces.{file_bytes}
 use Rattle.process_laws.specs.MadeSteps.{MakesOwn, MakesSteps}
 use Rattle.process_laws.specs.Latest.{byte_at, byte_had, page_byte, is_released, latest, left_by}
 use Rattle.process_laws.specs.Moments.{Moment, slot_on}
-use Rattle.process_laws.specs.Pages.{grant, grant_after, has_fork_mark, has_stored_mark, is_between, is_remapped, is_store_at, is_stored_to, mapping_grant}
-use Rattle.process_laws.specs.Words.{UserAccess, byte, cause, copied, CopiesBytes, Forbids, is_fault, is_reply, IsAnswer, IsGranted, IsOnHart, IsResident, MayCall, hart_of, hart_of_step, Serves, stopped_by, is_no_frame_reply, Tries, writes_back, WroteBack}
+use Rattle.process_laws.specs.Pages.{are_joined, grant, grant_after, has_fork_mark, has_mark, has_stored_mark, is_between, is_ready_on, is_remapped, is_store_at, is_stored_to, joins, mapping_grant}
+use Rattle.process_laws.specs.Words.{UserAccess, byte, cause, copied, CopiesBytes, Forbids, in_memory, is_fault, is_reply, IsAnswer, IsGranted, IsOnHart, IsResident, MayCall, hart_of, hart_of_step, Serves, stopped_by, is_no_frame_reply, Tries, writes_back, WroteBack}
 use Rattle.process_model.specs.Bytes.{pages_for}
 use Rattle.process_model.specs.Files.{File}
 use Rattle.process_model.specs.Harts.{Hart, is_kernel}
@@ -23,6 +23,8 @@ use Rattle.process_model.specs.Mappings.{most_mappings}
 use Rattle.process_model.specs.Places.{Fits}
 use Rattle.process_model.specs.PageMap.{get}
 use Rattle.process_model.specs.Process.{Page, Process, regions}
+use Rattle.process_model.specs.Order.{Row}
+use Rattle.process_model.specs.Regions.{end_of, Region, region_at}
 use Rattle.process_model.specs.declared.image.BadImage.{BadImage}
 use Rattle.process_model.specs.declared.image.Image.{Image}
 use Rattle.process_model.specs.World.{free, free_slot, has_slot, others_have, process_in, without_process, World}
@@ -32,6 +34,7 @@ use Rattle.process_model.specs.declared.step.Reply.TheVariants.{CopiedIn, Done, 
 use Rattle.process_model.specs.declared.step.Step.{Step}
 use Rattle.process_model.specs.declared.step.Step.TheVariants.{CopyIn, CopyOut, Exec, Fork, Mmap, Munmap, Sbrk, Serve, Start, Trap}
 use Rattle.sv39_entry.specs.Address.{page_of}
+use Rattle.sv39_entry.specs.Schemes.{trapframe_page}
 use Rattle.sv39_entry.specs.declared.access.Access.{Access}
 use Rattle.sv39_entry.specs.declared.access.Access.TheVariants as access
 use Rattle.sv39_entry.specs.declared.rule.Rule.{Rule}
@@ -53,6 +56,19 @@ copy_with_frames m h s address n p q bytes k step is there enough =
     ap (λ (z : Process). frames_for_page m.after s z access.Load (page_of (address + copied m.reply))) same ∙ ap (λ (r : Reply). frames_for_page m.after s q access.Load (page_of (address + copied r))) is in
     let few = l.few in
     absurd (omega (arith, few, need, enough))
+
+-- a copy to a page that leaves the fork mark
+ready_unmarked : (r : Option Region) (o : Option Page) → is_ready_on access.Store r o ≡ true → has_mark (λ (x : Page). x.fork_mark) o ≡ false
+ready_unmarked r None e = absurd cc
+ready_unmarked r (Some x) e = by x.fork_mark _ e
+  where
+    by : (a b : Bool) → (not a && b) ≡ true → a ≡ false
+    by true b f = absurd cc
+    by false b f = refl
+
+pub copied_to_is_unmarked : (m : Moment) (h s address i : ℕ) (bytes : _) (p q : Process) → CopiesForKernel m h s address (copied m.reply) p → m.step ≡ CopyOut h address bytes → i < copied m.reply → process_in m.after s ≡ Some q
+    → has_fork_mark q (page_of (address + i)) ≡ false
+copied_to_is_unmarked m h s address i bytes p q k step less there = ready_unmarked (region_at (regions q) (page_of (address + i))) (get q.settled (page_of (address + i))) (k.to_ready bytes q i step less there)
 
 -- a trap that takes a byte away, or changes it
 pub trap_keeps : (past : List Moment) (m : Moment) → ReadsLatest past m → (h s a b : ℕ) → m.step ≡ Trap h → latest past s a ≡ Some b → byte_had (process_in m.after s) a ≡ Some b
@@ -262,10 +278,49 @@ pub maps_as_high_as_fits : (m : Moment) (h s len protection flags n at : ℕ) (p
     → (length p.mappings < most_mappings) × ((other : ℕ) → Fits p (pages_for len) other → 4096 * other ≤ at)
 maps_as_high_as_fits m h s len protection flags n at p k may step is = maps_high (m.before).files p len protection flags n at m.reply is (k.mmap len protection flags n may step)
 
+-- a copy that takes frames though none is free
+pub takes_none_of_none : (m : Moment) (h address n frames : ℕ) (bytes : _) → CountsFrames m → m.step ≡ CopyIn h address n → m.reply ≡ CopiedIn bytes → free m.before ≡ 0 → free (in_memory m.before frames) ≤ free (in_memory m.after frames)
+takes_none_of_none m h address n frames bytes k step reply none =
+    let room = k.room h n (subst (λ (x : Step). CopiesBytes h n x) (sym step) CopiesBytes.copy_in) (ap is_no_frame_reply reply) frames in
+    omega (arith, room, none)
+
+-- a new mapping that is cut into several
+pub mapped_in_one : (m : Moment) (h len protection flags n at page : ℕ) (p q : Process) → Becomes m h p q → m.step ≡ Mmap h len protection flags n → m.reply ≡ MappedAt at
+    → is_between (page_of at) (page_of at + pages_for len) page ≡ true → is_between (page_of at) (page_of at + pages_for len) (page + 1) ≡ true → are_joined q page ≡ true
+mapped_in_one m h len protection flags n at page p q k step reply one two =
+    k.joined page
+    ∙ ap (λ x. cond (is_remapped x m.reply page || is_remapped x m.reply (page + 1)) (joins x m.reply page) (are_joined p page)) step
+    ∙ ap (λ r. cond (is_remapped (Mmap h len protection flags n) r page || is_remapped (Mmap h len protection flags n) r (page + 1)) (joins (Mmap h len protection flags n) r page) (are_joined p page)) reply
+    ∙ rw (one, two) refl
+
+-- a mapping without a page
+row_filled : (low high : ℕ) (ms : List Region) (n : ℕ) (r : Region) → Row 1 low ms high → slice_get ms n ≡ Some r → 1 ≤ r.pages
+row_filled low high [] n r row e = absurd cc
+row_filled low high (x ∷ ms) zero r row e = subst (λ (z : Region). 1 ≤ z.pages) (same_Some x r e) row.1
+row_filled low high (x ∷ ms) (suc n) r row e = row_filled (end_of x) high ms n r row.2 e
+
+pub mappings_have_pages : (m : Moment) (s n : ℕ) (q : Process) (r : Region) → LeavesOthers m → process_in m.after s ≡ Some q → slice_get q.mappings n ≡ Some r → 1 ≤ r.pages
+mappings_have_pages m s n q r k lives there = row_filled (pages_for q.size) (trapframe_page q.scheme) q.mappings n r (k.order s q lives).above there
+
 -- a byte that munmap, exec or an end had to write back, and that stays what it was
 pub writes_what_it_must : (m : Moment) (h s n i b : ℕ) (p : Process) → ChangesOwn m h s p → writes_back m.step m.reply ≡ true → i < length (file_bytes (m.before).files n) → WroteBack m.step p n i b
     → WroteBack m.step p n i (byte_at (file_bytes (m.after).files n) i)
-writes_what_it_must m h s n i b p k writes less wb = (k.written writes).goes n i b less wb
+writes_what_it_must m h s n i b p k writes less wb = ((k.written writes).goes n i b less wb).0
+
+-- a byte of a mapping that is written over what a mapping at a greater address has at its place
+pub writes_the_last : (m : Moment) (h s n i b : ℕ) (p : Process) → ChangesOwn m h s p → writes_back m.step m.reply ≡ true → i < length (file_bytes (m.before).files n)
+    → (v : WroteBack m.step p n i b) → ((c : ℕ) (w : WroteBack m.step p n i c) → w.address ≤ v.address) → byte_at (file_bytes (m.after).files n) i ≡ b
+writes_the_last m h s n i b p k writes less v most =
+    let t = (k.written writes).goes n i b less v in
+    let w = t.0 in
+    let up = t.1 in
+    let down = most _ w in
+    let same : v.address ≡ w.address = omega (arith, up, down) in
+    same_Some _ b (sym w.byte ∙ ap (byte_had (Some p)) (sym same) ∙ v.byte)
+
+-- a write-back that adds a file, or drops one
+pub files_stay_as_many : (m : Moment) (h s : ℕ) (p : Process) → ChangesOwn m h s p → length (m.after).files ≡ length (m.before).files
+files_stay_as_many m h s p k = k.files.count
 
 -- two processes that have a page on one frame, with different bytes
 pub one_frame_one_page : (m : Moment) (s t one two copy i : ℕ) (p q : Process) → HoldsFrames m → s ≢ t → process_in m.after s ≡ Some p → process_in m.after t ≡ Some q → copy_on p one ≡ Some copy → copy_on q two ≡ Some copy

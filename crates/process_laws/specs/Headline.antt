@@ -10,15 +10,16 @@
 -- image's from the start, others by a service or a copy). `Words` has the words, `Pages` what a region gives to a page,
 -- `Latest` the latest byte at an address, `FrameNeeds` what is counted in frames, `CallReplies` what calls reply, and `MadeSteps`
 -- part (g).
-use Rattle.std.specs.Prelude.{◌≡◌, ◌≢◌, ◌⊎◌, ℕ, false, true, ◌+◌, ◌-◌, ◌<◌, ◌≤◌, nat_lt, Option, None, Some, List, [], ◌∷◌, length, option_map, slice_get, take, pos, Ok, if◌then◌else◌}
+use Rattle.std.specs.Prelude.{◌≡◌, ◌≢◌, ◌⊎◌, ℕ, false, true, ◌+◌, ◌-◌, ◌<◌, ◌≤◌, nat_lt, ◌||◌, Option, None, Some, List, [], ◌∷◌, length, option_map, slice_get, take, pos, Ok, if◌then◌else◌}
 use Rattle.std.specs.Borrow.{Bor}
 use Rattle.process_laws.specs.Latest.{AreLatest, byte_had, bytes_in, IsLatest, latest}
 use Rattle.process_laws.specs.Moments.{Moment, moment_of, moments_from, slot_on}
-use Rattle.process_laws.specs.Pages.{grant, grant_after, has_fork_mark, has_stored_mark, is_remapped, is_stored_to, may_remap, size_after}
+use Rattle.process_laws.specs.Pages.{are_joined, grant, grant_after, has_fork_mark, has_stored_mark, is_remapped, is_stored_to, joins, may_remap, size_after}
 use Rattle.process_laws.specs.FrameNeeds.{copy_on, frames_for_child, frames_for_image, frames_for_page, HasNewFrames, IsSharedPage, KeepsFrames, LacksFrames, MayLackFrames, SharesFrames}
 use Rattle.process_laws.specs.Words.{UserAccess, IsAccessStep, byte, cause, copied, CopiesBytes, Forbids, in_memory, is_end, is_fault, IsAnswer, IsChild, IsGranted, IsInPhase, IsMade, IsOnHart, IsResident, IsWritten, MayCall, is_on_hart, keys_after, keys_on, starts_in_slot, hart_of_step, moved_hart, phase_on, Serves, stopped_by, takes_frames, is_no_frame_reply, Tries, with_pending_access, writes_back, Written}
 use Rattle.process_model.specs.Files.{File}
 use Rattle.process_model.specs.Harts.{Hart}
+use Rattle.process_model.specs.Order.{IsInOrder}
 use Rattle.process_model.specs.Process.{Process}
 use Rattle.process_model.specs.Steps.{run}
 use Rattle.process_model.specs.Images.{image_loads, LoadSegment}
@@ -70,11 +71,14 @@ pub record Copies (p : Process) (access : Access) (address n k : ℕ) (Lacks : T
 
 -- A copy that stops early changes what a copy of the first k bytes changes: it neither undoes them nor takes a frame for the
 -- rest. (`front` has the first k bytes)
+-- The page of each byte that is copied to p is ready for a store then, even if the byte was there already: with no frame free,
+-- `copyout 0 0x1000 00` to a page that is shared since a fork answers `short 9 NoFrame done 0`
 pub record CopiesForKernel (m : Moment) (h s address k : ℕ) (p : Process) : Type 0 where
   pub from : (n : ℕ) → m.step ≡ CopyIn h address n → Copies p Load address n k (LacksFrames m.after s Load (address + k)) (stopped_by m.reply)
   pub from_front : (n : ℕ) → m.step ≡ CopyIn h address n → m.after ≡ (moment_of m.before (CopyIn h address k)).after
   pub to : (bytes : Bor (List ℕ)) → m.step ≡ CopyOut h address bytes → Copies p Store address (length bytes.now) k (LacksFrames m.after s Store (address + k)) (stopped_by m.reply)
   pub to_front : (bytes front : Bor (List ℕ)) → m.step ≡ CopyOut h address bytes → front.now ≡ take k bytes.now → m.after ≡ (moment_of m.before (CopyOut h address front)).after
+  pub to_ready : (bytes : Bor (List ℕ)) (q : Process) (i : ℕ) → m.step ≡ CopyOut h address bytes → i < k → process_in m.after s ≡ Some q → IsResident q (byte Store (address + i))
 
 -- (c) A reply says NoFrame exactly when fewer frames are free than the step needs, n; and `FrameNeeds` counts n. A start of nine
 -- pages in the first two megabytes needs 17: these, guard and stack, five page tables and the trapframe; under Sv48 19
@@ -100,6 +104,9 @@ pub record CountsFrames (m : Moment) : Type 0 where
   pub serve : (h s : ℕ) (p : Process) (a : UserAccess) → Serves m h s p a → IsGranted p a → TakesExactly m (frames_for_page m.before s p a.access (page_of a.address))
   -- A copy takes a number that is the same however many frames the memory has ((b) says what the page needs at which it stops)
   pub copy : (h k : ℕ) → CopiesBytes h k m.step → (n : ℕ) × TakesExactly m n × ((frames : ℕ) → TakesExactly (with_frames m frames) n)
+  -- A copy that does not say NoFrame takes no more than are free, counted in a memory of any size, since `free` stops at 0: with
+  -- one frame free, a copy to a page that lacks a page table too answers `short 9 NoFrame done 0`
+  pub room : (h k : ℕ) → CopiesBytes h k m.step → is_no_frame_reply m.reply ≡ false → (frames : ℕ) → free (in_memory m.before frames) ≤ free (in_memory m.after frames) + free m.before
   -- Only these steps say NoFrame, and no other step takes a frame
   pub only : is_no_frame_reply m.reply ≡ true → MayLackFrames m.before m.step
   pub no_other : takes_frames m.step ≡ false → ((h : ℕ) (image : Image) → m.step ≢ Exec h image) → free m.before ≤ free m.after
@@ -147,6 +154,9 @@ pub record LeavesOthers (m : Moment) : Type 0 where
   pub files : writes_back m.step m.reply ≡ false → (m.after).files ≡ (m.before).files
   pub memory : (m.after).frames ≡ (m.before).frames
   pub slots : length (m.after).slots ≡ length (m.before).slots
+  -- The regions of each process are in ascending order and apart, its mappings above the heap, each of a page or more: 16
+  -- mappings of no page, which refuse the first mmap with MappingsFull, are none
+  pub order : (s : ℕ) (q : Process) → process_in m.after s ≡ Some q → IsInOrder q
   -- The scheme of translation stays, and each process has it; and the policy of fences
   pub scheme : (m.after).scheme ≡ (m.before).scheme
   pub policy : (m.after).policy ≡ (m.before).policy
@@ -159,6 +169,9 @@ pub record Becomes (m : Moment) (h : ℕ) (p q : Process) : Type 0 where
   -- Each page keeps its grant (rights, kind of region, source of its initial bytes) and its stored mark, but those that
   -- exec, sbrk, mmap and munmap remap
   pub stays : (page : ℕ) → is_remapped m.step m.reply page ≡ false → (grant q page ≡ grant p page) × (has_stored_mark p page ≡ true → has_stored_mark q page ≡ true)
+  -- Two neighboring pages are in one mapping if mmap maps both; else, if neither is remapped, exactly if they were: a step cuts,
+  -- merges and adds no mapping unasked. After `mmap 0 8192 1 2 0` the two pages are in one
+  pub joined : (page : ℕ) → are_joined q page ≡ (if is_remapped m.step m.reply page || is_remapped m.step m.reply (page + 1) then joins m.step m.reply page else are_joined p page)
   -- Such a page has what the call gives; only exec puts one grant in the place of another; sbrk leaves the pages below the
   -- heap as they are, mmap and munmap the heap too
   pub remapped : (page : ℕ) → is_remapped m.step m.reply page ≡ true → grant q page ≡ grant_after (m.before).scheme m.step m.reply page
@@ -183,9 +196,10 @@ pub record ChangesOwn (m : Moment) (h s : ℕ) (p : Process) : Type 0 where
   -- After an exit, and after an end by a rule, the slot is empty and the hart idle
   pub gone : is_end m.reply ≡ true → (process_in m.after s ≡ None) × (slot_on m.after h ≡ None) × IsInPhase m.after h Idle
   -- A byte of a file that changes becomes the byte that p had at that place, on a page with the stored mark of a writable
-  -- shared mapping (of the range, if the step is munmap). No file changes its length, or whether it may be written
+  -- shared mapping (of the range, if the step is munmap). No file comes, goes, or changes its length or whether it may be written
   pub files : Written m.step p (m.before).files (m.after).files
-  -- And if the step writes back, every byte of such a page is written, up to the file's length
+  -- And if the step writes back, every byte of such a page is written, up to the file's length, pages in order of address: if
+  -- two map one place, the upper one's byte stays
   pub written : writes_back m.step m.reply ≡ true → IsWritten m.step p (m.before).files (m.after).files
   -- A child has its parent's regions, heap base and size, waits for nothing, and has no stored mark
   pub child : (t : ℕ) → m.step ≡ Fork h → m.reply ≡ Forked t → (c : Process) × (process_in m.after t ≡ Some c) × IsChild p c

@@ -6,7 +6,7 @@ use Rattle.process_model.specs.Bytes.{pages_for}
 use Rattle.process_model.specs.Images.{end_of_loads, end_page, image_loads, LoadSegment}
 use Rattle.process_model.specs.PageMap.{get}
 use Rattle.process_model.specs.Process.{Page, Pending, Process, regions}
-use Rattle.process_model.specs.Regions.{file, guard, heap, image, keeps_stores, private_mapping, Region, region_at, RegionKind, segment, shared_mapping, Source, stack, zeros}
+use Rattle.process_model.specs.Regions.{file, guard, heap, holds_page, image, keeps_stores, private_mapping, Region, region_at, RegionKind, segment, shared_mapping, Source, stack, zeros}
 use Rattle.process_model.specs.declared.image.BadImage.{BadImage}
 use Rattle.process_model.specs.declared.step.Reply.{Reply}
 use Rattle.process_model.specs.declared.step.Reply.TheVariants.{Done, MappedAt, OldSize, Started}
@@ -91,6 +91,22 @@ may_remap p (Sbrk h delta) page = nat_le (page_of p.heap_base) page
 may_remap p (Mmap h len protection flags n) page = nat_le (pages_for p.size) page
 may_remap p (Munmap h address len) page = nat_le (pages_for p.size) page
 may_remap p x page = true
+
+-- neighboring pages in one mapping
+
+-- one of the regions has the page and the next
+abbrev pub in_one_of : List Region → ℕ → Bool
+in_one_of [] page = false
+in_one_of (m ∷ ms) page = (holds_page m page && holds_page m (page + 1)) || in_one_of ms page
+
+-- one mapping of the process has the page and the next
+abbrev pub are_joined : Process → ℕ → Bool
+are_joined p page = in_one_of p.mappings page
+
+-- the step puts the page and the next into one mapping: mmap those of its range
+abbrev pub joins : Step → Reply → ℕ → Bool
+joins (Mmap h len protection flags n) (MappedAt at) page = is_between (page_of at) (page_of at + pages_for len) page && is_between (page_of at) (page_of at + pages_for len) (page + 1)
+joins _ r page = false
 
 -- the grant of a remapped page after the call
 

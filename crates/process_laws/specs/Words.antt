@@ -1,7 +1,7 @@
 -- The words of the headline, predicates and functions: steps, with their harts and phases (idle, user mode, kernel, the way
 -- between), and buffers after them; `UserAccess`, and whether it is granted, resident or forbidden; kinds of replies; which
 -- steps take frames; how a process or a forked child begins; and what a step writes back to files.
-use Rattle.std.specs.Prelude.{◌≡◌, ◌≢◌, ◌⊎◌, ℕ, Bool, true, false, ◌+◌, ◌<◌, ◌%◌, ◌==◌, Option, None, Some, List, length, option_map, pos, remove, slice_get, if◌then◌else◌}
+use Rattle.std.specs.Prelude.{◌≡◌, ◌≢◌, ◌⊎◌, ℕ, Bool, true, false, ◌+◌, ◌<◌, ◌≤◌, ◌%◌, ◌==◌, Option, None, Some, List, length, option_map, pos, remove, slice_get, if◌then◌else◌}
 use Rattle.std.specs.Borrow.{Bor}
 use Rattle.process_laws.specs.RuleDenials.{IsFirst}
 use Rattle.process_laws.specs.Moments.{Moment, slot_on}
@@ -311,14 +311,16 @@ pub record WroteBack (x : Step) (p : Process) (n i b : ℕ) : Type 0 where
   pub stored : has_stored_mark p (page_of address) ≡ true
   pub byte : byte_had (Some p) address ≡ Some b
 
--- each file keeps its length and whether it may be written, and each byte of it stays or becomes
--- one that p writes back (`WroteBack`)
+-- no file comes or goes; each keeps its length and whether it may be written, and each byte of it stays or becomes one that p
+-- writes back (`WroteBack`)
 pub record Written (x : Step) (p : Process) (files later : List File) : Type 0 where
+  pub count : length later ≡ length files
   pub mode : (n : ℕ) → is_writable (slice_get later n) ≡ is_writable (slice_get files n)
   pub long : (n : ℕ) → length (file_bytes later n) ≡ length (file_bytes files n)
   pub bytes : (n i : ℕ) → i < length (file_bytes files n) → (byte_at (file_bytes later n) i ≡ byte_at (file_bytes files n) i) ⊎ WroteBack x p n i (byte_at (file_bytes later n) i)
 
--- what p has to write back to a place of a file (`WroteBack`) is there: the byte becomes such a byte (the last one, if two
--- pages map the place)
+-- what p has to write back to a place of a file (`WroteBack`) is there: the byte becomes such a byte; if several pages map the
+-- place, that of the page at the greatest address, which is written last. After two mmaps of file 0, the second below the
+-- first, and stores of 0x61 through the first and 0x62 through the second, an exit leaves 0x61 in the file
 pub record IsWritten (x : Step) (p : Process) (files later : List File) : Type 0 where
-  pub goes : (n i b : ℕ) → i < length (file_bytes files n) → WroteBack x p n i b → WroteBack x p n i (byte_at (file_bytes later n) i)
+  pub goes : (n i b : ℕ) → i < length (file_bytes files n) → (v : WroteBack x p n i b) → (w : WroteBack x p n i (byte_at (file_bytes later n) i)) × (v.address ≤ w.address)

@@ -1,16 +1,16 @@
-// One law, `wrong_models_are_refused`: the parts of the headline exclude 30 wrong behaviors of a kernel, such as a
+// One law, `wrong_models_are_refused`: the parts of the headline exclude 36 wrong behaviors of a kernel, such as a
 // second fault, a copy that stops although frames suffice, a byte lost at a trap, a released page that keeps bytes, a
 // misplaced grant or mark, or the start of a bad image.
 ghost use Rattle.std.specs.Prelude.{◌≡◌, ◌≢◌, ◌≤◌, ◌<◌, ◌+◌, ◌-◌, ◌*◌, ℕ, ℤ, Err, false, length, List, None, Ok, slice_get, Some, true};
-ghost use Rattle.process_laws.specs.Headline.{AnswersUser, Becomes, ChangesOwn, CopiesForKernel, CountsFrames, HoldsFrames, ReadsLatest};
+ghost use Rattle.process_laws.specs.Headline.{AnswersUser, Becomes, ChangesOwn, CopiesForKernel, CountsFrames, HoldsFrames, LeavesOthers, ReadsLatest};
 ghost use Rattle.process_laws.specs.CallReplies.{is_below_base, is_range};
 ghost use Rattle.process_laws.specs.FilePlaces.{file_bytes};
 ghost use Rattle.process_laws.specs.Latest.{byte_at, byte_had, page_byte, is_released, latest};
 ghost use Rattle.process_laws.specs.MadeSteps.{MakesOwn, MakesSteps};
 ghost use Rattle.process_laws.specs.Moments.{Moment, slot_on};
 ghost use Rattle.process_laws.specs.FrameNeeds.{copy_on, frames_for_image, frames_for_page, has_tables, is_settled};
-ghost use Rattle.process_laws.specs.Pages.{grant, has_fork_mark, has_stored_mark, is_between, is_store_at, mapping_grant};
-ghost use Rattle.process_laws.specs.Words.{UserAccess, cause, copied, IsGranted, IsOnHart, IsResident, MayCall, Serves, Tries, writes_back, WroteBack};
+ghost use Rattle.process_laws.specs.Pages.{are_joined, grant, has_fork_mark, has_stored_mark, is_between, is_store_at, mapping_grant};
+ghost use Rattle.process_laws.specs.Words.{UserAccess, cause, copied, in_memory, IsGranted, IsOnHart, IsResident, MayCall, Serves, Tries, writes_back, WroteBack};
 ghost use Rattle.process_model.specs.Bytes.{pages_for};
 ghost use Rattle.process_model.specs.Harts.{Hart, is_kernel};
 ghost use Rattle.process_model.specs.Images.{image_loads, LoadSegment};
@@ -18,6 +18,7 @@ ghost use Rattle.process_model.specs.Mappings.{most_mappings};
 ghost use Rattle.process_model.specs.Places.{Fits};
 ghost use Rattle.process_model.specs.PageMap.{get};
 ghost use Rattle.process_model.specs.Process.{Process, regions};
+ghost use Rattle.process_model.specs.Regions.{Region};
 ghost use Rattle.process_model.specs.World.{free, free_slot, has_slot, others_have, process_in, without_process};
 ghost use Rattle.process_model.specs.declared.image.BadImage.{BadImage};
 ghost use Rattle.process_model.specs.declared.image.Image.{Image};
@@ -46,7 +47,10 @@ ghost use Rattle.sv39_entry.specs.declared.rule.Rule.TheVariants.{NoFrame};
 /// inside a page or a length of 0. `below_base`: sbrk is done below the heap's base. `high`: mmap maps below a page at
 /// which the pages fit, or a 17th time. `written`: a byte that had to be written back is not. `one_frame`: two processes
 /// have pages with different bytes on one frame. `order`: a copy of more than 256 bytes gets another refusal than
-/// BadArgument. `phase`: a call outside the kernel gets another one than Impossible with the hart's phase.
+/// BadArgument. `phase`: a call outside the kernel gets another one than Impossible with the hart's phase. `copy_mark`: a
+/// page to which copyout puts a byte keeps the fork mark. `count`: a file is added or dropped. `last`: where two pages map
+/// one place of a file, the byte of the lower one is there after write-back. `cut`: the pages of a new mapping are in several. `no_page`:
+/// a process has a mapping of no page. `none_free`: copyin takes frames although none is free.
 pub fn wrong_models_are_refused()
     ensures second_fault { (m : Moment) (h s cause : ℕ) (p : Process) (a : UserAccess) → AnswersUser m h s p a → Tries m h s p a → IsGranted p a → IsResident p a → m.reply ≢ Fault cause }
     ensures other_cause { (m : Moment) (h s c : ℕ) (p : Process) (a : UserAccess) → AnswersUser m h s p a → Tries m h s p a → (IsGranted p a → IsResident p a → ⊥) → m.reply ≡ Fault c → c ≡ cause a }
@@ -95,4 +99,14 @@ pub fn wrong_models_are_refused()
     ensures order { (m : Moment) (h address n : ℕ) → MakesSteps m → m.step ≡ CopyIn h address n → 256 < n → m.reply ≡ Refused refusal.BadArgument }
     ensures phase { (m : Moment) (h : ℕ) (delta : ℤ) (hart : Hart) → MakesSteps m → slice_get (m.before).harts h ≡ Some hart → m.step ≡ Sbrk h delta → is_kernel hart.phase ≡ false
         → m.reply ≡ Refused (refusal.Impossible hart.phase) }
+    ensures copy_mark { (m : Moment) (h s address i : ℕ) (bytes : _) (p q : Process) → CopiesForKernel m h s address (copied m.reply) p → m.step ≡ CopyOut h address bytes → i < copied m.reply → process_in m.after s ≡ Some q
+        → has_fork_mark q (page_of (address + i)) ≡ false }
+    ensures none_free { (m : Moment) (h address n frames : ℕ) (bytes : _) → CountsFrames m → m.step ≡ CopyIn h address n → m.reply ≡ CopiedIn bytes → free m.before ≡ 0
+        → free (in_memory m.before frames) ≤ free (in_memory m.after frames) }
+    ensures no_page { (m : Moment) (s n : ℕ) (q : Process) (r : Region) → LeavesOthers m → process_in m.after s ≡ Some q → slice_get q.mappings n ≡ Some r → 1 ≤ r.pages }
+    ensures cut { (m : Moment) (h len protection flags n at page : ℕ) (p q : Process) → Becomes m h p q → m.step ≡ Mmap h len protection flags n → m.reply ≡ MappedAt at
+        → is_between (page_of at) (page_of at + pages_for len) page ≡ true → is_between (page_of at) (page_of at + pages_for len) (page + 1) ≡ true → are_joined q page ≡ true }
+    ensures last { (m : Moment) (h s n i b : ℕ) (p : Process) → ChangesOwn m h s p → writes_back m.step m.reply ≡ true → i < length (file_bytes (m.before).files n)
+        → (v : WroteBack m.step p n i b) → ((c : ℕ) (w : WroteBack m.step p n i c) → w.address ≤ v.address) → byte_at (file_bytes (m.after).files n) i ≡ b }
+    ensures count { (m : Moment) (h s : ℕ) (p : Process) → ChangesOwn m h s p → length (m.after).files ≡ length (m.before).files }
 {}
