@@ -40,7 +40,7 @@ use Rattle.hart_machine.proofs.Calling.{call_runs}
 use Rattle.hart_machine.proofs.CopiedRuns.{are_given, are_runs, as_runs_in, as_runs_out, runs_end_in, runs_end_out}
 use Rattle.hart_machine.proofs.CopiedWorlds.{IsCopied, IsUnderWay, machine_at, old_in, tenant_in}
 use Rattle.hart_machine.proofs.HartSteps.{improper, refused, tenant_is}
-use Rattle.hart_machine.proofs.KeptLeaves.{followed_same, slot_keeps_by}
+use Rattle.hart_machine.proofs.KeptLeaves.{followed_frames, followed_same, slot_keeps_by}
 use Rattle.hart_machine.proofs.MarkedCopies.{copied_in_regions, copied_in_told, copied_out_regions, copied_out_told, copied_in_scheme, copied_out_scheme}
 use Rattle.hart_machine.proofs.SlotMarks.{set_marks}
 
@@ -100,6 +100,7 @@ module _ (m : Machine) (w : World) (is : IsWorld m w) (h s : ℕ) (k : IsCaller 
         slot_keeps_by m after w.slots _ s x y k.process j.process (is.tables s) (copied.world.tables s) own tenant_after place k.in_slot refl refl refl
         (λ unchanged. followed_same x y (is.tables s) (copied.world.tables s) k.process j.process own tenant_after unchanged schemed trapframe same
         w.counter (λ n z there. is.counted s n k.process z k.in_slot there) (λ n f z. copied.old n f z))
+        (followed_frames x y (is.tables s) (copied.world.tables s) k.process j.process own tenant_after schemed trapframe w.counter (λ n z there. is.counted s n k.process z k.in_slot there) (λ n f z. copied.old n f z))
 
   -- from the process
 

@@ -1,12 +1,13 @@
 -- Lemmas: if a call leaves each page of a process its copy number (which names one copy of a page in memory) and its marks,
--- it leaves each leaf (`followed_same`), and the machine keeps its page tables (`slot_keeps`).
+-- it leaves each leaf (`followed_same`); frames that it keeps (`staying_frames`, `followed_frames`, `dropped_frames`); and so the machine
+-- keeps its page tables (`slot_keeps`).
 use Rattle.std.proofs.Common.{◌≡◌, ℕ, ◌<◌, Bool, true, false, not, length, Option, None, Some, List, refl, ap, sym, subst, ◌∙◌, inl, inr, arith}
 use Rattle.std.specs.Prelude.{slice_get, slice_set}
 use Rattle.std.specs.FinMap as finite
 use Rattle.std.proofs.lemmas.Bool.{cases_eq}
 use Rattle.std.proofs.lemmas.List.{length-set}
 use Rattle.std.proofs.lemmas.Option.{same_Some, slice_get_within}
-use Rattle.address_space.specs.Agreement.{IsFrameOfPage}
+use Rattle.address_space.specs.Agreement.{IsFrameOfPage, one_frame}
 use Rattle.address_space.specs.SpaceTeardown.{Drops}
 use Rattle.address_space.specs.Kernel.{IsKernelTable}
 use Rattle.address_space.specs.SameLeaves.{leaves_stay, WasAlike}
@@ -18,11 +19,12 @@ use Rattle.process_model.specs.Stale.{is_changed}
 use Rattle.table_walk.specs.Tables.{Tables, leaf_node}
 use Rattle.hart_machine.specs.Calls.{Follows}
 use Rattle.hart_machine.specs.SlotProcesses.{body_in, IsSlotProcess}
-use Rattle.hart_machine.specs.Worlds.{HaveSameLeaves, KeepsTables}
+use Rattle.hart_machine.specs.Worlds.{HaveSameLeaves, KeepsFrames, KeepsTables}
 use Rattle.hart_machine.specs.declared.machine.Machine.{Machine}
 use Rattle.hart_machine.specs.declared.slot_process.SlotProcess.{SlotProcess}
 use Rattle.hart_machine.proofs.ChangedSlots.{pages_are_same, sign, sign_of}
-use Rattle.hart_machine.proofs.KeptTables.{same_tenant}
+use Rattle.hart_machine.proofs.KeptTables.{frames_of_leaves, same_tenant}
+use Rattle.hart_machine.proofs.Mapping.{dropped_on}
 use Rattle.sv39_entry.specs.Schemes.{trampoline_page, trapframe_page}
 
 not_false : (b : Bool) → not b ≡ false → b ≡ true
@@ -81,6 +83,28 @@ module _ (x y : SlotProcess) (t u : Tables) (p q : Process) (before : IsSlotProc
     pub followed_same : HaveSameLeaves t u
     followed_same number = leaves_stay (body_in x) (body_in y) t u p q before.agrees after.agrees (ap (λ f. f.0) trapframe) schemed same_regions (still_settled p q unchanged) alike number
 
+module _ (x y : SlotProcess) (t u : Tables) (p q : Process) (before : IsSlotProcess x t p) (after : IsSlotProcess y u q) (schemed : q.scheme ≡ p.scheme) (trapframe : y.space.trapframe ≡ x.space.trapframe) where
+  -- TRAPFRAME's page is on the frame that it was on
+  stays_saved : (f : ℕ) → IsFrameOfPage u (trapframe_page p.scheme) f → IsFrameOfPage t (trapframe_page p.scheme) f
+  stays_saved f at =
+      let was = before.agrees.stands.shows.on_trapframe in
+      let now = after.agrees.stands.shows.on_trapframe in
+      let here : IsFrameOfPage u (trapframe_page p.scheme) x.space.trapframe.0 = subst (λ (g : ℕ). IsFrameOfPage u (trapframe_page p.scheme) g) (ap (λ k. k.0) trapframe)
+      (subst (λ z. IsFrameOfPage u (trapframe_page z) y.space.trapframe.0) schemed (now.0, now.1, now.2.names)) in
+      subst (λ (g : ℕ). IsFrameOfPage t (trapframe_page p.scheme) g) (one_frame u (trapframe_page p.scheme) x.space.trapframe.0 f here at) (was.0, was.1, was.2.names)
+
+  -- so frames are kept where each page that was there is on the frame that it was on
+  pub staying_frames : ((n f : ℕ) (a : Page) → pages.get p.settled n ≡ Some a → IsFrameOfPage u n f → IsFrameOfPage t n f) → KeepsFrames t u p q
+  staying_frames on = record { trapframe = stays_saved; pages = λ n f a b at_p at_q copy. on n f a at_p }
+
+  -- and where each with an old copy number is
+  pub followed_frames : (low : ℕ) → ((n : ℕ) (a : Page) → pages.get p.settled n ≡ Some a → a.copy < low) → ((n f : ℕ) (z : Page) → pages.get q.settled n ≡ Some z → z.copy < low → IsFrameOfPage u n f → IsFrameOfPage t n f) → KeepsFrames t u p q
+  followed_frames low counted on = record { trapframe = stays_saved; pages = λ n f a b at_p at_q copy. let below = counted n a at_p in on n f b at_q (omega (arith, below, copy)) }
+
+-- and where a run of pages was dropped
+pub dropped_frames : (t u : Tables) (p q : Process) (first end : ℕ) → Drops t u first end → KeepsFrames t u p q
+dropped_frames t u p q first end drops = record { trapframe = λ f. dropped_on t u first end drops (trapframe_page p.scheme) f; pages = λ n f a b was is copy. dropped_on t u first end drops n f }
+
 -- a page that follows one is on its frame, where its copy number is an old one
 pub old_on : (v : View) (t u : Tables) (p q : Process) (low high : ℕ) → Follows v t u p q low high → (n f : ℕ) (z : Page) → pages.get q.settled n ≡ Some z → z.copy < low → IsFrameOfPage u n f → IsFrameOfPage t n f
 old_on v t u p q low high follows n f z there below on = elim (follows.each n z there) [
@@ -91,7 +115,8 @@ old_on v t u p q low high follows n f z there below on = elim (follows.each n z 
 -- the process of one slot is another
 module _ (m n : Machine) (before after : List (Option Process)) (s : ℕ) (x y : SlotProcess) (p q : Process) (place : slice_get m.slots.items s ≡ Some (Some x)) (at : slice_get before s ≡ Some (Some p))
     (slots : n.slots.items ≡ slice_set m.slots.items s (Some y)) (model : after ≡ slice_set before s (Some q)) (kernel : n.kernel ≡ m.kernel)
-    (here : (t u : Tables) → is_changed (Some p) (Some q) ≡ false → IsSlotProcess x t p → IsSlotProcess y u q → HaveSameLeaves t u) where
+    (here : (t u : Tables) → is_changed (Some p) (Some q) ≡ false → IsSlotProcess x t p → IsSlotProcess y u q → HaveSameLeaves t u)
+    (framed : (t u : Tables) → IsSlotProcess x t p → IsSlotProcess y u q → KeepsFrames t u p q) where
   now_here : slice_get n.slots.items s ≡ Some (Some y)
   now_here = ap (λ xs. slice_get xs s) slots ∙ place_set_same m.slots.items s (Some y) (slice_get_within m.slots.items s (Some x) place)
 
@@ -113,10 +138,31 @@ module _ (m n : Machine) (before after : List (Option Process)) (s : ℕ) (x y :
       | inr apart ↦
           same_tenant a b c d t u (same_Some a b (same_Some _ _ (sym at_m ∙ sym (place_set_other m.slots.items s r (Some y) apart) ∙ ap (λ xs. slice_get xs r) (sym slots) ∙ at_n))) of_a of_b
     ];
+    frames = λ r a b c d t u at_m at_n at_w at_v of_a of_b. elim (cases_eq r s) [
+      | inl same ↦
+          let a_is : a ≡ x = same_Some a x (same_Some _ _ (sym at_m ∙ ap (slice_get m.slots.items) same ∙ place)) in
+          let b_is : b ≡ y = same_Some b y (same_Some _ _ (sym at_n ∙ ap (slice_get n.slots.items) same ∙ now_here)) in
+          let c_is : c ≡ p = same_Some c p (same_Some _ _ (sym at_w ∙ ap (slice_get before) same ∙ at)) in
+          let d_is : d ≡ q = same_Some d q (same_Some _ _ (sym at_v ∙ ap (slice_get after) same ∙ now_in)) in
+          subst (λ z. KeepsFrames t u c z) (sym d_is) (subst (λ z. KeepsFrames t u z q) (sym c_is)
+          (framed t u (subst (λ z. IsSlotProcess z t p) a_is (subst (λ z. IsSlotProcess a t z) c_is of_a)) (subst (λ z. IsSlotProcess z u q) b_is (subst (λ z. IsSlotProcess b u z) d_is of_b))))
+      | inr apart ↦
+          frames_of_leaves t u c d (same_tenant a b c d t u (same_Some a b (same_Some _ _ (sym at_m ∙ sym (place_set_other m.slots.items s r (Some y) apart) ∙ ap (λ xs. slice_get xs r) (sym slots) ∙ at_n))) of_a of_b)
+    ];
   }
 
 -- it is told by one pair of tables
 pub slot_keeps_by : (m n : Machine) (before after : List (Option Process)) (s : ℕ) (x y : SlotProcess) (p q : Process) (t u : Tables) → IsSlotProcess x t p → IsSlotProcess y u q → slice_get m.slots.items s ≡ Some (Some x) → slice_get before s ≡ Some (Some p)
-    → n.slots.items ≡ slice_set m.slots.items s (Some y) → after ≡ slice_set before s (Some q) → n.kernel ≡ m.kernel → (is_changed (Some p) (Some q) ≡ false → HaveSameLeaves t u) → KeepsTables m n before after
-slot_keeps_by m n before after s x y p q t u of_x of_y place at slots model kernel same = slot_keeps m n before after s x y p q place at slots model kernel
+    → n.slots.items ≡ slice_set m.slots.items s (Some y) → after ≡ slice_set before s (Some q) → n.kernel ≡ m.kernel → (is_changed (Some p) (Some q) ≡ false → HaveSameLeaves t u) → KeepsFrames t u p q
+    → KeepsTables m n before after
+slot_keeps_by m n before after s x y p q t u of_x of_y place at slots model kernel same framed = slot_keeps m n before after s x y p q place at slots model kernel
     (λ a b unchanged in_a in_b page. same_tenant y y q q u b refl of_y in_b page ∙ same unchanged page ∙ same_tenant x x p p a t refl in_a of_x page)
+    (λ a b in_a in_b. frames_by (same_tenant x x p p t a refl of_x in_a) (same_tenant y y q q b u refl in_b of_y)) where
+      moved : (v o : Tables) → HaveSameLeaves v o → (k f : ℕ) → IsFrameOfPage v k f → IsFrameOfPage o k f
+      moved v o same_leaves k f on = (on.0, same_leaves (leaf_node k) ∙ on.1, on.2)
+
+      frames_by : {a b : Tables} → HaveSameLeaves t a → HaveSameLeaves b u → KeepsFrames a b p q
+      frames_by of_a of_b = record {
+        trapframe = λ f on. moved t a of_a (trapframe_page p.scheme) f (framed.trapframe f (moved b u of_b (trapframe_page p.scheme) f on));
+        pages = λ k f was is at_p at_q copy on. moved t a of_a k f (framed.pages k f was is at_p at_q copy (moved b u of_b k f on));
+      }

@@ -5,13 +5,15 @@ use Rattle.std.specs.Prelude.{slice_get, slice_set}
 use Rattle.std.proofs.lemmas.Bool.{cases_eq}
 use Rattle.std.proofs.lemmas.List.{length-set}
 use Rattle.std.proofs.lemmas.Option.{same_Some, slice_get_within}
+use Rattle.address_space.specs.Agreement.{IsFrameOfPage}
 use Rattle.address_space.specs.Kernel.{IsKernelTable}
 use Rattle.frame_store.specs.Seats.{place_set_other, place_set_same}
 use Rattle.process_model.specs.Process.{Process}
-use Rattle.table_walk.specs.Tables.{Tables}
+use Rattle.sv39_entry.specs.Schemes.{trapframe_page}
+use Rattle.table_walk.specs.Tables.{leaf_node, Tables}
 use Rattle.table_walk.specs.LowPages.{tables_of_scheme}
 use Rattle.hart_machine.specs.SlotProcesses.{IsSlotProcess, view_of}
-use Rattle.hart_machine.specs.Worlds.{HaveSameLeaves, KeepsOtherSlots, KeepsTables, SamePlaces, SameTables}
+use Rattle.hart_machine.specs.Worlds.{HaveSameLeaves, KeepsFrames, KeepsOtherSlots, KeepsTables, SamePlaces, SameTables}
 use Rattle.hart_machine.specs.declared.machine.Machine.{Machine}
 use Rattle.hart_machine.specs.declared.slot_process.SlotProcess.{SlotProcess}
 use Rattle.hart_machine.proofs.OneTables.{one_tables}
@@ -22,12 +24,19 @@ same_tenant x y p q t u same a b =
     let other = subst (λ (z : SlotProcess). IsSlotProcess z u q) (sym same) b in
     one_tables (view_of x) x.space.root.0 t u a.agrees.stands.tables (tables_of_scheme (other.agrees.lays.scheme ∙ sym a.agrees.lays.scheme) other.agrees.stands.tables)
 
+-- where leaves are the same, so are the frames that they name
+pub frames_of_leaves : (t u : Tables) (p q : Process) → HaveSameLeaves t u → KeepsFrames t u p q
+frames_of_leaves t u p q same = record { trapframe = λ f. still_on (trapframe_page p.scheme) f; pages = λ n f a b was is copy. still_on n f } where
+  still_on : (n f : ℕ) → IsFrameOfPage u n f → IsFrameOfPage t n f
+  still_on n f on = (on.0, sym (same (leaf_node n)) ∙ on.1, on.2)
+
 -- each is below the tables that it was below
 pub same_tables : (m n : Machine) (before after : List (Option Process)) → SameTables m n → KeepsTables m n before after
 same_tables m n before after same = record {
   many = same.many;
   kernel = λ frames slots stacks t is. subst (λ k. IsKernelTable k.scheme k.seat k.root.0 frames slots stacks t) (sym same.kernel) is;
   leaves = λ s x y p q t u at_m at_n at_w at_v unchanged a b. let z = same.below s x y p t at_m at_n a in same_tenant y y z.0 q t u refl z.1 b;
+  frames = λ s x y p q t u at_m at_n at_w at_v a b. let z = same.below s x y p t at_m at_n a in frames_of_leaves t u p q (same_tenant y y z.0 q t u refl z.1 b);
 }
 
 pub unmoved : (m n : Machine) → SamePlaces m n → SameTables m n
@@ -94,6 +103,10 @@ others_keep m n before after s keeps gone = record {
     | inl same ↦ absurd (gone q (ap (slice_get after) (sym same) ∙ at_v))
     | inr apart ↦ same_tenant x y p q t u (same_Some x y (same_Some _ _ (sym at_m ∙ sym (keeps.others r apart) ∙ at_n))) a b
   ];
+  frames = λ r x y p q t u at_m at_n at_w at_v a b. elim (cases_eq r s) [
+    | inl same ↦ absurd (gone q (ap (slice_get after) (sym same) ∙ at_v))
+    | inr apart ↦ frames_of_leaves t u p q (same_tenant x y p q t u (same_Some x y (same_Some _ _ (sym at_m ∙ sym (keeps.others r apart) ∙ at_n))) a b)
+  ];
 }
 
 -- a process began in a slot where there was none
@@ -105,6 +118,10 @@ others_born m n before after s keeps empty = record {
     | inl same ↦ absurd (let both : ◌≡◌ {A = Option (Option SlotProcess)} (Some None) (Some (Some x)) = sym empty ∙ ap (slice_get m.slots.items) (sym same) ∙ at_m in cc)
     | inr apart ↦ same_tenant x y p q t u (same_Some x y (same_Some _ _ (sym at_m ∙ sym (keeps.others r apart) ∙ at_n))) a b
   ];
+  frames = λ r x y p q t u at_m at_n at_w at_v a b. elim (cases_eq r s) [
+    | inl same ↦ absurd (let both : ◌≡◌ {A = Option (Option SlotProcess)} (Some None) (Some (Some x)) = sym empty ∙ ap (slice_get m.slots.items) (sym same) ∙ at_m in cc)
+    | inr apart ↦ frames_of_leaves t u p q (same_tenant x y p q t u (same_Some x y (same_Some _ _ (sym at_m ∙ sym (keeps.others r apart) ∙ at_n))) a b)
+  ];
 }
 
 -- none did, and the kernel has its table
@@ -114,6 +131,7 @@ same_slots m n before after slots kernel = record {
   many = ap length slots;
   kernel = kernel;
   leaves = λ s x y p q t u at_m at_n at_w at_v unchanged a b. same_tenant x y p q t u (same_Some x y (same_Some _ _ (sym at_m ∙ ap (λ xs. slice_get xs s) (sym slots) ∙ at_n))) a b;
+  frames = λ s x y p q t u at_m at_n at_w at_v a b. frames_of_leaves t u p q (same_tenant x y p q t u (same_Some x y (same_Some _ _ (sym at_m ∙ ap (λ xs. slice_get xs s) (sym slots) ∙ at_n))) a b);
 }
 
 -- and after a step that keeps tables a process began in a slot that was empty before it
@@ -127,5 +145,11 @@ then_born m n o before between after e z q keeps empty slots kernel model = reco
     | inr apart ↦
         keeps.leaves r x y p c t u at_m (sym (place_set_other n.slots.items e r (Some z) apart) ∙ ap (λ xs. slice_get xs r) (sym slots) ∙ at_o) at_w
         (sym (place_set_other between e r (Some q) apart) ∙ ap (λ xs. slice_get xs r) (sym model) ∙ at_v) unchanged a b
+  ];
+  frames = λ r x y p c t u at_m at_o at_w at_v a b. elim (cases_eq r e) [
+    | inl same ↦ absurd (let both : ◌≡◌ {A = Option (Option SlotProcess)} (Some None) (Some (Some x)) = sym empty ∙ ap (slice_get m.slots.items) (sym same) ∙ at_m in cc)
+    | inr apart ↦
+        keeps.frames r x y p c t u at_m (sym (place_set_other n.slots.items e r (Some z) apart) ∙ ap (λ xs. slice_get xs r) (sym slots) ∙ at_o) at_w
+        (sym (place_set_other between e r (Some q) apart) ∙ ap (λ xs. slice_get xs r) (sym model) ∙ at_v) a b
   ];
 }

@@ -12,6 +12,7 @@ use Rattle.process_model.specs.declared.config.Policy.TheVariants.{Asid, Full}
 use Rattle.hart_machine.specs.Buffers.{BuffersAre}
 use Rattle.hart_machine.specs.Runs.{BuffersFollow}
 use Rattle.hart_machine.specs.BufferEntries.{AreEntriesCurrent, IsInWorld}
+use Rattle.hart_machine.specs.Worlds.{KeepsTables}
 use Rattle.hart_machine.specs.declared.machine.Machine.{Machine}
 use Rattle.hart_machine.proofs.Buffered.{are_true}
 use Rattle.hart_machine.proofs.KeptPolicy.{policy_stays}
@@ -35,12 +36,13 @@ step_policy w s = marks_policy w.policy w (plain_step w s) ∙ policy_stays w s
 
 -- one more
 pub one_more : (first m n : Machine) (all rest : List Step) (s : Step) (replies : List Reply) (reply : Reply) (w : World) → HasRun first m all (s ∷ rest) replies w
-    → ((v : World) → IsInWorld m v → (reply ≡ (step v s).reply) × IsInWorld n (step v s).world) → ((v : World) (is : IsInWorld m v) → BuffersAre m n (is.world).tables (is.world).kernel s reply) → HasRun first n all rest (replies ++ reply ∷ []) w
-one_more first m n all rest s replies reply w has makes are =
+    → ((v : World) → IsInWorld m v → (reply ≡ (step v s).reply) × IsInWorld n (step v s).world) → ((v : World) → IsInWorld m v → KeepsTables m n v.slots ((step v s).world).slots) → ((v : World) (is : IsInWorld m v) → BuffersAre m n (is.world).tables (is.world).kernel s reply)
+    → HasRun first n all rest (replies ++ reply ∷ []) w
+one_more first m n all rest s replies reply w has makes keeps are =
     let made = makes has.world has.is_in in
     record {
       ruled = step_policy has.world s ∙ has.ruled;
-      buffers = λ new k. has.buffers new (n, made.1, (λ is. subst (λ (r : Reply). BuffersAre m n (is.world).tables (is.world).kernel s r) made.0 (are has.world is)), k);
+      buffers = λ new k. has.buffers new (n, made.1, keeps has.world has.is_in, (λ is. subst (λ (r : Reply). BuffersAre m n (is.world).tables (is.world).kernel s r) made.0 (are has.world is)), k);
       world = (step has.world s).world;
       is_in = made.1;
       replied = has.replied ∙ ap (λ r. replies ++ r ∷ (run (step has.world s).world rest).replies) (sym made.0) ∙ sym (append_assoc replies (reply ∷ []) _);

@@ -1,6 +1,7 @@
 -- Lemmas for a step and the stale marks after it: reply, world (the model's state) and each buffer (TLB) are the model's,
 -- only fills add entries, and under policy `asid` no entry of a living process is stale on an unmarked hart (`true_after`).
-use Rattle.std.proofs.Common.{◌≡◌, ℕ, Option, map, refl, ap, sym, subst, ◌∙◌}
+use Rattle.std.proofs.Common.{◌≡◌, ℕ, List, Option, map, refl, ap, sym, subst, ◌∙◌}
+use Rattle.process_model.specs.Process.{Process}
 use Rattle.process_model.specs.Stale.{with_stale_slots}
 use Rattle.process_model.specs.Steps as model
 use Rattle.process_model.specs.Steps.{plain_step}
@@ -47,7 +48,15 @@ module _ (m n o k : Machine) (w : World) (s : Step) (inn : IsInWorld m w) (reply
 
   keeps_after : KeepsTables m k w.slots ((plain_step w s).world).slots
   keeps_after = subst (λ (x : Machine). KeepsTables m x w.slots ((plain_step w s).world).slots) (sym (second_others ∙ ap (λ (x : Machine). let y : Machine = record x { harts = k.harts } in y) first_others))
-      (record { many = keeps.many; kernel = keeps.kernel; leaves = keeps.leaves })
+      (record { many = keeps.many; kernel = keeps.kernel; leaves = keeps.leaves; frames = keeps.frames })
+
+  same_slots : (q : Policy) → ((with_stale_slots q w (plain_step w s)).world).slots ≡ ((plain_step w s).world).slots
+  same_slots Full = refl
+  same_slots Asid = refl
+
+  pub keeps_made : KeepsTables m k w.slots ((model.step w s).world).slots
+  unfolding model.step
+  keeps_made = subst (λ (after : List (Option Process)). KeepsTables m k w.slots after) (sym (same_slots w.policy)) keeps_after
 
   pub are_after : BuffersAre m k (inn.world).tables (inn.world).kernel s reply
   are_after h = buffers h ∙ are h

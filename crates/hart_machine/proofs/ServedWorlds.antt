@@ -37,14 +37,14 @@ use Rattle.hart_machine.specs.Harts.{hart_of}
 use Rattle.hart_machine.specs.Marks.{AreMarked, slot_if}
 use Rattle.hart_machine.specs.ServeEffect.{HasServed, IsEnding, MustEnd, rule_of, was_served, WhenShared}
 use Rattle.hart_machine.specs.SlotProcesses.{IsSlotProcess, view_of}
-use Rattle.hart_machine.specs.Worlds.{HaveSameLeaves, IsWorld, KeepsTables, IsModelOutcome}
+use Rattle.hart_machine.specs.Worlds.{HaveSameLeaves, IsModelOutcome, IsWorld, KeepsFrames, KeepsTables}
 use Rattle.hart_machine.specs.declared.machine.Machine.{Machine}
 use Rattle.hart_machine.specs.declared.slot_process.SlotProcess.{SlotProcess}
 use Rattle.hart_machine.proofs.AccessingWorlds.{bytes_change}
 use Rattle.hart_machine.proofs.Following.{call_changes}
 use Rattle.hart_machine.proofs.HartSteps.{tenant_is}
 use Rattle.hart_machine.proofs.HeldFrames.{free_is}
-use Rattle.hart_machine.proofs.KeptLeaves.{followed_same, old_on, slot_keeps_by}
+use Rattle.hart_machine.proofs.KeptLeaves.{followed_frames, followed_same, old_on, slot_keeps_by}
 use Rattle.hart_machine.proofs.MarkedCalls.{resident_changes, resident_keeps}
 use Rattle.hart_machine.proofs.ServedPages.{CopyIs, page_after, page_there, resident_stays, same_made}
 use Rattle.hart_machine.proofs.SharedPages.{others_have_page}
@@ -305,6 +305,10 @@ module _ (m : Machine) (w : World) (is : IsWorld m w) (h s : ℕ) (waits : Bool)
         w.counter (λ n z there. is.counted s n p z k.in_slot there)
         (old_on (view_of y) t has.tables p (with_waiting fresh_page) w.counter (w.counter + 1) reached_follows)
 
+    pub frames_as_before : y.space.trapframe ≡ x.space.trapframe → KeepsFrames t has.tables p (with_waiting fresh_page)
+    frames_as_before trapframe = followed_frames x y t has.tables p (with_waiting fresh_page) slot_process (has.slot_process w.counter) (made_settles m.files w.counter from_count a.access page p).scheme trapframe
+        w.counter (λ n z there. is.counted s n p z k.in_slot there) (old_on (view_of y) t has.tables p (with_waiting fresh_page) w.counter (w.counter + 1) reached_follows)
+
 -- the service of an access that waits
 module _ (m : Machine) (w : World) (is : IsWorld m w) (h s : ℕ) (k : IsInKernel m w h s true) (x y : SlotProcess) (place : slice_get m.slots.items s ≡ Some (Some x))
     (b : PlainState) (keeps : KeepsSeats PlainStateRule m.frames (view_of x) b (view_of y)) (a : Pending) (waits : (k.process).pending ≡ Some a) where
@@ -339,7 +343,7 @@ module _ (m : Machine) (w : World) (is : IsWorld m w) (h s : ℕ) (k : IsInKerne
     keeps_leaves trapframe =
         slot_keeps_by m (record m { frames = b; slots = with_item m.slots s (Some y) }) w.slots _ s x y k.process now_served (is.tables s) has.tables
         (tenant_is m w is s x k.process place k.in_slot) (has.slot_process w.counter) place k.in_slot refl served_sets refl
-        (leaves_as_before m w is h s true k x y place b keeps a (was_served a) has trapframe)
+        (leaves_as_before m w is h s true k x y place b keeps a (was_served a) has trapframe) (frames_as_before m w is h s true k x y place b keeps a (was_served a) has trapframe)
 
   pub is_ending : (rule : Rule) → MustEnd y (is.tables s) k.process a m.frames rule → IsEnding m (record m { frames = b; slots = with_item m.slots s (Some y) }) w h s k rule
   unfolding still_there

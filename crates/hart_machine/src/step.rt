@@ -31,6 +31,8 @@ impl Machine {
     /// to. A step that cannot be made replies `Refused` with the reason (`Refusal`). The machine must be in a world of
     /// the model (`IsInWorld`): `boot` makes one that is, and each step leaves it in one.
     ///
+    /// A page that keeps its copy number stays on its frame, and so does a trapframe.
+    ///
     /// Buffers: a fill adds an entry, which has what the page table in `satp` says of the page; every other entry was
     /// there before (RISC-V Privileged Architecture 20211203, 4.2.1). The contract gives each buffer exactly, in the
     /// order of filling.
@@ -41,6 +43,7 @@ impl Machine {
     pub fn step(&mut self, step: Step<'_>) -> Reply
         requires world { (w : World) × IsInWorld self.old w }
         ensures made { (w : World) → IsInWorld self.old w → (result ≡ (model.step w step.entry).reply) × IsInWorld self.new (model.step w step.entry).world }
+        ensures tables { (w : World) → IsInWorld self.old w → KeepsTables self.old self.new w.slots (model.step w step.entry).world.slots }
         ensures buffers { (w : World) (is : IsInWorld self.old w) → OnlyFillsAdd self.old self.new (is.world).tables (is.world).kernel step.entry }
         ensures each_buffer { (w : World) (is : IsInWorld self.old w) → BuffersAre self.old self.new (is.world).tables (is.world).kernel step.entry result }
         ensures identifiers { (w : World) → IsInWorld self.old w → w.policy ≡ Asid → AreEntriesCurrent self.new }
@@ -71,6 +74,7 @@ impl Machine {
         requires world { (w : World) × IsInWorld self.old w }
         requires scalar { is_scalar step ≡ true }
         ensures made { (w : World) → IsInWorld self.old w → (reply_of_scalar result ≡ (model.step w step.entry).reply) × IsInWorld self.new (model.step w step.entry).world }
+        ensures tables { (w : World) → IsInWorld self.old w → KeepsTables self.old self.new w.slots (model.step w step.entry).world.slots }
         ensures buffers { (w : World) (is : IsInWorld self.old w) → OnlyFillsAdd self.old self.new (is.world).tables (is.world).kernel step.entry }
         ensures each_buffer { (w : World) (is : IsInWorld self.old w) → BuffersAre self.old self.new (is.world).tables (is.world).kernel step.entry (reply_of_scalar result) }
         ensures identifiers { (w : World) → IsInWorld self.old w → w.policy ≡ Asid → AreEntriesCurrent self.new }

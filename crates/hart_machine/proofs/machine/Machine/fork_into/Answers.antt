@@ -21,7 +21,7 @@ use Rattle.hart_machine.proofs.ForkOutcomes.{fork_sets, forks_dry, forks_wet, no
 use Rattle.hart_machine.proofs.HartSteps.{process_at, refused}
 use Rattle.hart_machine.proofs.StartSeats.{few_shared}
 use Rattle.hart_machine.proofs.StartSlots.{free_is_empty, free_place, free_within}
-use Rattle.hart_machine.proofs.KeptLeaves.{followed_same, slot_keeps_by, was_alike}
+use Rattle.hart_machine.proofs.KeptLeaves.{followed_same, slot_keeps_by, staying_frames, was_alike}
 use Rattle.hart_machine.proofs.KeptTables.{one_below, same_places, same_tables, then_born}
 use Rattle.hart_machine.proofs.MarkedCalls.{tells_marks}
 use Rattle.hart_machine.proofs.SlotMarks.{fork_marks, refused_as}
@@ -220,6 +220,7 @@ returns-clause-tables c w is =
     let between : Machine = record m { slots = with_item m.slots s (Some y.self) } in
     let parent = slot_keeps_by m between w.slots (slice_set w.slots s (Some (marked q.0))) s x y.self q.0 (marked q.0) (is.tables s) has.after q.2 has.parent there q.1 refl refl refl
     (λ unchanged. followed_same x y.self (is.tables s) has.after q.0 (marked q.0) q.2 has.parent unchanged refl frame refl w.counter (λ n a at. is.counted s n q.0 a q.1 at)
-    (λ n f z at low. let old = was_alike q.0 (marked q.0) unchanged n z at in has.on_parent n f old.0 old.1)) in
+    (λ n f z at low. let old = was_alike q.0 (marked q.0) unchanged n z at in has.on_parent n f old.0 old.1))
+    (staying_frames x y.self (is.tables s) has.after q.0 (marked q.0) q.2 has.parent refl frame has.on_parent) in
     then_born m between _ w.slots _ _ c.in-Some.place _ (child_of q.0) parent (free_place m w is c.in-Some.place to) refl refl
     (fork_sets m w is c.args.hart s caller x y.self there y.frames c.in-Some.place to q.0 q.1 (λ few. e.enough (is.tables s) q.0 before (subst (λ (b : PlainState). b.free < fork_need q.0) (sym u.ensures.frames) few)))

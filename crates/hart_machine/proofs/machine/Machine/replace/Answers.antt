@@ -1,4 +1,4 @@
-use Rattle.std.proofs.Common.{◌≡◌, ◌∙◌, ◌<◌, true, false, Some, ap, refl, subst, sym, ◌≤◌}
+use Rattle.std.proofs.Common.{◌≡◌, ◌∙◌, ◌<◌, true, false, Some, ap, arith, refl, subst, sym, ◌≤◌}
 use Rattle.std.specs.Prelude.{Err, Ok}
 use Rattle.std.proofs.lemmas.Option.{get_or_from_slice_get, slice_get_within}
 use Rattle.std.proofs.lemmas.Result.{err_from_is_err_and}
@@ -11,10 +11,11 @@ use Rattle.process_model.specs.Frames.{exec_need}
 use Rattle.hart_machine.proofs.AccessingWorlds.{seat_fits, slot_has}
 use Rattle.hart_machine.proofs.Executes.{bad_image, exec_dry, exec_sets, executes, no_image, judged_is}
 use Rattle.hart_machine.proofs.HartSteps.{process_at, refused}
-use Rattle.hart_machine.proofs.KeptLeaves.{slot_keeps_by}
+use Rattle.hart_machine.proofs.KeptLeaves.{followed_frames, slot_keeps_by}
 use Rattle.hart_machine.proofs.KeptTables.{one_below, same_places, same_tables}
 use Rattle.hart_machine.proofs.MarkedCalls.{exec_changes}
 use Rattle.hart_machine.proofs.SlotMarks.{refused_as, set_marks}
+use Rattle.hart_machine.proofs.StartedPages.{copies_above, loaded_scheme}
 use Rattle.hart_machine.proofs.machine.Machine.replace.Goals as goal
 use Rattle.hart_machine.specs.SlotProcesses.{IsSlotProcess}
 use Rattle.exec_segments.specs.Loads.{loads_in}
@@ -147,6 +148,9 @@ returns-clause-tables c w is =
     slot_keeps_by m _ w.slots _ s x y.new.self q.0 (process_of w.scheme w.counter c.in-Ok.image.loads) (is.tables s) has.tables q.2 (subst (λ k. IsSlotProcess y.new.self has.tables (process_of k w.counter c.in-Ok.image.loads)) (is.schemes s q.0 q.1) (has.slot_process w.counter)) there q.1 refl
     (exec_sets m w is c.args.hart s caller c.args.image c.in-Ok.image.loads (judged_is c.args.self.now w is c.args.image (sym (c.judged.ensures.loads) ∙ ap loads_in c.in-Ok.is)) x y.new.self there y.new.frames y.new.files q.0 q.1 (subst (λ k. exec_need k c.in-Ok.image.loads ≤ m.frames.free) (c.in-Ok.ensures.scheme ∙ is.scheme) e.enough)) refl
     (λ unchanged. absurd (let both : true ≡ false = sym (exec_changes w.scheme q.0 w.counter c.in-Ok.image.loads (λ n a at. is.counted s n q.0 a q.1 at)) ∙ unchanged in cc))
+    (followed_frames x y.new.self (is.tables s) has.tables q.0 (process_of w.scheme w.counter c.in-Ok.image.loads) q.2 (subst (λ k. IsSlotProcess y.new.self has.tables (process_of k w.counter c.in-Ok.image.loads)) (is.schemes s q.0 q.1) (has.slot_process w.counter))
+    (loaded_scheme w.scheme w.counter c.in-Ok.image.loads ∙ sym (is.schemes s q.0 q.1)) y.ensures.trapframe w.counter (λ n a at. is.counted s n q.0 a q.1 at)
+    (λ n f z at low. absurd (let above = copies_above w.scheme w.counter c.in-Ok.image.loads n z at in omega (arith, above, low))))
 
 pub exec-requires-clause-scheme : goal.exec-requires-clause-scheme
 exec-requires-clause-scheme c =

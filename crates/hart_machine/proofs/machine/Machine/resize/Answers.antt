@@ -15,7 +15,7 @@ use Rattle.hart_machine.specs.Worlds.{IsModelOutcome}
 use Rattle.hart_machine.specs.declared.machine.Machine.{Machine}
 use Rattle.hart_machine.proofs.AccessingWorlds.{seat_fits, slot_has}
 use Rattle.hart_machine.proofs.HartSteps.{process_at, refused}
-use Rattle.hart_machine.proofs.KeptLeaves.{dropped_none, slot_keeps_by}
+use Rattle.hart_machine.proofs.KeptLeaves.{dropped_frames, dropped_none, slot_keeps_by}
 use Rattle.hart_machine.proofs.KeptTables.{same_places}
 use Rattle.hart_machine.proofs.Sizing.{size_refused, size_sets, sizes}
 use Rattle.hart_machine.proofs.SlotMarks.{refused_as, set_marks}
@@ -156,4 +156,4 @@ returns-clause-tables c w is =
     slot_keeps_by m _ w.slots _ s x y.new.self q.0 (without_pending has.process) (is.tables s) has.tables q.2 has.slot_process there q.1 refl
     (subst (λ (z : ℤ). ((plain_step w (step.Sbrk c.args.hart z)).world).slots ≡ slice_set w.slots s (Some (without_pending has.process))) same
     (size_sets m w is c.args.hart s caller x y.new.self there d y.new.frames q.0 has.process q.1 has.is)) refl
-    (λ unchanged. dropped_none x y.new.self (is.tables s) has.tables q.0 (without_pending has.process) q.2 has.slot_process unchanged (sbrk_scheme q.0 _ has.process has.is) _ _ has.drops)
+    (λ unchanged. dropped_none x y.new.self (is.tables s) has.tables q.0 (without_pending has.process) q.2 has.slot_process unchanged (sbrk_scheme q.0 _ has.process has.is) _ _ has.drops) (dropped_frames (is.tables s) has.tables q.0 (without_pending has.process) _ _ has.drops)

@@ -22,7 +22,7 @@ steps-preserved c = record {
       let i = c.steps.step-index in
       let before = next_left c.args.self.now c.steps.self all i c.step-item.result c.steps.replies.items w (omega (arith, c.steps-test.true)) c.step-item.is (c.steps.invariant.has_run w is) in
       subst (λ rs. HasRun c.args.self.now c.step.new.self all (drop (i + 1) all) rs w) (sym c.push_reserved.ensures.items)
-      (one_more c.args.self.now c.steps.self c.step.new.self all (drop (i + 1) all) c.step-item.result c.steps.replies.items c.step.result w before c.step.ensures.made c.step.ensures.each_buffer);
+      (one_more c.args.self.now c.steps.self c.step.new.self all (drop (i + 1) all) c.step-item.result c.steps.replies.items c.step.result w before c.step.ensures.made c.step.ensures.tables c.step.ensures.each_buffer);
 }
 
 pub returns-clause-replies : goal.returns-clause-replies

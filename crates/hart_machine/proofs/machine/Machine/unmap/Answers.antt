@@ -10,7 +10,7 @@ use Rattle.process_model.specs.declared.step.Step.TheVariants as step
 use Rattle.hart_machine.specs.declared.slot_process.SlotProcess.{SlotProcess}
 use Rattle.hart_machine.proofs.AccessingWorlds.{seat_fits, slot_has}
 use Rattle.hart_machine.proofs.HartSteps.{process_at, refused}
-use Rattle.hart_machine.proofs.KeptLeaves.{dropped_none, slot_keeps_by}
+use Rattle.hart_machine.proofs.KeptLeaves.{dropped_frames, dropped_none, slot_keeps_by}
 use Rattle.hart_machine.proofs.KeptTables.{same_places}
 use Rattle.hart_machine.proofs.Mapping.{unmap_refused, unmap_sets, unmaps}
 use Rattle.hart_machine.proofs.SlotMarks.{refused_as, set_marks}
@@ -133,4 +133,4 @@ returns-clause-tables c w is =
     let has = e.unmapped (is.tables s) q.0 q.2 in
     slot_keeps_by m _ w.slots _ s x y.new.self q.0 (without_pending has.what.process) (is.tables s) has.tables q.2 has.slot_process there q.1 refl
     (unmap_sets m w is c.args.hart s caller x y.new.self there c.args.address c.args.length y.new.frames y.new.files q.0 q.1 has.what has.is) refl
-    (λ unchanged. dropped_none x y.new.self (is.tables s) has.tables q.0 (without_pending has.what.process) q.2 has.slot_process unchanged (unmapped_scheme _ q.0 _ _ has.what has.is) _ _ has.drops)
+    (λ unchanged. dropped_none x y.new.self (is.tables s) has.tables q.0 (without_pending has.what.process) q.2 has.slot_process unchanged (unmapped_scheme _ q.0 _ _ has.what has.is) _ _ has.drops) (dropped_frames (is.tables s) has.tables q.0 (without_pending has.what.process) _ _ has.drops)
