@@ -38,6 +38,7 @@ pub mod Children
 pub mod OneHart
 pub mod Proper
 pub mod NeedSpends
+pub mod PageOrigins
 pub mod OwnFrames
 pub mod GrantedPages
 pub mod SharedFrames

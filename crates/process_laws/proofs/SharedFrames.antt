@@ -16,7 +16,8 @@ use Rattle.process_laws.proofs.Fresh.{fresh_is_kept}
 use Rattle.process_laws.proofs.GrantedPages.{always_granted, Granted}
 use Rattle.process_laws.proofs.Granting.{always_sound, IsSound}
 use Rattle.process_laws.proofs.HeldBytes.{free_there, in_range, none_some, set_puts}
-use Rattle.process_laws.proofs.OwnFrames.{as_step, Came, Housed, image_anew, Lone, own}
+use Rattle.process_laws.proofs.OwnFrames.{as_step, Housed, own}
+use Rattle.process_laws.proofs.PageOrigins.{Came, image_anew, Lone}
 use Rattle.process_laws.proofs.Kept.{step_keeps}
 use Rattle.process_laws.proofs.KnownRuns.{run_one_more}
 use Rattle.process_laws.proofs.OnHarts.{kernel_good, on_hart_good}
