@@ -7,8 +7,8 @@ use Rattle.std.proofs.lemmas.Option.{same_Some, slice_get-map, slice_get_within}
 use Rattle.hart_tlb.specs.declared.entry.TlbEntry.{TlbEntry}
 use Rattle.process_model.specs.Harts as model
 use Rattle.process_model.specs.Harts.{next_phase, present_asid}
-use Rattle.hart_machine.proofs.ChangedSlots.{among_changed}
-use Rattle.hart_machine.specs.Marks.{changed_at}
+use Rattle.process_laws.proofs.ChangedSlots.{among_changed}
+use Rattle.process_laws.specs.Words.{changed_at}
 use Rattle.process_model.specs.Process.{Process}
 use Rattle.process_model.specs.Stale.{changed_slots, is_changed, with_stale, with_stale_slots}
 use Rattle.process_model.specs.Steps.{plain_step}

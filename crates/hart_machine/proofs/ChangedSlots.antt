@@ -1,19 +1,16 @@
 -- Lemmas: a process's leaves are the same if and only if each page has the same sign: its copy number (which names one copy
--- of a page in memory) and its marks, or none. And a slot (place in the process table) is among those that a step changed if
--- and only if its leaves changed there (`among_changed`).
-use Rattle.std.proofs.Common.{◌≡◌, ℕ, zero, suc, Bool, true, false, not, cond, ◌+◌, ◌<◌, inl, inr, refl, ap, sym, subst, ◌∙◌, arith, List, [], ◌∷◌, Option, None, Some, T}
-use Rattle.std.specs.Prelude.{◌&&◌, ◌||◌, ◌==◌, slice_get, if◌then◌else◌}
+-- of a page in memory) and its marks, or none.
+use Rattle.std.proofs.Common.{◌≡◌, ℕ, Bool, true, false, not, cond, inl, inr, refl, ap, sym, subst, ◌∙◌, List, [], ◌∷◌, Option, None, Some, T}
+use Rattle.std.specs.Prelude.{◌&&◌, ◌==◌}
 use Rattle.std.specs.Cmp.{nat_cmp_total}
 use Rattle.std.specs.FinMap.Entries.{below_all, find, is_sorted, same_entries}
-use Rattle.std.specs.List.{list_any}
 use Rattle.std.specs.Ordering.{eq_by_cmp, is_lt, nat_cmp}
-use Rattle.std.proofs.lemmas.Bool.{and_from, and_parts, cases_eq, eq-eqb, eqb-true, false_from_ne_true, ne_eqb}
+use Rattle.std.proofs.lemmas.Bool.{and_from, and_parts, cases_eq, eq-eqb, eqb-true, false_from_ne_true}
 use Rattle.std.proofs.lemmas.Map.Lookups.{exact_unsigned}
 use Rattle.process_model.specs.Insertion.{inserted_here, inserted_other}
 use Rattle.process_model.specs.PageMap.{PageMap, get, insert}
 use Rattle.process_model.specs.Process.{Page, Process}
-use Rattle.hart_machine.specs.Marks.{changed_at}
-use Rattle.process_model.specs.Stale.{changed_slots, is_changed, same_leaf, same_leaves, same_mark}
+use Rattle.process_model.specs.Stale.{is_changed, same_leaf, same_leaves, same_mark}
 
 -- what the leaf of a settled page follows from: its copy number, its fork mark, its stored mark
 
@@ -142,39 +139,3 @@ module _ (p q : Process) where
   -- one page with another sign changes them
   pub sign_changes : (n : ℕ) → (sign_of (get p.settled n) ≡ sign_of (get q.settled n) → ⊥) → changed p q ≡ true
   sign_changes n apart = ap not (differ_at p.settled q.settled n apart)
-
--- ---- changed slots
-
--- only numbers from n on are named
-below_none : (n s : ℕ) (ps qs : List (Option Process)) → s < n → list_any (λ m. m == s) (changed_slots n ps qs) ≡ false
-below_none n s [] [] less = refl
-below_none n s [] (q ∷ qs) less = refl
-below_none n s (p ∷ ps) [] less = refl
-below_none n s (p ∷ ps) (q ∷ qs) less =
-    let rest = below_none (n + 1) s ps qs (omega arith) in
-    elim (is_changed p q) as (λ b. list_any (λ m. m == s) (if b then n ∷ changed_slots (n + 1) ps qs else changed_slots (n + 1) ps qs) ≡ false) [
-      | true ↦ ap (λ b. b || list_any (λ m. m == s) (changed_slots (n + 1) ps qs)) (ne_eqb n s (λ same. omega arith)) ∙ rest
-      | false ↦ rest
-    ]
-
-among_from : (n s k : ℕ) (ps qs : List (Option Process)) → k ≡ s + n → list_any (λ m. m == k) (changed_slots n ps qs) ≡ changed_at (slice_get ps s) (slice_get qs s)
-among_from n s k [] [] is = refl
-among_from n s k [] (q ∷ qs) is = refl
-among_from n zero k (p ∷ ps) [] is = refl
-among_from n (suc s) k (p ∷ ps) [] is = elim (slice_get ps s) as (λ o. false ≡ changed_at o None) [ None ↦ refl | Some x ↦ refl ]
-among_from n zero k (p ∷ ps) (q ∷ qs) is =
-    let rest = below_none (n + 1) k ps qs (omega arith) in
-    elim (is_changed p q) as (λ b. list_any (λ m. m == k) (if b then n ∷ changed_slots (n + 1) ps qs else changed_slots (n + 1) ps qs) ≡ b) [
-      | true ↦ ap (λ b. b || list_any (λ m. m == k) (changed_slots (n + 1) ps qs)) (eq-eqb n k (omega arith))
-      | false ↦ rest
-    ]
-among_from n (suc s) k (p ∷ ps) (q ∷ qs) is =
-    let rest = among_from (n + 1) s k ps qs (omega arith) in
-    elim (is_changed p q) as (λ b. list_any (λ m. m == k) (if b then n ∷ changed_slots (n + 1) ps qs else changed_slots (n + 1) ps qs) ≡ changed_at (slice_get ps s) (slice_get qs s)) [
-      | true ↦ ap (λ b. b || list_any (λ m. m == k) (changed_slots (n + 1) ps qs)) (ne_eqb n k (λ same. omega arith)) ∙ rest
-      | false ↦ rest
-    ]
-
--- a slot is named where it changes
-pub among_changed : (ps qs : List (Option Process)) (s : ℕ) → list_any (λ n. n == s) (changed_slots 0 ps qs) ≡ changed_at (slice_get ps s) (slice_get qs s)
-among_changed ps qs s = among_from 0 s s ps qs (omega arith)

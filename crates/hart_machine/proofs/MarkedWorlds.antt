@@ -14,12 +14,13 @@ use Rattle.process_model.specs.declared.config.Policy.{Policy}
 use Rattle.process_model.specs.declared.config.Policy.TheVariants.{Asid, Full}
 use Rattle.hart_machine.specs.Buffers.{SameBuffers}
 use Rattle.hart_machine.specs.Harts.{hart_of, marked, marked_harts}
-use Rattle.hart_machine.specs.Marks.{AreMarked, changed_at}
+use Rattle.hart_machine.specs.Marks.{AreMarked}
 use Rattle.hart_machine.specs.Slots.{most_slots}
 use Rattle.hart_machine.specs.Worlds.{IsWorld}
 use Rattle.hart_machine.specs.declared.hart.Hart.{Hart}
 use Rattle.hart_machine.specs.declared.machine.Machine.{Machine}
-use Rattle.hart_machine.proofs.ChangedSlots.{among_changed}
+use Rattle.process_laws.proofs.ChangedSlots.{among_changed}
+use Rattle.process_laws.specs.Words.{changed_at}
 use Rattle.hart_machine.proofs.MapElements.{from_map}
 
 -- a slot that is named is one of those that there are

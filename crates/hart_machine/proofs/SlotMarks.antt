@@ -9,7 +9,8 @@ use Rattle.process_model.specs.Process.{Process}
 use Rattle.process_model.specs.Stale.{is_changed}
 use Rattle.process_model.specs.World.{has_slot, Outcome, refuses, World}
 use Rattle.process_model.specs.declared.step.Refusal.{Refusal}
-use Rattle.hart_machine.specs.Marks.{AreMarked, changed_at, slot_if}
+use Rattle.hart_machine.specs.Marks.{AreMarked, slot_if}
+use Rattle.process_laws.specs.Words.{changed_at}
 use Rattle.hart_machine.proofs.StepShapes.{refused_quiet, same_at}
 
 pub refused_as : (w : World) (o : Outcome) (e : Refusal) → o ≡ refuses w e → AreMarked w o None None

@@ -13,7 +13,7 @@ use Rattle.process_model.specs.Images.{LoadSegment, image_loads}
 use Rattle.process_model.specs.Mappings.{Mapped, Unmapped, mapped}
 use Rattle.hart_machine.proofs.MarkedCalls.{access_keeps, mmap_keeps}
 use Rattle.hart_machine.proofs.ChangedSlots.{changed, same_settled}
-use Rattle.hart_machine.specs.Marks.{changed_at}
+use Rattle.process_laws.specs.Words.{changed_at}
 use Rattle.process_model.specs.Process.{Pending, Process, without_pending}
 use Rattle.process_model.specs.Residence.{child_of, marked}
 use Rattle.process_model.specs.Service.{Answer, AccessRequest, access_step, served, served_or_ended, access_outcome_if, user_access}

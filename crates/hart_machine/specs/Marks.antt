@@ -3,8 +3,8 @@
 -- Also what the flag of a kernel copy says of residence, which lets an access succeed without a fault (`TellsResidence`).
 use Rattle.std.specs.Prelude.{◌≡◌, ◌⊎◌, ℕ, Bool, true, false, ◌+◌, ◌||◌, Option, None, Some, Result, Ok, Err, slice_get}
 use Rattle.address_space.specs.Accesses.{IsGranted}
+use Rattle.process_laws.specs.Words.{changed_at}
 use Rattle.process_model.specs.Process.{Process}
-use Rattle.process_model.specs.Stale.{is_changed}
 use Rattle.process_model.specs.World.{has_slot, Outcome, World}
 use Rattle.process_model.specs.declared.step.Refusal.{Refusal}
 use Rattle.sv39_entry.specs.declared.access.Access.{Access}
@@ -12,13 +12,6 @@ use Rattle.sv39_entry.specs.declared.access.Access.{Access}
 abbrev pub slot_if : ℕ → Bool → Option ℕ
 slot_if s true = Some s
 slot_if s false = None
-
--- whether the step started a process in the slot, or changed the map of its process from pages to copy numbers and marks, on
--- which the leaves depend
-abbrev pub changed_at : Option (Option Process) → Option (Option Process) → Bool
-changed_at None q = false
-changed_at (Some p) None = false
-changed_at (Some p) (Some q) = is_changed p q
 
 -- `changed` and `born` together are exactly the slots that the model's step changed
 abbrev pub AreMarked : World → Outcome → Option ℕ → Option ℕ → Type 0

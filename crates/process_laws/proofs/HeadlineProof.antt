@@ -128,6 +128,7 @@ module _ (w : World) (x : Step) where
         empty = keeps.empty;
         harts = keeps.harts;
         buffers = λ k hart made. keeps.buffers made k hart;
+        stale = λ k t hart made. keeps.marks made k t hart;
         filled = λ h address n is. subst (λ (y : Step). (step w y).reply ≡ Filled n → option_map length (keys_on (step w y).world h) ≡ Some (n + 1)) (sym is) (fill_counts w h address n);
         one_hart = one_after w x one;
         files = keeps.files;

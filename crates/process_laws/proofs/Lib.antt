@@ -1,4 +1,5 @@
 pub mod Untouched
+pub mod ChangedSlots
 pub mod Earlier
 pub mod SameCopies
 pub mod Standing

@@ -3,7 +3,7 @@
 -- for moments of any model.
 use Rattle.std.proofs.Common.{◌≡◌, ◌≢◌, ◌≤◌, ◌<◌, inl, inr, ◌+◌, ◌*◌, ◌-◌, ◌&&◌, ◌||◌, not, ℕ, zero, suc, ℤ, Bool, true, false, cond, refl, sym, ap, subst, ◌∙◌, List, [], ◌∷◌, Option, None, Some, length, arith}
 use Rattle.std.specs.Prelude.{Err, Ok, is_some, nat_le, nat_lt, option_map, slice_get}
-use Rattle.std.proofs.lemmas.Bool.{false≢true}
+use Rattle.std.proofs.lemmas.Bool.{false≢true, eq-eqb}
 use Rattle.std.proofs.lemmas.Bool.Decides.{nat_tests}
 use Rattle.std.proofs.lemmas.Option.{same_Some}
 use Rattle.process_laws.specs.Headline.{AnswersUser, Becomes, ChangesOwn, CopiesForKernel, CountsFrames, HoldsFrames, LeavesOthers, StopsAfter, ReadsLatest}
@@ -14,10 +14,10 @@ use Rattle.process_laws.specs.MadeSteps.{MakesOwn, MakesSteps}
 use Rattle.process_laws.specs.Latest.{byte_at, byte_had, page_byte, is_released, latest, left_by}
 use Rattle.process_laws.specs.Moments.{Moment, slot_on}
 use Rattle.process_laws.specs.Pages.{are_joined, grant, grant_after, has_fork_mark, has_mark, has_stored_mark, is_between, is_ready_on, is_remapped, is_store_at, is_stored_to, joins, mapping_grant}
-use Rattle.process_laws.specs.Words.{UserAccess, byte, cause, copied, CopiesBytes, Forbids, in_memory, is_fault, is_reply, IsAnswer, IsGranted, IsOnHart, IsResident, MayCall, hart_of, hart_of_step, Serves, stopped_by, is_no_frame_reply, Tries, writes_back, WroteBack}
+use Rattle.process_laws.specs.Words.{UserAccess, byte, cause, copied, CopiesBytes, Forbids, in_memory, is_fault, is_reply, IsAnswer, IsGranted, IsOnHart, IsResident, MayCall, hart_of, hart_of_step, Serves, stopped_by, is_no_frame_reply, Tries, writes_back, WroteBack, changed_at, is_on_hart, IsMade, marks_slot, stale_after, stale_on}
 use Rattle.process_model.specs.Bytes.{pages_for}
 use Rattle.process_model.specs.Files.{File}
-use Rattle.process_model.specs.Harts.{Hart, is_kernel}
+use Rattle.process_model.specs.Harts.{Hart, is_kernel, cleaned_at, cleaned_for, cleaned_if, fenced}
 use Rattle.process_model.specs.Images.{image_loads, LoadSegment}
 use Rattle.process_model.specs.Mappings.{most_mappings}
 use Rattle.process_model.specs.Places.{Fits}
@@ -25,14 +25,17 @@ use Rattle.process_model.specs.PageMap.{get}
 use Rattle.process_model.specs.Process.{Page, Process, regions}
 use Rattle.process_model.specs.Order.{Row}
 use Rattle.process_model.specs.Regions.{end_of, Region, region_at}
+use Rattle.process_model.specs.declared.config.Policy.{Policy}
+use Rattle.process_model.specs.declared.config.Policy.TheVariants.{Asid, Full}
 use Rattle.process_model.specs.declared.image.BadImage.{BadImage}
 use Rattle.process_model.specs.declared.image.Image.{Image}
 use Rattle.process_model.specs.World.{free, free_slot, has_slot, others_have, process_in, without_process, World}
+use Rattle.process_model.specs.declared.phase.Phase.TheVariants.{Leave2}
 use Rattle.process_model.specs.declared.step.Refusal.TheVariants as refusal
 use Rattle.process_model.specs.declared.step.Reply.{Reply}
 use Rattle.process_model.specs.declared.step.Reply.TheVariants.{CopiedIn, Done, Ended, Fault, Forked, MappedAt, OldSize, Refused, ShortIn, Started}
 use Rattle.process_model.specs.declared.step.Step.{Step}
-use Rattle.process_model.specs.declared.step.Step.TheVariants.{CopyIn, CopyOut, Exec, Fork, Mmap, Munmap, Sbrk, Serve, Start, Trap}
+use Rattle.process_model.specs.declared.step.Step.TheVariants.{CopyIn, CopyOut, Exec, Fork, Mmap, Munmap, Sbrk, Serve, Start, Trap, Next}
 use Rattle.sv39_entry.specs.Address.{page_of}
 use Rattle.sv39_entry.specs.Schemes.{trapframe_page}
 use Rattle.sv39_entry.specs.declared.access.Access.{Access}
@@ -341,3 +344,37 @@ bad_argument_first m h address n k step long = k.refused h refusal.BadArgument (
 -- a call on a hart that is not in the kernel, refused as Impossible in another phase than its own
 pub impossible_in_its_phase : (m : Moment) (h : ℕ) (delta : ℤ) (hart : Hart) → MakesSteps m → slice_get (m.before).harts h ≡ Some hart → m.step ≡ Sbrk h delta → is_kernel hart.phase ≡ false → m.reply ≡ Refused (refusal.Impossible hart.phase)
 impossible_in_its_phase m h delta hart k there step out = k.refused h (refusal.Impossible hart.phase) (ap hart_of step) (ap (λ x. refusal_on m.before x (slice_get (m.before).harts h)) step ∙ ap (refusal_on m.before (Sbrk h delta)) there ∙ rw out refl)
+
+-- marks of a hart
+module _ (m : Moment) (k t : ℕ) (hart : Hart) (others : LeavesOthers m) (made : IsMade m.reply) (there : slice_get (m.before).harts k ≡ Some hart) where
+  abbrev told : Policy → Option Bool
+  told policy = Some (marks_slot policy m.before m.after t || cond (is_on_hart m.step k) (stale_after policy hart m.step t) (hart.stale t))
+
+  abbrev changed : Bool
+  changed = changed_at (slice_get (m.before).slots t) (slice_get (m.after).slots t)
+
+  -- with policy `asid`: a slot that changes, and for which a hart is not marked
+  pub changed_slot_is_marked : (m.before).policy ≡ Asid → changed ≡ true → stale_on m.after k t ≡ Some true
+  changed_slot_is_marked asid is = others.stale k t hart made there ∙ ap told asid ∙ ap (λ b. Some (b || cond (is_on_hart m.step k) (stale_after Asid hart m.step t) (hart.stale t))) is
+
+  -- a slot that does not, and for which a hart is marked that makes no step
+  pub no_mark_unasked : is_on_hart m.step k ≡ false → changed ≡ false → stale_on m.after k t ≡ Some (hart.stale t)
+  no_mark_unasked off not_changed = others.stale k t hart made there ∙ by (m.before).policy where
+    by : (policy : Policy) → told policy ≡ Some (hart.stale t)
+    by Full = ap (λ b. Some (cond b (stale_after Full hart m.step t) (hart.stale t))) off
+    by Asid = ap (λ b. Some (b || cond (is_on_hart m.step k) (stale_after Asid hart m.step t) (hart.stale t))) not_changed ∙ ap (λ b. Some (cond b (stale_after Asid hart m.step t) (hart.stale t))) off
+
+  -- a mark that the last fence of the return leaves
+  pub fence_takes_the_mark : m.step ≡ Next k → hart.phase ≡ Leave2 → hart.slot ≡ Some t → (m.before).policy ≡ Asid → changed ≡ false → stale_on m.after k t ≡ Some false
+  fence_takes_the_mark step last slot asid not_changed =
+      others.stale k t hart made there ∙ ap told asid
+      ∙ ap (λ b. Some (b || cond (is_on_hart m.step k) (stale_after Asid hart m.step t) (hart.stale t))) not_changed
+      ∙ ap (λ x. Some (cond (is_on_hart x k) (stale_after Asid hart x t) (hart.stale t))) step
+      ∙ ap (λ b. Some (cond b ((fenced Asid hart).stale t) (hart.stale t))) (eq-eqb k k refl)
+      ∙ ap (λ phase. Some ((cleaned_at hart phase).stale t)) last
+      ∙ ap (λ s. Some ((cleaned_for hart s).stale t)) slot
+      ∙ ap Some (by (hart.stale t) refl)
+    where
+      by : (b : Bool) → hart.stale t ≡ b → (cleaned_if hart t b).stale t ≡ false
+      by true marked = ap (λ same. not same && hart.stale t) (eq-eqb t t refl)
+      by false unmarked = unmarked

@@ -1,5 +1,6 @@
 -- How many frames a start, an exec, a fork and the service of a page need, from what the page of the headline shows
--- (`frames_for_image`, `frames_for_child`, `frames_for_page`); which steps may find too few (`MayLackFrames`, `LacksFrames`).
+-- (`frames_for_image`, `frames_for_child`, `frames_for_page`); which steps may find too few (`MayLackFrames`, `LacksFrames`);
+-- which frames a process begins with (`HasNewFrames`, `SharesFrames`), keeps (`KeepsFrames`) and shares (`IsSharedPage`).
 -- A frame of a process is its trapframe, a page table, or that of a settled page: two pages are on one frame if they have one
 -- copy number.
 use Rattle.std.specs.Prelude.{◌≡◌, ◌≢◌, ◌⊎◌, ℕ, Bool, true, false, not, ◌+◌, ◌-◌, ◌<◌, ◌&&◌, ◌||◌, Option, None, Some, List, ◌∷◌, Ok, is_some, length, option_map, if◌then◌else◌}

@@ -16,7 +16,7 @@ use Rattle.process_laws.specs.Latest.{AreLatest, byte_had, bytes_in, IsLatest, l
 use Rattle.process_laws.specs.Moments.{Moment, moment_of, moments_from, slot_on}
 use Rattle.process_laws.specs.Pages.{are_joined, grant, grant_after, has_fork_mark, has_stored_mark, is_remapped, is_stored_to, joins, may_remap, size_after}
 use Rattle.process_laws.specs.FrameNeeds.{copy_on, frames_for_child, frames_for_image, frames_for_page, HasNewFrames, IsSharedPage, KeepsFrames, LacksFrames, MayLackFrames, SharesFrames}
-use Rattle.process_laws.specs.Words.{UserAccess, IsAccessStep, byte, cause, copied, CopiesBytes, Forbids, in_memory, is_end, is_fault, IsAnswer, IsChild, IsGranted, IsInPhase, IsMade, IsOnHart, IsResident, IsWritten, MayCall, is_on_hart, keys_after, keys_on, starts_in_slot, hart_of_step, moved_hart, phase_on, Serves, stopped_by, takes_frames, is_no_frame_reply, Tries, with_pending_access, writes_back, Written}
+use Rattle.process_laws.specs.Words.{UserAccess, IsAccessStep, byte, cause, copied, CopiesBytes, Forbids, in_memory, is_end, is_fault, IsAnswer, IsChild, IsGranted, IsInPhase, IsMade, IsOnHart, IsResident, IsWritten, MayCall, is_on_hart, keys_after, keys_on, marks_slot, stale_after, stale_on, starts_in_slot, hart_of_step, moved_hart, phase_on, Serves, stopped_by, takes_frames, is_no_frame_reply, Tries, with_pending_access, writes_back, Written}
 use Rattle.process_model.specs.Files.{File}
 use Rattle.process_model.specs.Harts.{Hart}
 use Rattle.process_model.specs.Order.{IsInOrder}
@@ -80,7 +80,7 @@ pub record CopiesForKernel (m : Moment) (h s address k : ℕ) (p : Process) : Ty
   pub to_front : (bytes front : Bor (List ℕ)) → m.step ≡ CopyOut h address bytes → front.now ≡ take k bytes.now → m.after ≡ (moment_of m.before (CopyOut h address front)).after
   pub to_ready : (bytes : Bor (List ℕ)) (q : Process) (i : ℕ) → m.step ≡ CopyOut h address bytes → i < k → process_in m.after s ≡ Some q → IsResident q (byte Store (address + i))
 
--- (c) A reply says NoFrame exactly when fewer frames are free than the step needs, n; and `FrameNeeds` counts n. A start of nine
+-- (c) A reply says NoFrame exactly when fewer frames are free than the step needs, n; and `FrameNeeds` counts n, but for copies. A start of nine
 -- pages in the first two megabytes needs 17: these, guard and stack, five page tables and the trapframe; under Sv48 19
 abbrev pub IsDry : Moment → ℕ → Type 0
 IsDry m n = is_no_frame_reply m.reply ≡ nat_lt (free m.before) n
@@ -119,7 +119,7 @@ pub record HoldsFrames (m : Moment) : Type 0 where
   pub once : (s one two copy : ℕ) (p : Process) → process_in m.after s ≡ Some p → copy_on p one ≡ Some copy → copy_on p two ≡ Some copy → one ≡ two
   pub shared : (s t one two copy : ℕ) (p q : Process) → s ≢ t → process_in m.after s ≡ Some p → process_in m.after t ≡ Some q → copy_on p one ≡ Some copy → copy_on q two ≡ Some copy → IsSharedPage p q one two
   -- A process that was started is on new frames, and so is one after an exec that is done; a child is on its parent's. By any
-  -- other step of its own a process keeps its frames, but for pages that go
+  -- other step of its own a process keeps its frames, but for pages that go or are taken over
   pub started : (image : Image) (s : ℕ) (p : Process) → m.step ≡ Start image → m.reply ≡ Started s → process_in m.after s ≡ Some p → HasNewFrames m.before p
   pub replaced : (h s : ℕ) (p q : Process) (image : Image) → IsOnHart m.before h s p → m.step ≡ Exec h image → m.reply ≡ Done → process_in m.after s ≡ Some q → HasNewFrames m.before q
   pub child : (h s t : ℕ) (p c : Process) → IsOnHart m.before h s p → m.step ≡ Fork h → m.reply ≡ Forked t → process_in m.after t ≡ Some c → SharesFrames p c
@@ -147,6 +147,9 @@ pub record LeavesOthers (m : Moment) : Type 0 where
   -- of the entry that it added, the last
   pub buffers : (k : ℕ) (hart : Hart) → IsMade m.reply → slice_get (m.before).harts k ≡ Some hart → keys_on m.after k ≡ Some (if is_on_hart m.step k then keys_after (m.before).policy hart m.step else hart.keys)
   pub filled : (h address n : ℕ) → m.step ≡ Fill h address → m.reply ≡ Filled n → option_map length (keys_on m.after h) ≡ Some (n + 1)
+  -- With policy `asid` each hart is marked for a slot in which a process starts, or whose copies or marks change, until the last
+  -- fence of a return to that slot. After a fork, `load 0 0x1000 1 @0` is refused with NoEntry: the fence took the entry
+  pub stale : (k t : ℕ) (hart : Hart) → IsMade m.reply → slice_get (m.before).harts k ≡ Some hart → stale_on m.after k t ≡ Some (marks_slot (m.before).policy m.before m.after t || (if is_on_hart m.step k then stale_after (m.before).policy hart m.step t else hart.stale t))
   -- A process is on one hart at a time
   pub one_hart : (h k s : ℕ) → slot_on m.after h ≡ Some s → slot_on m.after k ≡ Some s → h ≡ k
   -- Files stay but for what munmap, exec, an exit and an end write back; the memory keeps its
@@ -154,8 +157,8 @@ pub record LeavesOthers (m : Moment) : Type 0 where
   pub files : writes_back m.step m.reply ≡ false → (m.after).files ≡ (m.before).files
   pub memory : (m.after).frames ≡ (m.before).frames
   pub slots : length (m.after).slots ≡ length (m.before).slots
-  -- The regions of each process are in ascending order and apart, its mappings above the heap, each of a page or more: 16
-  -- mappings of no page, which refuse the first mmap with MappingsFull, are none
+  -- The regions of each process are in ascending order and apart, its mappings above the heap, each part and mapping of a page
+  -- or more: 16 mappings of no page, which refuse the first mmap with MappingsFull, are none
   pub order : (s : ℕ) (q : Process) → process_in m.after s ≡ Some q → IsInOrder q
   -- The scheme of translation stays, and each process has it; and the policy of fences
   pub scheme : (m.after).scheme ≡ (m.before).scheme

@@ -1,6 +1,7 @@
 -- Functions for one page of a process: its `Grant` (rights, kind of region, source of the initial bytes), whether it is
--- ready for an access, its fork mark (left by a fork: copy first) and stored mark (D); then for one step which pages it
--- remaps, the grants and the process's size after it, and which pages it makes ready for a store.
+-- ready for an access, its fork mark (left by a fork: copy first) and stored mark (D), and whether one mapping has it and the next
+-- (`are_joined`, `joins`); then for one step which pages it remaps, the grants and the process's size after it, and which pages it
+-- makes ready for a store.
 use Rattle.std.specs.Prelude.{ℕ, ℤ, pos, ◌+ℤ◌, nat_abs, Bool, true, false, not, ◌+◌, ◌-◌, ◌*◌, ◌/◌, ◌%◌, ◌==◌, nat_le, nat_lt, ◌&&◌, ◌||◌, Option, None, Some, Result, Ok, Err, List, [], ◌∷◌, length, if◌then◌else◌}
 use Rattle.process_model.specs.Bytes.{pages_for}
 use Rattle.process_model.specs.Images.{end_of_loads, end_page, image_loads, LoadSegment}
@@ -159,7 +160,8 @@ size_after s (Exec h i) Done size = pos (image_size (image_loads s i))
 size_after s (Sbrk h delta) (OldSize n) size = pos size +ℤ delta
 size_after s _ r size = pos size
 
--- the pages that a step makes ready for a store: the page of the store that is served, and those of a copy to the process
+-- the pages that a step may make ready for a store: the page of the store that is served, and all pages of a copy to the process
+-- (of one that stops early, those of the bytes before: `to_front` of the headline)
 
 abbrev pub is_store : Access → Bool
 is_store Store = true

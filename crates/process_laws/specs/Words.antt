@@ -1,6 +1,6 @@
 -- The words of the headline, predicates and functions: steps, with their harts and phases (idle, user mode, kernel, the way
--- between), and buffers after them; `UserAccess`, and whether it is granted, resident or forbidden; kinds of replies; which
--- steps take frames; how a process or a forked child begins; and what a step writes back to files.
+-- between), and buffers and marks after them; `UserAccess`, and whether it is granted, resident or forbidden; kinds of
+-- replies; which steps take frames; how a process or a forked child begins; and what a step writes back to files.
 use Rattle.std.specs.Prelude.{◌≡◌, ◌≢◌, ◌⊎◌, ℕ, Bool, true, false, ◌+◌, ◌<◌, ◌≤◌, ◌%◌, ◌==◌, Option, None, Some, List, length, option_map, pos, remove, slice_get, if◌then◌else◌}
 use Rattle.std.specs.Borrow.{Bor}
 use Rattle.process_laws.specs.RuleDenials.{IsFirst}
@@ -14,7 +14,9 @@ use Rattle.process_model.specs.Harts.{fenced, Hart, Key, present_asid, with_key}
 use Rattle.process_model.specs.Process.{Process, regions}
 use Rattle.process_model.specs.Regions.{file, Region, region_at, shared_mapping}
 use Rattle.process_model.specs.World.{has_slot, World, is_unserved_access, process_in}
+use Rattle.process_model.specs.Stale.{is_changed}
 use Rattle.process_model.specs.declared.config.Policy.{Policy}
+use Rattle.process_model.specs.declared.config.Policy.TheVariants.{Asid, Full}
 use Rattle.process_model.specs.declared.phase.Phase.{Phase}
 use Rattle.process_model.specs.declared.phase.Phase.TheVariants.{Kernel}
 use Rattle.process_model.specs.declared.step.Refusal.{Refusal}
@@ -100,6 +102,27 @@ keys_after policy hart (Fill h address) = with_key hart.keys (record { page = pa
 keys_after policy hart (Evict h n) = remove hart.keys n
 keys_after policy hart (Next h) = (fenced policy hart).keys
 keys_after policy hart x = hart.keys
+
+-- whether hart k is marked for slot t: its buffer may have stale entries of the process there; None if there is no such hart
+abbrev pub stale_on : World → ℕ → ℕ → Option Bool
+stale_on w k t = option_map (λ hart. hart.stale t) (slice_get w.harts k)
+
+-- the slots for which a hart is marked, after a step on the hart: with policy `asid` the last fence of a return takes the mark
+-- of the process that returns (`fenced`)
+abbrev pub stale_after : Policy → Hart → Step → ℕ → Bool
+stale_after policy hart (Next h) = (fenced policy hart).stale
+stale_after policy hart x = hart.stale
+
+-- a slot before and after a step: a process started there, or its map from pages to copy numbers and marks changed
+abbrev pub changed_at : Option (Option Process) → Option (Option Process) → Bool
+changed_at None q = false
+changed_at (Some p) None = false
+changed_at (Some p) (Some q) = is_changed p q
+
+-- whether a step marks every hart for slot t: with policy `asid`, if the slot changed
+abbrev pub marks_slot : Policy → World → World → ℕ → Bool
+marks_slot Full before after t = false
+marks_slot Asid before after t = changed_at (slice_get before.slots t) (slice_get after.slots t)
 
 -- the reply says that the process ended
 abbrev pub is_end : Reply → Bool
@@ -321,6 +344,6 @@ pub record Written (x : Step) (p : Process) (files later : List File) : Type 0 w
 
 -- what p has to write back to a place of a file (`WroteBack`) is there: the byte becomes such a byte; if several pages map the
 -- place, that of the page at the greatest address, which is written last. After two mmaps of file 0, the second below the
--- first, and stores of 0x61 through the first and 0x62 through the second, an exit leaves 0x61 in the file
+-- first, and stores to one place of it, 0x61 through the first and 0x62 through the second, an exit leaves 0x61 there
 pub record IsWritten (x : Step) (p : Process) (files later : List File) : Type 0 where
   pub goes : (n i b : ℕ) → i < length (file_bytes files n) → (v : WroteBack x p n i b) → (w : WroteBack x p n i (byte_at (file_bytes later n) i)) × (v.address ≤ w.address)

@@ -1,4 +1,4 @@
-// One law, `wrong_models_are_refused`: the parts of the headline exclude 36 wrong behaviors of a kernel, such as a
+// One law, `wrong_models_are_refused`: the parts of the headline exclude 39 wrong behaviors of a kernel, such as a
 // second fault, a copy that stops although frames suffice, a byte lost at a trap, a released page that keeps bytes, a
 // misplaced grant or mark, or the start of a bad image.
 ghost use Rattle.std.specs.Prelude.{◌≡◌, ◌≢◌, ◌≤◌, ◌<◌, ◌+◌, ◌-◌, ◌*◌, ℕ, ℤ, Err, false, length, List, None, Ok, slice_get, Some, true};
@@ -10,7 +10,7 @@ ghost use Rattle.process_laws.specs.MadeSteps.{MakesOwn, MakesSteps};
 ghost use Rattle.process_laws.specs.Moments.{Moment, slot_on};
 ghost use Rattle.process_laws.specs.FrameNeeds.{copy_on, frames_for_image, frames_for_page, has_tables, is_settled};
 ghost use Rattle.process_laws.specs.Pages.{are_joined, grant, has_fork_mark, has_stored_mark, is_between, is_store_at, mapping_grant};
-ghost use Rattle.process_laws.specs.Words.{UserAccess, cause, copied, in_memory, IsGranted, IsOnHart, IsResident, MayCall, Serves, Tries, writes_back, WroteBack};
+ghost use Rattle.process_laws.specs.Words.{UserAccess, cause, copied, in_memory, IsGranted, IsOnHart, IsResident, MayCall, Serves, Tries, writes_back, WroteBack, changed_at, is_on_hart, IsMade, stale_on};
 ghost use Rattle.process_model.specs.Bytes.{pages_for};
 ghost use Rattle.process_model.specs.Harts.{Hart, is_kernel};
 ghost use Rattle.process_model.specs.Images.{image_loads, LoadSegment};
@@ -20,11 +20,13 @@ ghost use Rattle.process_model.specs.PageMap.{get};
 ghost use Rattle.process_model.specs.Process.{Process, regions};
 ghost use Rattle.process_model.specs.Regions.{Region};
 ghost use Rattle.process_model.specs.World.{free, free_slot, has_slot, others_have, process_in, without_process};
+ghost use Rattle.process_model.specs.declared.config.Policy.TheVariants.{Asid};
 ghost use Rattle.process_model.specs.declared.image.BadImage.{BadImage};
 ghost use Rattle.process_model.specs.declared.image.Image.{Image};
+ghost use Rattle.process_model.specs.declared.phase.Phase.TheVariants.{Leave2};
 ghost use Rattle.process_model.specs.declared.step.Refusal.TheVariants as refusal;
 ghost use Rattle.process_model.specs.declared.step.Reply.TheVariants.{CopiedIn, Done, Ended, Fault, Forked, MappedAt, OldSize, Refused, ShortIn, Started};
-ghost use Rattle.process_model.specs.declared.step.Step.TheVariants.{CopyIn, CopyOut, Exec, Fork, Mmap, Munmap, Sbrk, Serve, Start, Trap};
+ghost use Rattle.process_model.specs.declared.step.Step.TheVariants.{CopyIn, CopyOut, Exec, Fork, Mmap, Munmap, Next, Sbrk, Serve, Start, Trap};
 ghost use Rattle.sv39_entry.specs.Address.{page_of};
 ghost use Rattle.sv39_entry.specs.declared.access.Access.TheVariants.{Load};
 ghost use Rattle.sv39_entry.specs.declared.rule.Rule.TheVariants.{NoFrame};
@@ -49,8 +51,10 @@ ghost use Rattle.sv39_entry.specs.declared.rule.Rule.TheVariants.{NoFrame};
 /// have pages with different bytes on one frame. `order`: a copy of more than 256 bytes gets another refusal than
 /// BadArgument. `phase`: a call outside the kernel gets another one than Impossible with the hart's phase. `copy_mark`: a
 /// page to which copyout puts a byte keeps the fork mark. `count`: a file is added or dropped. `last`: where two pages map
-/// one place of a file, the byte of the lower one is there after write-back. `cut`: the pages of a new mapping are in several. `no_page`:
-/// a process has a mapping of no page. `none_free`: copyin takes frames although none is free.
+/// one place of a file, the byte of the lower one is there after write-back. `cut`: the pages of a new mapping are in
+/// several. `no_page`: a process has a mapping of no page. `none_free`: copyin takes frames although none is free. `stale`: a
+/// slot changes, and a hart is not marked for it. `unasked_mark`: a hart that makes no step is marked for a slot that does
+/// not change. `mark_stays`: the last fence of the return leaves the mark.
 pub fn wrong_models_are_refused()
     ensures second_fault { (m : Moment) (h s cause : ℕ) (p : Process) (a : UserAccess) → AnswersUser m h s p a → Tries m h s p a → IsGranted p a → IsResident p a → m.reply ≢ Fault cause }
     ensures other_cause { (m : Moment) (h s c : ℕ) (p : Process) (a : UserAccess) → AnswersUser m h s p a → Tries m h s p a → (IsGranted p a → IsResident p a → ⊥) → m.reply ≡ Fault c → c ≡ cause a }
@@ -108,5 +112,11 @@ pub fn wrong_models_are_refused()
         → is_between (page_of at) (page_of at + pages_for len) page ≡ true → is_between (page_of at) (page_of at + pages_for len) (page + 1) ≡ true → are_joined q page ≡ true }
     ensures last { (m : Moment) (h s n i b : ℕ) (p : Process) → ChangesOwn m h s p → writes_back m.step m.reply ≡ true → i < length (file_bytes (m.before).files n)
         → (v : WroteBack m.step p n i b) → ((c : ℕ) (w : WroteBack m.step p n i c) → w.address ≤ v.address) → byte_at (file_bytes (m.after).files n) i ≡ b }
+    ensures stale { (m : Moment) (k t : ℕ) (hart : Hart) → LeavesOthers m → IsMade m.reply → slice_get (m.before).harts k ≡ Some hart → (m.before).policy ≡ Asid
+        → changed_at (slice_get (m.before).slots t) (slice_get (m.after).slots t) ≡ true → stale_on m.after k t ≡ Some true }
+    ensures unasked_mark { (m : Moment) (k t : ℕ) (hart : Hart) → LeavesOthers m → IsMade m.reply → slice_get (m.before).harts k ≡ Some hart → is_on_hart m.step k ≡ false
+        → changed_at (slice_get (m.before).slots t) (slice_get (m.after).slots t) ≡ false → stale_on m.after k t ≡ Some (hart.stale t) }
+    ensures mark_stays { (m : Moment) (k t : ℕ) (hart : Hart) → LeavesOthers m → IsMade m.reply → slice_get (m.before).harts k ≡ Some hart → m.step ≡ Next k → hart.phase ≡ Leave2 → hart.slot ≡ Some t
+        → (m.before).policy ≡ Asid → changed_at (slice_get (m.before).slots t) (slice_get (m.after).slots t) ≡ false → stale_on m.after k t ≡ Some false }
     ensures count { (m : Moment) (h s : ℕ) (p : Process) → ChangesOwn m h s p → length (m.after).files ≡ length (m.before).files }
 {}
