@@ -157,12 +157,12 @@ pub slot_keeps_by : (m n : Machine) (before after : List (Option Process)) (s : 
     → KeepsTables m n before after
 slot_keeps_by m n before after s x y p q t u of_x of_y place at slots model kernel same framed = slot_keeps m n before after s x y p q place at slots model kernel
     (λ a b unchanged in_a in_b page. same_tenant y y q q u b refl of_y in_b page ∙ same unchanged page ∙ same_tenant x x p p a t refl in_a of_x page)
-    (λ a b in_a in_b. frames_by (same_tenant x x p p t a refl of_x in_a) (same_tenant y y q q b u refl in_b of_y)) where
+    (λ a b in_a in_b. frames_by a b (same_tenant x x p p t a refl of_x in_a) (same_tenant y y q q b u refl in_b of_y)) where
       moved : (v o : Tables) → HaveSameLeaves v o → (k f : ℕ) → IsFrameOfPage v k f → IsFrameOfPage o k f
       moved v o same_leaves k f on = (on.0, same_leaves (leaf_node k) ∙ on.1, on.2)
 
-      frames_by : {a b : Tables} → HaveSameLeaves t a → HaveSameLeaves b u → KeepsFrames a b p q
-      frames_by of_a of_b = record {
+      frames_by : (a b : Tables) → HaveSameLeaves t a → HaveSameLeaves b u → KeepsFrames a b p q
+      frames_by a b of_a of_b = record {
         trapframe = λ f on. moved t a of_a (trapframe_page p.scheme) f (framed.trapframe f (moved b u of_b (trapframe_page p.scheme) f on));
         pages = λ k f was is at_p at_q copy on. moved t a of_a k f (framed.pages k f was is at_p at_q copy (moved b u of_b k f on));
       }
