@@ -39,8 +39,9 @@ is_proper (CopyOut h address bytes) = nat_le (length bytes.now) longest_copy
 is_proper x = true
 
 -- the step is possible on the hart as it is: a switch if the hart is idle or in the kernel, to a process that is on no hart;
--- the next instruction of entry and return, but not out of the kernel while an access waits; accesses in user mode; service of
--- an access that waits; and in the kernel, while none waits, a call
+-- the next instruction of entry and return, but not out of the kernel while an access waits; a trap and accesses in user mode; a
+-- fetch in the trampoline on the way between; in the kernel service of an access that waits, and while none waits a call; fills
+-- and evictions always
 abbrev pub is_possible : World → Hart → Step → Bool
 is_possible w hart (Switch h slot) = may_switch hart.phase && can_run w slot
 is_possible w hart (Next h) = is_some (next_phase hart.phase) && not (is_kernel hart.phase && awaits_service w hart)

@@ -1,4 +1,4 @@
--- How many frames a start, an exec, a fork and the service of a page need, from what the page of the headline shows
+-- How many frames a start, an exec, a fork and the service of a page need, from what the headline shows
 -- (`frames_for_image`, `frames_for_child`, `frames_for_page`); which steps may find too few (`MayLackFrames`, `LacksFrames`);
 -- which frames a process begins with (`HasNewFrames`, `SharesFrames`), keeps (`KeepsFrames`) and shares (`IsSharedPage`).
 -- A frame of a process is its trapframe, a page table, or that of a settled page: two pages are on one frame if they have one
@@ -26,7 +26,8 @@ use Rattle.sv39_entry.specs.declared.scheme.Scheme.{Scheme}
 abbrev pub is_settled : Process → ℕ → Bool
 is_settled p page = is_some (get p.settled page)
 
--- the process has the page tables on the way to the page
+-- the page is tabled: it was settled since the start or exec, or, in a child, at the fork or since; so the page tables on the way
+-- to it are there
 abbrev pub has_tables : Process → ℕ → Bool
 has_tables p page = contains p.tabled page
 
@@ -46,7 +47,7 @@ is_shared w s (Some copy) = others_have w s copy
 abbrev pub frames_for_image : Scheme → List LoadSegment → ℕ
 frames_for_image s ls = length (page_numbers ls) + tables_needed s (page_numbers ls)
 
--- the child's trapframe, and its page tables, on the way to the pages that are settled
+-- the child's trapframe, and its page tables, on the way to the pages that are settled, to TRAMPOLINE and to TRAPFRAME
 abbrev pub frames_for_child : Process → ℕ
 frames_for_child p = 1 + tables_needed p.scheme (keys p.settled)
 
@@ -68,12 +69,12 @@ pub record LacksFrames (w : World) (s : ℕ) (access : Access) (address : ℕ) :
 abbrev pub IsNewCopy : World → ℕ → Type 0
 IsNewCopy w copy = (s page : ℕ) (p : Process) → process_in w s ≡ Some p → copy_on p page ≢ Some copy
 
--- a process that begins with an image: it has page tables for its settled pages alone, and each of these is on a new frame
+-- a process that begins with an image: its tabled pages are its settled ones, and each of these is on a new frame
 pub record HasNewFrames (w : World) (p : Process) : Type 0 where
   pub tables : (page : ℕ) → has_tables p page ≡ is_settled p page
   pub copies : (page copy : ℕ) → copy_on p page ≡ Some copy → IsNewCopy w copy
 
--- the child of a fork: it has its parent's pages on the same frames, and page tables for them alone
+-- the child of a fork: it has its parent's pages on the same frames, and they are its tabled ones
 pub record SharesFrames (p c : Process) : Type 0 where
   pub tables : (page : ℕ) → has_tables c page ≡ is_settled p page
   pub copies : (page : ℕ) → copy_on c page ≡ copy_on p page

@@ -69,19 +69,20 @@ pub record Copies (p : Process) (access : Access) (address n k : ℕ) (Lacks : T
   pub granted : (i : ℕ) → i < k → IsGranted p (byte access (address + i))
   pub stops : StopsAfter p access address n k Lacks stop
 
--- A copy that stops early changes what a copy of the first k bytes changes: it neither undoes them nor takes a frame for the
--- rest. (`front` has the first k bytes)
--- The page of each byte that is copied to p is ready for a store then, even if the byte was there already: with no frame free,
--- `copyout 0 0x1000 00` to a page that is shared since a fork answers `short 9 NoFrame done 0`
 pub record CopiesForKernel (m : Moment) (h s address k : ℕ) (p : Process) : Type 0 where
+  -- CopyIn is such a copy by loads, CopyOut by stores. One that stops early changes what a copy of the first k bytes changes: it
+  -- neither undoes them nor takes a frame for the rest. (`front` has the first k bytes)
   pub from : (n : ℕ) → m.step ≡ CopyIn h address n → Copies p Load address n k (LacksFrames m.after s Load (address + k)) (stopped_by m.reply)
   pub from_front : (n : ℕ) → m.step ≡ CopyIn h address n → m.after ≡ (moment_of m.before (CopyIn h address k)).after
   pub to : (bytes : Bor (List ℕ)) → m.step ≡ CopyOut h address bytes → Copies p Store address (length bytes.now) k (LacksFrames m.after s Store (address + k)) (stopped_by m.reply)
   pub to_front : (bytes front : Bor (List ℕ)) → m.step ≡ CopyOut h address bytes → front.now ≡ take k bytes.now → m.after ≡ (moment_of m.before (CopyOut h address front)).after
+  -- After a copy to p the page of each copied byte is ready for a store, even if the copy put there what was there: with no frame
+  -- free, `copyout 0 0x1000 00` to a page that is shared since a fork answers `short 9 NoFrame done 0`
   pub to_ready : (bytes : Bor (List ℕ)) (q : Process) (i : ℕ) → m.step ≡ CopyOut h address bytes → i < k → process_in m.after s ≡ Some q → IsResident q (byte Store (address + i))
 
--- (c) A reply says NoFrame exactly when fewer frames are free than the step needs, n; and `FrameNeeds` counts n, but for copies. A start of nine
--- pages in the first two megabytes needs 17: these, guard and stack, five page tables and the trapframe; under Sv48 19
+-- (c) A reply says NoFrame exactly when fewer frames are free than the step needs, n; and `FrameNeeds` counts n, but for copies.
+-- A start of nine pages in the first two megabytes needs 17: these, guard and stack, five page tables and the trapframe; under
+-- Sv48 19
 abbrev pub IsDry : Moment → ℕ → Type 0
 IsDry m n = is_no_frame_reply m.reply ≡ nat_lt (free m.before) n
 
@@ -102,10 +103,11 @@ pub record CountsFrames (m : Moment) : Type 0 where
   pub fork : (h s t : ℕ) (p : Process) → IsOnHart m.before h s p → MayCall m.before h p → free_slot m.before ≡ Some t → m.step ≡ Fork h → TakesExactly m (frames_for_child p)
   -- The service of a granted access takes those that its page needs
   pub serve : (h s : ℕ) (p : Process) (a : UserAccess) → Serves m h s p a → IsGranted p a → TakesExactly m (frames_for_page m.before s p a.access (page_of a.address))
-  -- A copy takes a number that is the same however many frames the memory has ((b) says what the page needs at which it stops)
+  -- A copy needs a number that is the same for the same step in a memory of any other size ((b) says what the page needs at which
+  -- it stops)
   pub copy : (h k : ℕ) → CopiesBytes h k m.step → (n : ℕ) × TakesExactly m n × ((frames : ℕ) → TakesExactly (with_frames m frames) n)
-  -- A copy that does not say NoFrame takes no more than are free, counted in a memory of any size, since `free` stops at 0: with
-  -- one frame free, a copy to a page that lacks a page table too answers `short 9 NoFrame done 0`
+  -- And a copy that does not say NoFrame takes no more frames than are free. Since `free` stops at 0, what it takes is counted in
+  -- a memory of any size: with one frame free, a copy to a page that lacks a page table too answers `short 9 NoFrame done 0`
   pub room : (h k : ℕ) → CopiesBytes h k m.step → is_no_frame_reply m.reply ≡ false → (frames : ℕ) → free (in_memory m.before frames) ≤ free (in_memory m.after frames) + free m.before
   -- Only these steps say NoFrame, and no other step takes a frame
   pub only : is_no_frame_reply m.reply ≡ true → MayLackFrames m.before m.step
@@ -129,6 +131,7 @@ pub record HoldsFrames (m : Moment) : Type 0 where
 -- byte; none if the page is not settled. These bytes are what is read. A forked child reads what its parent stored before
 -- the fork, and nothing that the parent stores later
 pub record ReadsLatest (past : List Moment) (m : Moment) : Type 0 where
+  -- (A load reads what the process had before the step; a CopyIn what it has after it, since it settles pages)
   pub has : (s a : ℕ) → byte_had (process_in m.after s) a ≡ latest (m ∷ past) s a
   pub read : (h s v : ℕ) (a : UserAccess) (via : Option ℕ) → slot_on m.before h ≡ Some s → IsAccessStep h via a m.step → m.reply ≡ Value v → IsLatest past s a.address a.width v
   pub brought : (h s address n : ℕ) → slot_on m.before h ≡ Some s → m.step ≡ CopyIn h address n → AreLatest (m ∷ past) s address (bytes_in m.reply)
@@ -141,14 +144,16 @@ pub record LeavesOthers (m : Moment) : Type 0 where
   pub refused : (e : Refusal) → m.reply ≡ Refused e → m.after ≡ m.before
   -- A slot stays empty but for a start and a fork
   pub empty : (s : ℕ) → process_in m.before s ≡ None → starts_in_slot m.reply s ≡ false → process_in m.after s ≡ None
-  -- A hart keeps its process and its phase but for its own switch, trap, step in the trampoline (`Next`), fault or end
+  -- A hart keeps its process and its phase but for its own switch, trap, next instruction of entry or return (`Next`), fault or
+  -- end
   pub harts : (k : ℕ) → moved_hart m.step m.reply ≢ Some k → (slot_on m.after k ≡ slot_on m.before k) × (phase_on m.after k ≡ phase_on m.before k)
-  -- Its buffer has the entries that it had but for its own fills, evictions and fences (`keys_after`); a fill replies the number
-  -- of the entry that it added, the last
+  -- Its buffer has entries of the keys (page and ASID) that it had, but for its own fills, evictions and fences (`keys_after`); a
+  -- fill replies the number of the entry that it added, the last
   pub buffers : (k : ℕ) (hart : Hart) → IsMade m.reply → slice_get (m.before).harts k ≡ Some hart → keys_on m.after k ≡ Some (if is_on_hart m.step k then keys_after (m.before).policy hart m.step else hart.keys)
   pub filled : (h address n : ℕ) → m.step ≡ Fill h address → m.reply ≡ Filled n → option_map length (keys_on m.after h) ≡ Some (n + 1)
-  -- With policy `asid` each hart is marked for a slot in which a process starts, or whose copies or marks change, until the last
-  -- fence of a return to that slot. After a fork, `load 0 0x1000 1 @0` is refused with NoEntry: the fence took the entry
+  -- With policy `asid`, when a process starts in a slot or the leaves of its process change (`changed_at`), the slot is stale on
+  -- every hart, until that hart's last fence of a return to it. With entry 0 filled for page 1 before a fork, after `fork 0` and
+  -- `leave 0` the access `load 0 0x1000 1 @0` answers `refused 20 NoEntry`
   pub stale : (k t : ℕ) (hart : Hart) → IsMade m.reply → slice_get (m.before).harts k ≡ Some hart → stale_on m.after k t ≡ Some (marks_slot (m.before).policy m.before m.after t || (if is_on_hart m.step k then stale_after (m.before).policy hart m.step t else hart.stale t))
   -- A process is on one hart at a time
   pub one_hart : (h k s : ℕ) → slot_on m.after h ≡ Some s → slot_on m.after k ≡ Some s → h ≡ k
@@ -157,10 +162,11 @@ pub record LeavesOthers (m : Moment) : Type 0 where
   pub files : writes_back m.step m.reply ≡ false → (m.after).files ≡ (m.before).files
   pub memory : (m.after).frames ≡ (m.before).frames
   pub slots : length (m.after).slots ≡ length (m.before).slots
-  -- The regions of each process are in ascending order and apart, its mappings above the heap, each part and mapping of a page
-  -- or more: 16 mappings of no page, which refuse the first mmap with MappingsFull, are none
+  -- Each process is `IsInOrder`: its regions are in ascending order and apart, parts below the heap, mappings above it, all below
+  -- the trapframe, each part and mapping of a page or more. So no list of 16 empty mappings makes the first mmap answer
+  -- MappingsFull
   pub order : (s : ℕ) (q : Process) → process_in m.after s ≡ Some q → IsInOrder q
-  -- The scheme of translation stays, and each process has it; and the policy of fences
+  -- Scheme and policy stay, and each process has the scheme
   pub scheme : (m.after).scheme ≡ (m.before).scheme
   pub policy : (m.after).policy ≡ (m.before).policy
   pub schemes : (s : ℕ) (q : Process) → process_in m.after s ≡ Some q → q.scheme ≡ (m.after).scheme
@@ -172,10 +178,10 @@ pub record Becomes (m : Moment) (h : ℕ) (p q : Process) : Type 0 where
   -- Each page keeps its grant (rights, kind of region, source of its initial bytes) and its stored mark, but those that
   -- exec, sbrk, mmap and munmap remap
   pub stays : (page : ℕ) → is_remapped m.step m.reply page ≡ false → (grant q page ≡ grant p page) × (has_stored_mark p page ≡ true → has_stored_mark q page ≡ true)
-  -- Two neighboring pages are in one mapping if mmap maps both; else, if neither is remapped, exactly if they were: a step cuts,
-  -- merges and adds no mapping unasked. After `mmap 0 8192 1 2 0` the two pages are in one
+  -- A page and the next are in one mapping exactly if they were; but if the step remaps one of them, exactly if it is an mmap of
+  -- both. So no step cuts or merges mappings unasked; after `mmap 0 8192 1 2 0` the two pages are in one
   pub joined : (page : ℕ) → are_joined q page ≡ (if is_remapped m.step m.reply page || is_remapped m.step m.reply (page + 1) then joins m.step m.reply page else are_joined p page)
-  -- Such a page has what the call gives; only exec puts one grant in the place of another; sbrk leaves the pages below the
+  -- A remapped page has what the call gives; only exec puts one grant in the place of another; sbrk leaves the pages below the
   -- heap as they are, mmap and munmap the heap too
   pub remapped : (page : ℕ) → is_remapped m.step m.reply page ≡ true → grant q page ≡ grant_after (m.before).scheme m.step m.reply page
   pub vacant : (page : ℕ) → is_remapped m.step m.reply page ≡ true → ((image : Image) → m.step ≢ Exec h image) → (grant p page ≡ None) ⊎ (grant q page ≡ None)

@@ -36,7 +36,7 @@ pub record MakesSteps (m : Moment) : Type 0 where
   pub replies : is_reply m.step m.reply ≡ true
   pub exited : (h : ℕ) (status code : ℤ) → m.step ≡ Exit h status → m.reply ≡ Exited code → code ≡ status
   pub in_frame : (h offset n : ℕ) (via : Option ℕ) → m.step ≡ TrampolineFetch h offset via → m.reply ≡ InFrame n → n ≡ 0
-  -- A step on a hart is refused with BadArgument, Impossible or NoEntry, the first that applies (`refusal_on`): `load 0 0x1000 3`
+  -- A step on a hart is refused with BadArgument, Impossible or NoEntry, the first that applies (`refusal_on`): `tramp 0 2`
   -- answers `refused 15 BadArgument` in every phase. If none applies, it is made, but for the refusals of the five calls above.
   -- A step of a process is made only on a hart that has one
   pub refused : (h : ℕ) (e : Refusal) → hart_of m.step ≡ Some h → refusal_on m.before m.step (slice_get (m.before).harts h) ≡ Some e → m.reply ≡ Refused e

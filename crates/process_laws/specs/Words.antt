@@ -203,7 +203,8 @@ pub record Tries (m : Moment) (h s : ℕ) (p : Process) (a : UserAccess) : Type 
   pub asks : IsAccessStep h via a m.step
   pub made : IsMade m.reply
 
--- the kernel serves the access of p, and is not refused
+-- the kernel serves the access a, for which the process in slot s waits, and is not refused; p is that process but for what is
+-- pending
 pub record Serves (m : Moment) (h s : ℕ) (p : Process) (a : UserAccess) : Type 0 where
   pub on : IsOnHart m.before h s (with_pending_access p a)
   pub serves : m.step ≡ Serve h
