@@ -15,7 +15,7 @@ use Rattle.hart_threads.specs.Starts.{Lends}
 use Rattle.audit_player.specs.KernelFrames.{GainsCredits, HoldsOnce}
 
 -- views with the same references hold as many frames
-same_held : (n : ℕ) (v w : View) → ((f : ℕ) → f < n → references w f ≡ references v f) → held_frames n w ≡ held_frames n v
+pub same_held : (n : ℕ) (v w : View) → ((f : ℕ) → f < n → references w f ≡ references v f) → held_frames n w ≡ held_frames n v
 same_held zero v w same = refl
 same_held (suc n) v w same =
     let here : 1 - one_at_zero (references w n) ≡ 1 - one_at_zero (references v n) = ap (λ (k : ℕ). 1 - one_at_zero k) (same n (omega arith)) in

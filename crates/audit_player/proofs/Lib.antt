@@ -8,4 +8,5 @@ pub mod Parts
 pub mod Played
 pub mod PlayedLists
 pub mod Runs
+pub mod SoleHolder
 pub mod Written

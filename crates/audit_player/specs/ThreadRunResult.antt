@@ -1,9 +1,10 @@
 -- What `play_threads` returns and writes, by the bytes of the file for threads (`PlaysThreads`, `PlaysLists`): a text of a
--- run that the file allows (`IsTextOf`), its refusal, or a prefix after a failed read or write; how many frames are free
+-- run that the file allows (`IsTextOf`), its refusal, or a prefix after a failed read or write; that all user frames are free
 -- after a run (`LeavesFree`).
 use Rattle.std.specs.Prelude.{◌≡◌, ◌⊎◌, ℕ, ◌-◌, List, Option, None, Some, Result, Ok, Err}
 use Rattle.std.specs.Io.KnownBytes.{Appends, Keeps}
 use Rattle.std.specs.List.Sorted.{IsPermutation}
+use Rattle.atomic_table.specs.Seated.{TableId}
 use Rattle.frame_store.specs.View.{View}
 use Rattle.hart_calls.specs.declared.finished.Finished.{Finished}
 use Rattle.hart_threads.specs.RosterState.{ComesBack}
@@ -14,7 +15,7 @@ use Rattle.process_model.specs.declared.call.Call.{Call}
 use Rattle.process_model.specs.declared.call.Pool.{Pool}
 use Rattle.process_model.specs.declared.call.Start.{Start}
 use Rattle.process_model.specs.declared.script.Cause.{Cause}
-use Rattle.shared_frames.specs.Totals.{AreTotals, held_frames}
+use Rattle.shared_frames.specs.Totals.{AreLastTotals, held_frames}
 use Rattle.audit_player.specs.InputOutput.{WroteSome}
 use Rattle.audit_player.specs.ThreadLists.{AreListsOf, AreStartsOf}
 use Rattle.audit_player.specs.ThreadText.{AreInOrder, threads_text}
@@ -28,32 +29,32 @@ kernel_of p = kernel_frames Sv39 p.frames p.slots
 abbrev pub user_frames : Pool → ℕ
 user_frames p = p.frames - kernel_of p
 
--- After all harts have ended, `free` frames have count 0, and the kernel's seat holds as many frames as the kernel takes. If
--- the count of frame 0, the trampoline's, is 1, all user frames are free.
+-- How a run leaves the frames of its pool. The kernel's seat holds as many frames as the kernel takes, and is the sole holder
+-- of frame 0, the trampoline's, whose count is 1. No other seat holds a frame or has a credit (`AreLastTotals`). So `free`,
+-- how many frames have count 0, is all user frames.
 pub record LeavesFree (pool : Pool) (free : ℕ) : Type 0 where
   pub view : View
   pub kernel : held_frames pool.frames view ≡ kernel_of pool
-  pub trampoline : ℕ
-  pub totals : AreTotals pool.frames view free trampoline
-  pub all : trampoline ≡ 1 → free ≡ user_frames pool
+  pub totals : AreLastTotals pool.frames view free 1
+  pub all : free ≡ user_frames pool
 
 -- A text that playing the file may write: how processes ended, a line for each start and each child, sorted by their
--- names, and last the number of free user frames. The processes are those of a run of the file's lists and
--- starts (`ComesBack`), in its slots.
+-- names, and last that all user frames are free, which they are (`LeavesFree`). The processes are those of a run of the
+-- file's lists and starts (`ComesBack`), in its slots; their seats are at one table of frames.
 pub record IsTextOf (s : ThreadScript) (whole : List ℕ) : Type 0 where
   pub lists : List (List Call)
   pub are_lists : AreListsOf s.images s.lists lists
   pub starts : List Start
   pub are_starts : AreStartsOf s.images s.starts starts
   pub ended : List Finished
-  pub comes : ComesBack lists starts ended
+  pub table : TableId
+  pub comes : ComesBack table lists starts ended
   pub slots : AreSlotted s.pool.slots ended
   pub shown : List Finished
   pub same : IsPermutation ended shown
   pub order : AreInOrder shown
-  pub free : ℕ
-  pub leaves : LeavesFree s.pool free
-  pub text : whole ≡ threads_text shown free (user_frames s.pool)
+  pub leaves : LeavesFree s.pool (user_frames s.pool)
+  pub text : whole ≡ threads_text shown (user_frames s.pool) (user_frames s.pool)
 
 -- after `Ok`: the file is accepted, and all of a text of it was written
 abbrev pub WritesThreads : Option (List ℕ) → Option (List ℕ) → Result ThreadScript (ℕ × Cause) → Type 0

@@ -2,6 +2,7 @@
 // `play_threads_with` adds hooks around each call; `run_pool` only runs parsed lists and starts, and returns the ends.
 
 ghost use Rattle.std.specs.Prelude.{◌≡◌, ◌↔◌, ◌||◌, ◌≤◌, ◌<◌, All, false, length, IfOk, IsTrue, IsErrOf};
+ghost use Rattle.atomic_table.specs.Seated.{TableId};
 ghost use Rattle.hart_calls.specs.Track.{NameLists};
 ghost use Rattle.hart_threads.specs.RosterState.{ComesBack};
 ghost use Rattle.hart_threads.specs.Slots.{AreSlotted};
@@ -10,7 +11,7 @@ ghost use Rattle.script_reader.specs.ThreadsPlayable.{IsThreadPlayable};
 ghost use Rattle.audit_player.specs.ThreadRunResult.{LeavesFree, PlaysLists, PlaysThreads};
 
 use crate::fault::PlayError;
-use crate::kernel::take_kernel_frames;
+use crate::kernel::{reserve_user_frames, take_kernel_frames};
 use crate::page::TextPage;
 use crate::player::play_error_of;
 use crate::sink::Sink;
@@ -38,7 +39,8 @@ const QUANTUM: usize = 8;
 /// must name one of them (`lend_lists`, `lend_starts`).
 ///
 /// Returns the processes as they ended, one for each start and for each child (`ComesBack`), and how many frames have
-/// reference count 0 then: all user frames, if the count of frame 0, the trampoline's, is 1.
+/// reference count 0 then: all user frames. No seat but the kernel's holds a frame or has a credit then (`LeavesFree`); the
+/// kernel waits for that.
 ///
 /// # Errors
 /// `AllocError`: host memory was refused.
@@ -57,7 +59,7 @@ pub fn run_pool<'a, T: Threads + Wait + Sync, G: Gate + Sync>(
     requires starts { All (λ start. start.list < most_lists) starts.now }
     requires some { 1 ≤ harts }
     requires few { harts ≤ 8 }
-    ensures ended { IfOk result (λ r. ComesBack lists.entry.now starts.now r.0.items) }
+    ensures ended { IfOk result (λ r. (table : TableId) × ComesBack table lists.entry.now starts.now r.0.items) }
     ensures slots { IfOk result (λ r. AreSlotted script.now.pool.slots r.0.items) }
     ensures free { IfOk result (λ r. LeavesFree script.now.pool r.1) }
 {
@@ -69,6 +71,7 @@ pub fn run_pool<'a, T: Threads + Wait + Sync, G: Gate + Sync>(
     let ended = run_harts(
         rt, alloc, &frames, &mut seat, &shelf, lists, starts, pool.slots, harts, QUANTUM, gate,
     )?;
+    reserve_user_frames(rt, &frames, &mut seat, pool.frames - kernel);
     let totals = frames.close(seat);
     Ok((ended, totals.free))
 }

@@ -1,9 +1,11 @@
 // `Shelf`, a struct: files (a `Cabinet`) with the history of their page reads and writes, for threads to share; it has
-// `new`, `cabinet`, `history` and the calls of the trait `Files` (promise, read and write a page, length, writable). A
+// `new`, `cabinet`, `history`, a law (`replays`) and the calls of the trait `Files` (promise, read and write a page, length, writable). A
 // promise, so that page reads and writes cannot fail, may be refused. `MOST_USES`: the most entries of a history.
 
 ghost use Rattle.std.specs.Prelude.{[], ◌≡◌};
+ghost use Rattle.file_shelf.specs.Histories.{HistoryReplays};
 ghost use Rattle.file_shelf.specs.ShelfStates.{ShelfState};
+ghost use Rattle.process_model.specs.PageMoves.{files_after};
 
 use crate::history::PageUse;
 use file_cabinet::{Cabinet, Files, PromiseError};
@@ -64,6 +66,14 @@ impl Shelf {
         ensures { result.now ≡ (self.now).history }
     {
         self.history.as_slice()
+    }
+
+    /// Law: the history replays from the files that the shelf began with, and the files are those that it leaves.
+    pub fn replays(&self)
+        ensures right { HistoryReplays (self.now).first (self.now).history }
+        ensures files { (self.now).files ≡ files_after (self.now).first (self.now).history }
+    {
+        let _ = self.history.len();
     }
 }
 

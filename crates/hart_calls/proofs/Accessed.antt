@@ -11,6 +11,7 @@ use Rattle.address_space.specs.Steps.{RunsDry}
 use Rattle.fault_rules.specs.Allowed.{denied_otherwise}
 use Rattle.fault_rules.specs.MadeResident.{is_counted, is_shared_by, moves_for}
 use Rattle.fault_rules.specs.Serves.{IsEnd, served_moves}
+use Rattle.fault_rules.specs.declared.service.Served.{Served}
 use Rattle.fault_rules.specs.declared.service.Served.TheVariants as served
 use Rattle.frame_store.specs.View.{View}
 use Rattle.hart_calls.specs.CallKinds.{IsAccess, IsAccessCall}
@@ -247,6 +248,14 @@ module _ (files : List File) (p : Process) (a : AccessRequest) where
         lack = of.calm files p x.view y.view;
         request = tt;
       }
+
+  -- a rule that denies the access isn't NoFrame
+  pub not_dry : (r : Rule) → rule_for p a ≡ Some r → served.Ended r ≡ served.Ended rule.NoFrame → ⊥
+  not_dry r by same = denied_otherwise p.scheme (regions p) a.access a.address a.width (by ∙ ap (λ (z : Served). Some (or_rule r z)) same)
+    where
+      or_rule : Rule → Served → Rule
+      or_rule d (served.Ended z) = z
+      or_rule d z = d
 
   module _ (c : Call) (is : IsAccess c a) (wide : is_width a.width ≡ true) (x y : Body) (Became : List PageMove → Type 0) (Refused : List PageMove → ℕ → Refusal → Type 0) (Promised : ℕ → Type 0) where
     abbrev of : OfAccess c a

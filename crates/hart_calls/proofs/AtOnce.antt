@@ -52,7 +52,7 @@ first_none [] ys none = refl
 first_none (x ∷ xs) ys none = absurd (cc)
 
 module _ (t : Track) (a : AccessRequest) (c : Call) (is : IsAccess c a) (x y : Body) (seen : x.view ≡ t.seat) (r : Reply) (m : IsMadeAtOnce x y t.state a c r)
-    (e : JournalEntry) (called : call_of e ≡ c) (answer : e.reply ≡ r) (pages : e.pages ≡ []) (file : e.file ≡ None) where
+    (e : JournalEntry) (called : call_of e ≡ c) (answer : e.reply ≡ r) (pages : e.pages ≡ []) (file : e.file ≡ None) (was : e.before.state ≡ t.state) where
   abbrev shortage : Shortage
   shortage = by_reply (address_of c) r
 
@@ -62,6 +62,7 @@ module _ (t : Track) (a : AccessRequest) (c : Call) (is : IsAccess c a) (x y : B
     answer = answer;
     pages = pages ∙ sym (first_none (reads_of s.files shortage t.state c) (writes_of s.files shortage t.state c) (no_moves s _ (m.result s).moves));
     file = file ∙ maps_none c (is_access_call c a is) s.files;
+    before = was;
   }
 
   pub leads_at_once : (s : ShelfState) (q : Process) → q ≡ (user_access t.state a).process → IsReplayStep s.files (forks t.journal) t.state e q

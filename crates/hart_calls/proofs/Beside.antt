@@ -1,13 +1,14 @@
 -- Lemmas for an empty seat (an owner's capability at a frame store) split off a process's seat: both are at the one table, a
 -- process's seat holds frame 0, and a space whose seat has an equal view is the process that it was.
-use Rattle.std.proofs.Common.{◌≡◌, ℕ, List, [], ◌∷◌, ap, sym, subst, ◌∙◌, arith}
+use Rattle.std.proofs.Common.{◌≡◌, ℕ, List, [], ◌∷◌, ap, refl, sym, subst, ◌∙◌, arith}
 use Rattle.atomic_table.specs.Seated.{TableId}
 use Rattle.address_space.specs.Agreement.{body_of, IsSpace}
+use Rattle.address_space.specs.Steps.{IsBare}
 use Rattle.address_space.specs.declared.space.Space.{Space}
 use Rattle.address_space.proofs.Owned.{anchored}
 use Rattle.frame_store.specs.Holds.{hold_of-empty}
 use Rattle.frame_store.specs.Laws.{IsAnchored}
-use Rattle.frame_store.specs.View.{Hold, IsHeld, empty_view, references}
+use Rattle.frame_store.specs.View.{Hold, IsHeld, View, empty_view, references}
 use Rattle.process_model.specs.Process.{Process}
 use Rattle.shared_frames.specs.SeatsOfTable.{AllFit, FitsIn, view_of}
 use Rattle.shared_frames.specs.declared.seat.SharedSeat.{SharedSeat}
@@ -15,6 +16,10 @@ use Rattle.table_walk.specs.Tables.{Tables}
 
 pub empty_anchored : (size : ℕ) → IsAnchored (empty_view size)
 empty_anchored size f held = absurd (let none : references (empty_view size) f ≡ 0 = ap (λ (h : Hold). h.references) (hold_of-empty size f) in omega (arith, none, held))
+
+-- an empty seat holds no frame and has none reserved
+pub empty_bare : (size : ℕ) (w : View) → w ≡ empty_view size → IsBare w
+empty_bare size w is = subst IsBare (sym is) (record { none = λ f. ap (λ (h : Hold). h.references) (hold_of-empty size f); credits = refl })
 
 -- two seats at a table where there was one
 pub fits_both : (z a b : TableId) (s t u : SharedSeat) → a ≡ z → ((others : List SharedSeat) → AllFit a (s ∷ others) → AllFit b (t ∷ u ∷ others)) → FitsIn z s → (b ≡ z) × (FitsIn z t × FitsIn z u)

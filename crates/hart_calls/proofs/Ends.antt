@@ -3,52 +3,84 @@
 -- journal is full (`unfiled_by`).
 use Rattle.std.proofs.Common.{◌≡◌, ◌<◌, arith, ℕ, List, [], length, refl, sym, subst, ◌∙◌, ap, inl, inr}
 use Rattle.std.proofs.lemmas.List.{append-nil}
+use Rattle.atomic_table.specs.Seated.{TableId}
 use Rattle.file_cabinet.specs.Promises.{refusal_of}
 use Rattle.file_cabinet.specs.declared.promise.PromiseError.{PromiseError}
 use Rattle.file_cabinet.specs.declared.promise.PromiseError.TheVariants as error
 use Rattle.file_shelf.specs.ShelfStates.{HasMoves, CanRefuse, ShelfState}
-use Rattle.frame_store.specs.View.{View}
+use Rattle.address_space.specs.Steps.{TakesFrames}
+use Rattle.frame_store.specs.View.{Tallies, View}
 use Rattle.hart_calls.specs.ProcessEnd.{cause_of, IsCause}
 use Rattle.hart_calls.specs.CallKinds.{IsAccessCall}
+use Rattle.hart_calls.specs.CallResults.{ClaimsNone}
 use Rattle.hart_calls.specs.CallOutcomes.{reads_of}
 use Rattle.hart_calls.specs.Shortages.{nothing}
 use Rattle.hart_calls.proofs.Full.{no_moves}
 use Rattle.hart_calls.proofs.Staying.{reads_few}
+use Rattle.hart_calls.specs.Replay.{call_at}
 use Rattle.hart_calls.specs.Track.{next_of, Track}
 use Rattle.hart_calls.specs.TurnResults.{HasFilesAfter, IsFullWithoutShelf}
-use Rattle.hart_calls.specs.TurnCases.{KeepsFilesByOutcome, IsFullByOutcome, IsOver, IsLastEntry, NeedsFiles}
+use Rattle.hart_calls.specs.TurnCases.{HasMapping, IsCutFor, IsFullByOutcome, IsLastEntry, IsOver, KeepsFilesByOutcome, LacksJournalRoom, most_entries, NeedsFiles}
 use Rattle.hart_calls.specs.declared.turn.Turn.{Turn}
 use Rattle.hart_calls.specs.declared.turn.Turn.TheVariants as turn
 use Rattle.process_model.specs.PageMoves.{all_moves, PageMove}
 use Rattle.hart_calls.specs.declared.finished.Finished.{Finished}
+use Rattle.hart_calls.specs.declared.journal_entry.JournalEntry.{JournalEntry}
+use Rattle.process_model.specs.Process.{Process}
+use Rattle.process_model.specs.declared.call.Call.{Call}
+use Rattle.shared_frames.specs.SeatsOfTable.{view_of}
 use Rattle.process_model.specs.declared.call.Outcome.{Outcome}
 use Rattle.process_model.specs.declared.call.Outcome.TheVariants as outcome
 use Rattle.process_model.specs.declared.step.Refusal.{Refusal}
 use Rattle.process_model.specs.declared.step.Refusal.TheVariants as refusal
 
-pub cut_last : (t : Track) (f : Finished) (o : Outcome) → IsCause o → f.journal.items ≡ t.journal → IsLastEntry t f o
-cut_last t f (outcome.Exited n) cause same = absurd cause
-cut_last t f (outcome.Ended r) cause same = absurd cause
-cut_last t f (outcome.Refused r) cause same = absurd cause
-cut_last t f outcome.Memory cause same = same
-cut_last t f outcome.JournalFull cause same = same
+-- a space that ends claims no frame
+pub ends_claiming_none : (v w : View) → TakesFrames v w 0 [] → ClaimsNone v w
+ends_claiming_none v w takes = ap (λ (t : Tallies). t.claims) takes.tallies ∙ omega arith
 
--- what its seat knows is of no account then
+pub cut_last : (t : Track) (f : Finished) (o : Outcome) → IsCause o → f.journal.items ≡ t.journal → ClaimsNone t.seat (view_of f.seat) → IsLastEntry t f o
+cut_last t f (outcome.Exited n) cause same none = absurd cause
+cut_last t f (outcome.Ended r) cause same none = absurd cause
+cut_last t f (outcome.Refused r) cause same none = absurd cause
+cut_last t f outcome.Memory cause same none = (same, none)
+cut_last t f outcome.JournalFull cause same none = (same, none)
 
-seated_last : (t : Track) (seat : View) (room : ℕ) (f : Finished) (o : Outcome) → IsCause o → IsLastEntry (record t { seat = seat; room = room }) f o → IsLastEntry t f o
-seated_last t seat room f (outcome.Exited n) cause l = absurd cause
-seated_last t seat room f (outcome.Ended r) cause l = absurd cause
-seated_last t seat room f (outcome.Refused r) cause l = absurd cause
-seated_last t seat room f outcome.Memory cause l = l
-seated_last t seat room f outcome.JournalFull cause l = l
+-- why it ends so
 
-pub cut_over : (t : Track) (seat : View) (room : ℕ) (f : Finished) (o : Outcome) → IsCause o → f.outcome ≡ o → IsOver (record t { seat = seat; room = room }) f → IsOver t f
-cut_over t seat room f o cause is over = record {
+pub cut_full : (w : View) (p : Process) (calls : List Call) (journal : List JournalEntry) (o : Outcome) → IsCutFor p (call_at calls (length journal)) journal o → LacksJournalRoom w p calls journal o
+cut_full w p calls journal (outcome.Exited n) why = tt
+cut_full w p calls journal (outcome.Ended r) why = tt
+cut_full w p calls journal (outcome.Refused r) why = tt
+cut_full w p calls journal outcome.Memory few = few
+cut_full w p calls journal outcome.JournalFull (inl full) = inl full
+cut_full w p calls journal outcome.JournalFull (inr (maps, lacks)) = inr (maps, (w, lacks.0, inl lacks.1))
+
+-- the files refused to promise the page of an access
+pub cut_for : (p : Process) (c : Call) (journal : List JournalEntry) (a : ShelfState) (r : Refusal) (x : PromiseError) → length journal < most_entries → HasMapping p.mappings → IsAccessCall c → 0 < length (reads_of a.files nothing p c) → CanRefuse a 1 x → r ≡ refusal_of x
+    → IsCutFor p c journal (cause_of r)
+cut_for p c journal a r x few maps access some could is = subst (λ (z : Refusal). IsCutFor p c journal (cause_of z)) (sym is) (go x could)
+  where
+    go : (z : PromiseError) → CanRefuse a 1 z → IsCutFor p c journal (cause_of (refusal_of z))
+    go error.Memory can = few
+    go error.JournalFull can = inr (maps, (a, (access, some, can)))
+
+-- what its seat read is of no account then, if it claimed nothing
+
+seated_last : (t : Track) (seat : View) (room : ℕ) → ClaimsNone t.seat seat → (f : Finished) (o : Outcome) → IsCause o → IsLastEntry (record t { seat = seat; room = room }) f o → IsLastEntry t f o
+seated_last t seat room none f (outcome.Exited n) cause l = absurd cause
+seated_last t seat room none f (outcome.Ended r) cause l = absurd cause
+seated_last t seat room none f (outcome.Refused r) cause l = absurd cause
+seated_last t seat room none f outcome.Memory cause l = (l.0, l.1 ∙ none)
+seated_last t seat room none f outcome.JournalFull cause l = (l.0, l.1 ∙ none)
+
+pub cut_over : (table : TableId) (t : Track) (seat : View) (room : ℕ) → ClaimsNone t.seat seat → (f : Finished) (o : Outcome) → IsCause o → f.outcome ≡ o → IsOver table (record t { seat = seat; room = room }) f → IsOver table t f
+cut_over table t seat room none f o cause is over = record {
   name = over.name;
+  seat = over.seat;
   bare = over.bare;
   state = over.state;
   replays = over.replays;
-  last = seated_last t seat room f f.outcome (subst IsCause (sym is) cause) over.last;
+  last = seated_last t seat room none f f.outcome (subst IsCause (sym is) cause) over.last;
   full = over.full;
   few = over.few;
 }

@@ -1,18 +1,13 @@
 -- Lemmas: only a process that has a mapping reads pages of files in an access (`read_maps`) or writes them back at its end
--- (`written_maps`); so if the files refuse for lack of room in their history, it has a mapping (`full_of`, `full_for`).
-use Rattle.std.proofs.Common.{◌≡◌, ◌<◌, ℕ, Bool, true, false, Option, None, Some, List, [], ◌∷◌, ◌++◌, length, refl, ap, sym, subst, arith, inr}
+-- (`written_maps`).
+use Rattle.std.proofs.Common.{◌≡◌, ◌<◌, ℕ, Bool, true, false, Option, None, Some, List, [], ◌∷◌, ◌++◌, length, refl, ap, sym, subst, arith}
 use Rattle.std.specs.Prelude.{flat_map}
 use Rattle.fault_rules.specs.MadeResident.{moves_for, moves_from}
 use Rattle.fault_rules.specs.Serves.{served_moves}
-use Rattle.file_cabinet.specs.declared.promise.PromiseError.{PromiseError}
-use Rattle.file_cabinet.specs.declared.promise.PromiseError.TheVariants as error
-use Rattle.file_shelf.specs.ShelfStates.{asks, CanRefuse, ShelfState}
 use Rattle.hart_calls.specs.CallKinds.{IsAccessCall}
-use Rattle.hart_calls.specs.ProcessEnd.{cause_of, outcome_of}
 use Rattle.hart_calls.specs.CallOutcomes.{access_reads, request, reads_of, rule_for}
-use Rattle.hart_calls.specs.TurnCases.{HasMapping, LacksJournalRoom}
+use Rattle.hart_calls.specs.TurnCases.{HasMapping}
 use Rattle.hart_calls.specs.Shortages.{nothing}
-use Rattle.hart_calls.specs.declared.journal_entry.JournalEntry.{JournalEntry}
 use Rattle.process_model.specs.Bytes.{is_width}
 use Rattle.process_model.specs.Files.{File}
 use Rattle.process_model.specs.Order.{EachRegion, HasNoFile, HasOrder, is_file}
@@ -23,8 +18,6 @@ use Rattle.process_model.specs.Regions.{file, holds_page, image, Region, region_
 use Rattle.process_model.specs.Service.{AccessRequest}
 use Rattle.process_model.specs.declared.call.Call.{Call}
 use Rattle.process_model.specs.declared.call.Call.TheVariants as call
-use Rattle.process_model.specs.declared.step.Refusal.{Refusal}
-use Rattle.process_model.specs.declared.step.Refusal.TheVariants as refusal
 use Rattle.sv39_entry.specs.Address.{page_of}
 use Rattle.sv39_entry.specs.declared.access.Access.TheVariants.{Fetch, Load, Store}
 use Rattle.sv39_entry.specs.declared.rule.Rule.{Rule}
@@ -42,10 +35,6 @@ written_maps p some = go p.mappings refl
     go : (ms : List Region) → p.mappings ≡ ms → HasMapping p.mappings
     go [] is = let none = ap (λ (ms : List PageMove). length ms) (no_moves p [] is (λ h. h)) in absurd (omega (arith, some, none))
     go (m ∷ ms) is = subst HasMapping (sym is) tt
-
-pub full_of : (p : Process) (journal : List JournalEntry) (e : PromiseError) (s : ShelfState) → CanRefuse s (length (all_moves p)) e → LacksJournalRoom p.mappings journal (outcome_of e)
-full_of p journal error.Memory s could = tt
-full_of p journal error.JournalFull s could = inr (written_maps p (asks s (length (all_moves p)) error.JournalFull could))
 
 -- ---- what an access would read
 
@@ -102,20 +91,3 @@ module _ (p : Process) (order : HasOrder 0 p) (files : List File) where
   read_maps (call.CopyOut address bytes) access some = absurd access
   read_maps (call.Exit status) access some = absurd access
   read_maps (call.Fork list) access some = absurd access
-
--- whatever it was refused for
-pub full_for : (p : Process) (journal : List JournalEntry) (r : Refusal) → HasMapping p.mappings → LacksJournalRoom p.mappings journal (cause_of r)
-full_for p journal refusal.NoFrame maps = tt
-full_for p journal refusal.NoSlot maps = tt
-full_for p journal refusal.SharersFull maps = tt
-full_for p journal (refusal.BadImage x) maps = tt
-full_for p journal refusal.BadSize maps = tt
-full_for p journal refusal.NoRoom maps = tt
-full_for p journal refusal.BadArgument maps = tt
-full_for p journal refusal.FileNotWritable maps = tt
-full_for p journal refusal.MappingsFull maps = tt
-full_for p journal refusal.HoleInMapping maps = tt
-full_for p journal (refusal.Impossible x) maps = tt
-full_for p journal refusal.NoEntry maps = tt
-full_for p journal refusal.Memory maps = tt
-full_for p journal refusal.JournalFull maps = inr maps

@@ -4,20 +4,22 @@
 use Rattle.std.proofs.lemmas.List.{length-append}
 use Rattle.std.proofs.Common.{◌≡◌, ◌⊎◌, ◌<◌, ◌≤◌, ℕ, ℤ, List, [], ◌∷◌, ◌++◌, length, refl, ap, sym, subst, ◌∙◌, arith, Option, None, Some, inl, inr}
 use Rattle.address_space.specs.Steps.{IsBare, RunsDry, TakesFrames}
+use Rattle.atomic_table.specs.Seated.{TableId}
 use Rattle.cow_fork.specs.Forks.{refusal_of}
 use Rattle.cow_fork.specs.declared.fork_process.ForkError.{ForkError}
 use Rattle.cow_fork.specs.declared.fork_process.ForkError.TheVariants as fork
 use Rattle.file_cabinet.specs.declared.promise.PromiseError.{PromiseError}
 use Rattle.file_cabinet.specs.declared.promise.PromiseError.TheVariants as error
-use Rattle.file_shelf.specs.ShelfStates.{HasMoves, CanRefuse, ShelfState, stays}
+use Rattle.file_shelf.specs.ShelfStates.{asks, HasMoves, CanRefuse, ShelfState, stays}
 use Rattle.frame_store.specs.View.{Tallies, View}
 use Rattle.hart_calls.specs.ProcessEnd.{Closes, IsClosed, outcome_of}
 use Rattle.hart_calls.specs.ShortageReports.{ReportsShortage}
 use Rattle.hart_calls.specs.Replay.{call_at, call_of, forked, forks, IsReplayStep, Replays}
 use Rattle.hart_calls.specs.CallOutcomes.{file_of, reads_of, call_outcome, writes_of}
 use Rattle.hart_calls.specs.Track.{AppendsEntry, calls_of, IsChild, next_of, Track}
-use Rattle.hart_calls.specs.TurnCases.{BySlot, KeepsFilesAtEnd, KeepsFilesOn, KeepsFilesByOutcome, ForkAnswer, ContinuesTurn, LeavesRunning, HasNoEnd, LacksJournalRoom, IsOver, IsLastEntry, most_entries, Unwritten}
-use Rattle.hart_calls.proofs.Full.{full_of}
+use Rattle.hart_calls.specs.TurnCases.{BySlot, KeepsFilesAtEnd, KeepsFilesOn, KeepsFilesByOutcome, ForkAnswer, ContinuesTurn, LeavesRunning, LacksEndRoom, LacksJournalRoom, IsOver, IsLastEntry, most_entries, Unwritten}
+use Rattle.hart_calls.proofs.Ends.{ends_claiming_none}
+use Rattle.hart_calls.proofs.Full.{written_maps}
 use Rattle.hart_calls.specs.CallResults.{RefusesPromise}
 use Rattle.hart_calls.specs.Shortages.{frames_at, IsForkRefusal, CanBeShort, nothing, refused, Shortage, WasAsked}
 use Rattle.hart_calls.specs.declared.journal_entry.JournalEntry.{JournalEntry}
@@ -37,14 +39,15 @@ use Rattle.process_model.specs.declared.step.Refusal.{Refusal}
 use Rattle.process_model.specs.declared.step.Refusal.TheVariants as refusal
 use Rattle.process_model.specs.declared.step.Reply.{Reply}
 use Rattle.process_model.specs.declared.step.Reply.TheVariants as reply
-use Rattle.shared_frames.specs.SeatsOfTable.{view_of}
+use Rattle.shared_frames.specs.SeatsOfTable.{FitsIn, view_of}
 
 -- ---- exit
 
-module _ (t : Track) (status : ℤ) (e : JournalEntry) (called : call_of e ≡ call.Exit status) (answer : e.reply ≡ reply.Exited status) (pages : e.pages ≡ []) (none : e.file ≡ None) (next : next_of t ≡ call.Exit status)
-    (replays : Replays t.opening 0 0 (calls_of t) t.journal t.state) (room : length t.journal < most_entries) (f : Finished) (name : f.name.items ≡ t.name) (bare : IsBare (view_of f.seat)) (a d : ShelfState) (closes : Closes t.state t.journal e (outcome.Exited status) f a d) where
+module _ (t : Track) (status : ℤ) (e : JournalEntry) (called : call_of e ≡ call.Exit status) (answer : e.reply ≡ reply.Exited status) (pages : e.pages ≡ []) (none : e.file ≡ None) (was : e.before.state ≡ t.state) (next : next_of t ≡ call.Exit status)
+    (replays : Replays t.opening 0 0 (calls_of t) t.journal t.state) (room : length t.journal < most_entries) (f : Finished) (name : f.name.items ≡ t.name) (table : TableId) (fits : FitsIn table f.seat) (bare : IsBare (view_of f.seat)) (takes : TakesFrames t.seat (view_of f.seat) 0 []) (a d : ShelfState) (closes : Closes t.state t.journal e (outcome.Exited status) f a d) where
   abbrev leads : IsReplayStep a.files (forks t.journal) t.state e t.state
   leads = record {
+    before = was;
     shortage = nothing;
     possible = tt;
     reply = answer ∙ ap (λ (k : Call). (call_outcome a.files nothing (forks t.journal) t.state k).reply) (sym called);
@@ -60,16 +63,25 @@ module _ (t : Track) (status : ℤ) (e : JournalEntry) (called : call_of e ≡ c
   next_is = called ∙ sym next
 
   broken_last : (z : PromiseError) → f.journal.items ≡ t.journal → IsLastEntry t f (outcome_of z)
-  broken_last error.Memory same = same
-  broken_last error.JournalFull same = same
+  broken_last error.Memory same = (same, ends_claiming_none t.seat (view_of f.seat) takes)
+  broken_last error.JournalFull same = (same, ends_claiming_none t.seat (view_of f.seat) takes)
 
-  over_by : Closes t.state t.journal e (outcome.Exited status) f a d → IsOver t f
+  broken_end : CanRefuse a (length (all_moves t.state)) error.JournalFull → LacksEndRoom t.seat (view_of f.seat) t.state (next_of t) a
+  broken_end could = subst (λ (k : Call). LacksEndRoom t.seat (view_of f.seat) t.state k a) (sym next) (nothing, tt, tt, tt, (omega (arith, could.0), omega (arith, could.1)))
+
+  broken_full : (z : PromiseError) → CanRefuse a (length (all_moves t.state)) z → f.journal.items ≡ t.journal → LacksJournalRoom (view_of f.seat) t.state (calls_of t) f.journal.items (outcome_of z)
+  broken_full error.Memory could same = let long = ap (λ (es : List JournalEntry). length es) same in omega (arith, long, room)
+  broken_full error.JournalFull could same =
+      inr (written_maps t.state (asks a (length (all_moves t.state)) error.JournalFull could), (t.seat, a, inr (subst (λ (es : List JournalEntry). LacksEndRoom t.seat (view_of f.seat) t.state (call_at (calls_of t) (length es)) a) (sym same) (broken_end could))))
+
+  over_by : Closes t.state t.journal e (outcome.Exited status) f a d → IsOver table t f
   over_by (inl closed) = record {
     name = name;
+    seat = fits;
     bare = bare;
     state = t.state;
     replays = subst (λ (es : List JournalEntry). Replays t.opening 0 0 (calls_of t) es t.state) (sym closed.journal) (one_longer t.opening (calls_of t) t.journal e t.state t.state replays next_is (a.files, leads));
-    full = subst (LacksJournalRoom t.state.mappings f.journal.items) (sym closed.outcome) tt;
+    full = subst (LacksJournalRoom (view_of f.seat) t.state (calls_of t) f.journal.items) (sym closed.outcome) tt;
     few = let long = ap (λ (es : List JournalEntry). length es) closed.journal in let both = length-append t.journal (e ∷ []) in omega (arith, long, both, room);
     last = subst (λ (o : Outcome). IsLastEntry t f o) (sym closed.outcome) record {
       entry = e;
@@ -84,15 +96,16 @@ module _ (t : Track) (status : ℤ) (e : JournalEntry) (called : call_of e ≡ c
   }
   over_by (inr broken) = record {
     name = name;
+    seat = fits;
     bare = bare;
     state = t.state;
     replays = subst (λ (es : List JournalEntry). Replays t.opening 0 0 (calls_of t) es t.state) (sym broken.journal) replays;
-    full = subst (LacksJournalRoom t.state.mappings f.journal.items) (sym broken.outcome) (full_of t.state f.journal.items broken.error a broken.could);
+    full = subst (LacksJournalRoom (view_of f.seat) t.state (calls_of t) f.journal.items) (sym broken.outcome) (broken_full broken.error broken.could broken.journal);
     few = let long = ap (λ (es : List JournalEntry). length es) broken.journal in omega (arith, long, room);
     last = subst (λ (o : Outcome). IsLastEntry t f o) (sym broken.outcome) (broken_last broken.error broken.journal);
   }
 
-  pub exit_over : IsOver t f
+  pub exit_over : IsOver table t f
   exit_over = over_by closes
 
   exit_end : IsClosed t.state t.journal e (outcome.Exited status) f a d → KeepsFilesAtEnd t f a d
@@ -110,7 +123,7 @@ module _ (t : Track) (status : ℤ) (e : JournalEntry) (called : call_of e ≡ c
 
   exit_broken : (z : PromiseError) → CanRefuse a (length (all_moves t.state)) z → HasMoves a [] d → KeepsFilesByOutcome t f (outcome_of z) a d
   exit_broken error.Memory could moved = exit_unwritten moved
-  exit_broken error.JournalFull could moved = (exit_unwritten moved, inr (inr (subst (λ (k : Call). HasNoEnd t f k a) (sym next) (nothing, tt, tt, tt, (omega (arith, could.0), omega (arith, could.1))))))
+  exit_broken error.JournalFull could moved = (exit_unwritten moved, inr (inr (broken_end could)))
 
   exit_by : Closes t.state t.journal e (outcome.Exited status) f a d → KeepsFilesByOutcome t f f.outcome a d
   exit_by (inl closed) = subst (λ (o : Outcome). KeepsFilesByOutcome t f o a d) (sym closed.outcome) (exit_end closed)
@@ -162,6 +175,7 @@ module _ (t u : Track) (c : Option Track) (s : ForkSlot) (k : ℕ) (next : next_
         entry = e;
         adds = g.adds.journal;
         leads = record {
+          before = g.leads.before;
           shortage = w;
           possible = subst (λ (z : Call). CanBeShort a.files t.state z w) back (fork_lacks g.files a.files t.state k w (subst (λ (z : Call). CanBeShort g.files t.state z w) is_fork g.leads.possible));
           reply = g.leads.reply ∙ ap (λ (z : Call). (call_outcome g.files w n t.state z).reply) is_fork ∙ fork_same g.files a.files n t.state k w ∙ ap (λ (z : Call). (call_outcome a.files w n t.state z).reply) back;
@@ -178,17 +192,19 @@ module _ (t u : Track) (c : Option Track) (s : ForkSlot) (k : ℕ) (next : next_
 
 -- what the journal gets of it
 
-pub record IsForkOf (e : JournalEntry) (k : ℕ) (r : Reply) : Type 0 where
+pub record IsForkOf (p : Process) (e : JournalEntry) (k : ℕ) (r : Reply) : Type 0 where
   pub call : call_of e ≡ call.Fork k
   pub answer : e.reply ≡ r
   pub pages : e.pages ≡ []
   pub file : e.file ≡ None
+  pub before : e.before.state ≡ p
 
-module _ (n : ℕ) (p : Process) (e : JournalEntry) (k : ℕ) (w : Shortage) (r : Reply) (is : IsForkOf e k r) where
+module _ (n : ℕ) (p : Process) (e : JournalEntry) (k : ℕ) (w : Shortage) (r : Reply) (is : IsForkOf p e k r) where
   abbrev pub fork_leads : CanBeShort [] p (call.Fork k) w → r ≡ (call_outcome [] w n p (call.Fork k)).reply → (q : Process) → q ≡ (call_outcome [] w n p (call.Fork k)).process → IsReplayStep [] n p e q
   fork_leads may answer q state =
       let back : call.Fork k ≡ (call_of e) = sym is.call in
       record {
+        before = is.before;
         shortage = w;
         possible = subst (λ (z : Call). CanBeShort [] p z w) back may;
         reply = is.answer ∙ answer ∙ ap (λ (z : Call). (call_outcome [] w n p z).reply) back;
@@ -198,7 +214,7 @@ module _ (n : ℕ) (p : Process) (e : JournalEntry) (k : ℕ) (w : Shortage) (r 
       }
 
 -- a child begins
-pub fork_goes : (t u c : Track) (e : JournalEntry) (k : ℕ) (s : ForkSlot) → IsForkOf e k (reply.Forked (forks t.journal)) → AppendsEntry t u e → u.state ≡ marked t.state → IsChild t c k → ForkAnswer s (reply.Forked (forks t.journal)) → ContinuesTurn t u (Some c) s
+pub fork_goes : (t u c : Track) (e : JournalEntry) (k : ℕ) (s : ForkSlot) → IsForkOf t.state e k (reply.Forked (forks t.journal)) → AppendsEntry t u e → u.state ≡ marked t.state → IsChild t c k → ForkAnswer s (reply.Forked (forks t.journal)) → ContinuesTurn t u (Some c) s
 fork_goes t u c e k s is adds state child by_slot = record {
   entry = e;
   files = [];
@@ -211,7 +227,7 @@ fork_goes t u c e k s is adds state child by_slot = record {
 }
 
 -- or it is refused
-pub fork_stays : (t u : Track) (e : JournalEntry) (k : ℕ) (s : ForkSlot) (r : Refusal) → IsForkOf e k (reply.Refused r) → IsForkRefusal r → AppendsEntry t u e → u.state ≡ t.state → ForkAnswer s (reply.Refused r)
+pub fork_stays : (t u : Track) (e : JournalEntry) (k : ℕ) (s : ForkSlot) (r : Refusal) → IsForkOf t.state e k (reply.Refused r) → IsForkRefusal r → AppendsEntry t u e → u.state ≡ t.state → ForkAnswer s (reply.Refused r)
     → ReportsShortage t.seat u.seat [] t.state (call.Fork k) (refused 0 r) → ContinuesTurn t u None s
 fork_stays t u e k s r is may adds state by_slot dry = record {
   entry = e;

@@ -1,6 +1,7 @@
 -- Lemmas: what holds of a call, of an end and of the files for an unfinished process holds for it too if it differs only in
 -- the memory that its journal has for further entries (`SameTrack`).
 use Rattle.std.proofs.Common.{◌≡◌, ℕ, Option, None, Some, subst}
+use Rattle.atomic_table.specs.Seated.{TableId}
 use Rattle.file_shelf.specs.ShelfStates.{ShelfState}
 use Rattle.hart_calls.specs.Track.{SameTrack, Track}
 use Rattle.hart_calls.specs.TurnResults.{HasFilesAfter, HasTurned}
@@ -33,8 +34,8 @@ module _ (t : Track) (room : ℕ) where
   child_room None e is = is
   child_room (Some c) e (one, (k, by, child)) = (one, (k, by, record { name = child.name; lists = child.lists; list = child.list; opening = child.opening; state = child.state; journal = child.journal }))
 
-  turned_room : {B : Type 0} (x : Turn B) (s : ForkSlot) → HasTurned roomy x s → HasTurned t x s
-  turned_room (turn.Continues u c) s g = record {
+  went_room : (u : Track) (c : Option Track) (s : ForkSlot) → ContinuesTurn roomy u c s → ContinuesTurn t u c s
+  went_room u c s g = record {
     entry = g.entry;
     files = g.files;
     adds = record { name = g.adds.name; lists = g.adds.lists; list = g.adds.list; opening = g.adds.opening; journal = g.adds.journal; next = g.adds.next };
@@ -44,7 +45,10 @@ module _ (t : Track) (room : ℕ) where
     slot = g.slot;
     lack = g.lack;
   }
-  turned_room (turn.Over f) s o = record { name = o.name; bare = o.bare; state = o.state; replays = o.replays; last = last_room f f.outcome o.last; full = o.full; few = o.few }
+
+  turned_room : {B : Type 0} (table : TableId) (x : Turn B) (s : ForkSlot) → HasTurned table roomy x s → HasTurned table t x s
+  turned_room table (turn.Continues u c) s g = went_room u c s g
+  turned_room table (turn.Over f) s o = record { name = o.name; seat = o.seat; bare = o.bare; state = o.state; replays = o.replays; last = last_room f f.outcome o.last; full = o.full; few = o.few }
 
   end_room : (f : Finished) (a b : ShelfState) → KeepsFilesAtEnd roomy f a b → KeepsFilesAtEnd t f a b
   end_room f a b e = record { entry = e.entry; after = e.after; adds = e.adds; leads = e.leads; files = e.files; becomes = e.becomes }
@@ -64,17 +68,17 @@ module _ (t v : Track) (same : SameTrack t v) where
   is_roomy : v ≡ roomy t v.room
   is_roomy = λ i. record { name = same.name i; lists = same.lists i; list = same.list i; opening = same.opening i; state = same.state i; journal = same.journal i; seat = same.seat i; room = v.room }
 
-  pub turned_same : {B : Type 0} (x : Turn B) (s : ForkSlot) → HasTurned v x s → HasTurned t x s
-  turned_same x s h = turned_room t v.room x s (subst (λ (z : Track). HasTurned z x s) is_roomy h)
+  pub turned_same : {B : Type 0} (table : TableId) (x : Turn B) (s : ForkSlot) → HasTurned table v x s → HasTurned table t x s
+  turned_same table x s h = turned_room t v.room table x s (subst (λ (z : Track). HasTurned table z x s) is_roomy h)
 
   pub filed_same : {B : Type 0} (x : Turn B) (a b : ShelfState) → HasFilesAfter v x a b → HasFilesAfter t x a b
   filed_same x a b h = filed_room t v.room x a b (subst (λ (z : Track). HasFilesAfter z x a b) is_roomy h)
 
-  pub over_same : (f : Finished) → IsOver v f → IsOver t f
-  over_same f o = turned_room t v.room {B = Unit {0}} (turn.Over f) slot.NoSlot (subst (λ (z : Track). IsOver z f) is_roomy o)
+  pub over_same : (table : TableId) (f : Finished) → IsOver table v f → IsOver table t f
+  over_same table f o = turned_room t v.room {B = Unit {0}} table (turn.Over f) slot.NoSlot (subst (λ (z : Track). IsOver table z f) is_roomy o)
 
   pub goes_same : (u : Track) (c : Option Track) (s : ForkSlot) → ContinuesTurn v u c s → ContinuesTurn t u c s
-  goes_same u c s g = turned_room t v.room {B = Unit {0}} (turn.Continues u c) s (subst (λ (z : Track). ContinuesTurn z u c s) is_roomy g)
+  goes_same u c s g = went_room t v.room u c s (subst (λ (z : Track). ContinuesTurn z u c s) is_roomy g)
 
   pub on_same : (u : Track) (a b : ShelfState) → KeepsFilesOn v u a b → KeepsFilesOn t u a b
   on_same u a b f = filed_room t v.room {B = Unit {0}} (turn.Continues u None) a b (subst (λ (z : Track). KeepsFilesOn z u a b) is_roomy f)

@@ -1,11 +1,12 @@
 -- Lemmas for a user access that is made in place with its service: such a call is neither fork nor exit (`is_plain_access`),
--- needs no box (`roomless`), maps no file (`maps_none`), reads no page of a file where the process has no mapping
--- (`reads_none`), and no refused promise stops it (`never_stops`).
-use Rattle.std.proofs.Common.{◌≡◌, ◌<◌, ℕ, Option, None, List, [], ◌∷◌, length, refl, ◌∙◌, arith}
+-- needs no box (`roomless`), maps no file (`maps_none`), reads no page of a file and needs no files where the process has no
+-- mapping (`reads_none`, `needs_none`), and no refused promise stops it (`never_stops`).
+use Rattle.std.proofs.Common.{◌≡◌, ◌<◌, ℕ, Option, None, List, [], ◌∷◌, length, refl, sym, subst, inl, inr, ◌∙◌, arith}
 use Rattle.hart_calls.specs.CallKinds.{HasRoomFor, IsAccessCall, IsPlainCall}
 use Rattle.hart_calls.specs.CallOutcomes.{file_of, reads_of}
 use Rattle.hart_calls.specs.Shortages.{CanBeShort, nothing, refused, Shortage}
-use Rattle.hart_calls.specs.TurnCases.{HasMapping}
+use Rattle.hart_calls.specs.Track.{next_of, Track}
+use Rattle.hart_calls.specs.TurnCases.{HasMapping, IsMmap, NeedsFiles}
 use Rattle.hart_calls.proofs.Full.{read_maps}
 use Rattle.process_model.specs.Files.{File}
 use Rattle.process_model.specs.Order.{HasOrder}
@@ -87,3 +88,11 @@ is_empty (x ∷ xs) not = absurd (not (omega arith))
 
 pub reads_none : (p : Process) → HasOrder 0 p → (files : List File) (shortage : Shortage) (c : Call) → IsAccessCall c → (HasMapping p.mappings → ⊥) → reads_of files shortage p c ≡ []
 reads_none p order files shortage c is none = same_reads files shortage p c is ∙ is_empty (reads_of files nothing p c) (λ some. none (read_maps p order files c is some))
+
+no_mmap : (c : Call) → IsAccessCall c → IsMmap c → ⊥
+no_mmap (call.Mmap len protection flags file) is mmap = is
+no_mmap c is mmap = mmap
+
+pub needs_none : (t : Track) (c : Call) → c ≡ next_of t → IsAccessCall c → (HasMapping t.state.mappings → ⊥) → NeedsFiles t → ⊥
+needs_none t c next is unmapped (inl mmap) = no_mmap c is (subst IsMmap (sym next) mmap)
+needs_none t c next is unmapped (inr maps) = unmapped maps

@@ -141,7 +141,7 @@ module _ (x y : Body) (files : List File) (Became : List PageMove → Type 0) (R
   pub has_grown : (r : CallResult) → IsCallResult x y files Became Refused Promised p c r → Grew c before after
   has_grown (call_result.Answered r) h = grew_by files (by_reply (address_of c) r) p c before after (grows _ h.1.moves)
   has_grown (call_result.Stopped r done) h = grew_by files (refused done r) p c before after (grows _ h.moves)
-  has_grown (call_result.Ended r) h = grew_by files (at_stop r (address_of c)) p c before after (grows _ h.moves)
+  has_grown (call_result.Ended r) h = grew_by files (at_stop r (address_of c)) p c before after (grows _ h.0.moves)
   has_grown (call_result.Cut r) h = grew_none c before after (grows [] h.1.moves ∙ append-nil before)
 
 -- the pages that are kept are those that were read

@@ -5,19 +5,21 @@ use Rattle.std.proofs.Common.{◌≡◌, ◌<◌, ◌≤◌, ◌∷◌, ℕ, Lis
 use Rattle.std.proofs.lemmas.List.{append-nil, length-append}
 use Rattle.address_space.specs.Agreement.{Body}
 use Rattle.address_space.specs.Steps.{IsBare, TakesFrames}
+use Rattle.atomic_table.specs.Seated.{TableId}
 use Rattle.file_cabinet.specs.declared.promise.PromiseError.{PromiseError}
 use Rattle.file_cabinet.specs.declared.promise.PromiseError.TheVariants as error
-use Rattle.file_shelf.specs.ShelfStates.{HasMoves, CanRefuse, goes_on, ShelfState}
+use Rattle.file_shelf.specs.ShelfStates.{asks, HasMoves, CanRefuse, goes_on, ShelfState}
 use Rattle.frame_store.specs.View.{View}
 use Rattle.hart_calls.specs.CallKinds.{IsPlainCall}
 use Rattle.hart_calls.specs.ProcessEnd.{Closes, IsClosed, outcome_of}
-use Rattle.hart_calls.specs.CallResults.{address_of, at_stop, IsModelResult, IsPlain, RefusesPromise}
+use Rattle.hart_calls.specs.CallResults.{address_of, at_stop, ClaimsNone, IsModelResult, IsPlain, RefusesPromise}
 use Rattle.hart_calls.specs.ShortageReports.{ReportsShortage}
 use Rattle.hart_calls.specs.Replay.{call_at, call_of, forked, forks, IsReplayStep, Replays}
 use Rattle.hart_calls.specs.CallOutcomes.{file_of, reads_of, CallOutcome, call_outcome, writes_of}
 use Rattle.hart_calls.specs.Track.{AppendsEntry, calls_of, next_of, Track}
-use Rattle.hart_calls.specs.TurnCases.{BySlot, EndsIt, KeepsFilesAtEnd, KeepsFilesOn, KeepsFilesByOutcome, ContinuesTurn, LeavesRunning, HasNoEnd, HasNoRoom, LacksJournalRoom, IsOver, IsLastEntry, most_entries, Unwritten}
-use Rattle.hart_calls.proofs.Full.{full_of}
+use Rattle.hart_calls.specs.TurnCases.{BySlot, EndsIt, KeepsFilesAtEnd, KeepsFilesOn, KeepsFilesByOutcome, ContinuesTurn, LacksEndRoom, LacksJournalRoom, LeavesRunning, IsOver, IsLastEntry, most_entries, Unwritten}
+use Rattle.hart_calls.proofs.Ends.{ends_claiming_none}
+use Rattle.hart_calls.proofs.Full.{written_maps}
 use Rattle.hart_calls.specs.Shortages.{CanBeShort, Shortage, WasAsked}
 use Rattle.hart_calls.specs.declared.journal_entry.JournalEntry.{JournalEntry}
 use Rattle.hart_calls.specs.declared.finished.Finished.{Finished}
@@ -33,7 +35,7 @@ use Rattle.process_model.specs.Process.{Process}
 use Rattle.process_model.specs.declared.call.Call.{Call}
 use Rattle.process_model.specs.declared.step.Reply.{Reply}
 use Rattle.process_model.specs.declared.step.Reply.TheVariants as reply
-use Rattle.shared_frames.specs.SeatsOfTable.{view_of}
+use Rattle.shared_frames.specs.SeatsOfTable.{FitsIn, view_of}
 use Rattle.sv39_entry.specs.declared.rule.Rule.{Rule}
 
 -- the entry is of this call, with this answer
@@ -43,6 +45,7 @@ pub record IsEntryOf (t : Track) (a : ShelfState) (shortage : Shortage) (c : Cal
   pub answer : e.reply ≡ r
   pub pages : e.pages ≡ reads_of a.files shortage t.state c
   pub file : e.file ≡ file_of a.files c
+  pub before : e.before.state ≡ t.state
 
 module _ (t : Track) (c : Call) (stays : IsPlainCall c) (a b : ShelfState) (shortage : Shortage) (r : Reply) (e : JournalEntry) (is : IsEntryOf t a shortage c r e) (x y : Body) (seen : x.view ≡ t.seat)
     (comes : IsModelResult x y a.files (λ ms. HasMoves a ms b) (RefusesPromise HasMoves CanRefuse a) (λ n. n ≤ b.room) t.state c shortage r) where
@@ -54,6 +57,7 @@ module _ (t : Track) (c : Call) (stays : IsPlainCall c) (a b : ShelfState) (shor
 
   abbrev pub leads : (q : Process) → q ≡ (call_outcome a.files shortage 0 t.state c).process → IsReplayStep a.files n t.state e q
   leads q state = record {
+    before = is.before;
     shortage = shortage;
     possible = subst (λ (k : Call). CanBeShort a.files t.state k shortage) (sym is.call) comes.possible;
     reply = is.answer ∙ comes.reply ∙ ap (λ (z : CallOutcome). z.reply) same;
@@ -94,7 +98,7 @@ module _ (t : Track) (c : Call) (stays : IsPlainCall c) (a b : ShelfState) (shor
   -- ---- it ends by a rule
 
   module _ (rule : Rule) (by : r ≡ reply.Ended rule) (stop : shortage ≡ at_stop rule (address_of c)) (next : c ≡ next_of t) (replays : Replays t.opening 0 0 (calls_of t) t.journal t.state) (room : length t.journal < most_entries)
-      (f : Finished) (name : f.name.items ≡ t.name) (bare : IsBare (view_of f.seat)) (takes : TakesFrames y.view (view_of f.seat) 0 []) (d : ShelfState) (closes : Closes t.state t.journal e (outcome.Ended rule) f b d) where
+      (f : Finished) (name : f.name.items ≡ t.name) (table : TableId) (fits : FitsIn table f.seat) (bare : IsBare (view_of f.seat)) (claimed_none : ClaimsNone x.view y.view) (takes : TakesFrames y.view (view_of f.seat) 0 []) (d : ShelfState) (closes : Closes t.state t.journal e (outcome.Ended rule) f b d) where
     next_is : call_of e ≡ call_at (calls_of t) (length t.journal)
     next_is = is.call ∙ next
 
@@ -109,42 +113,6 @@ module _ (t : Track) (c : Call) (stays : IsPlainCall c) (a b : ShelfState) (shor
 
     still_lack : ReportsShortage t.seat (view_of f.seat) a.files t.state (call_of e) shortage
     still_lack = subst (λ (k : Call). ReportsShortage t.seat (view_of f.seat) a.files t.state k shortage) (sym is.call) left_lack
-
-    broken_last : (x : PromiseError) → f.journal.items ≡ t.journal → IsLastEntry t f (outcome_of x)
-    broken_last error.Memory same = same
-    broken_last error.JournalFull same = same
-
-    over_by : Closes t.state t.journal e (outcome.Ended rule) f b d → IsOver t f
-    over_by (inl closed) = record {
-      name = name;
-      bare = bare;
-      state = (call_outcome a.files shortage 0 t.state c).process;
-      replays = subst (λ (es : List JournalEntry). Replays t.opening 0 0 (calls_of t) es (call_outcome a.files shortage 0 t.state c).process) (sym closed.journal) (one_longer t.opening (calls_of t) t.journal e t.state _ replays next_is led);
-      full = subst (LacksJournalRoom ((call_outcome a.files shortage 0 t.state c).process).mappings f.journal.items) (sym closed.outcome) tt;
-      few = let long = ap (λ (es : List JournalEntry). length es) closed.journal in let both = length-append t.journal (e ∷ []) in omega (arith, long, both, room);
-      last = subst (λ (o : Outcome). IsLastEntry t f o) (sym closed.outcome) record {
-        entry = e;
-        files = a.files;
-        after = (call_outcome a.files shortage 0 t.state c).process;
-        journal = closed.journal;
-        next = next_is;
-        leads = leads _ refl;
-        reply = is.answer ∙ by;
-        lack = still_lack;
-      };
-    }
-    over_by (inr broken) = record {
-      name = name;
-      bare = bare;
-      state = t.state;
-      replays = subst (λ (es : List JournalEntry). Replays t.opening 0 0 (calls_of t) es t.state) (sym broken.journal) replays;
-      full = subst (LacksJournalRoom t.state.mappings f.journal.items) (sym broken.outcome) (full_of t.state f.journal.items broken.error b broken.could);
-      few = let long = ap (λ (es : List JournalEntry). length es) broken.journal in omega (arith, long, room);
-      last = subst (λ (o : Outcome). IsLastEntry t f o) (sym broken.outcome) (broken_last broken.error broken.journal);
-    }
-
-    pub over : IsOver t f
-    over = over_by closes
 
     -- ---- the files then
 
@@ -181,20 +149,67 @@ module _ (t : Track) (c : Call) (stays : IsPlainCall c) (a b : ShelfState) (shor
       files = none.files ∙ unchanged;
     }
 
-    could_before : (z : PromiseError) → CanRefuse b (length (all_moves t.state)) z → z ≡ error.JournalFull → HasNoRoom t f a
-    could_before error.Memory could by_full = absurd (cc)
-    could_before error.JournalFull could by_full =
+    could_before : CanRefuse b (length (all_moves t.state)) error.JournalFull → LacksEndRoom t.seat (view_of f.seat) t.state (next_of t) a
+    could_before could =
         let long = ap (λ (hs : List PageMove). length hs) moved.history in
         let pages = ap (λ (ms : List PageMove). length ms) is.pages in
         let both = length-append a.history e.pages in
         let request = could.0 in
         let over = could.1 in
-        let here : HasNoEnd t f c a = (shortage, comes.possible, subst EndsIt (sym by ∙ comes.reply) tt, left_lack, (omega (arith, request), omega (arith, over, long, pages, both))) in
-        inr (subst (λ (k : Call). HasNoEnd t f k a) next here)
+        let here : LacksEndRoom t.seat (view_of f.seat) t.state c a = (shortage, comes.possible, subst EndsIt (sym by ∙ comes.reply) tt, left_lack, (omega (arith, request), omega (arith, over, long, pages, both))) in
+        subst (λ (k : Call). LacksEndRoom t.seat (view_of f.seat) t.state k a) next here
+
+    -- ---- the process then
+
+    left_none : ClaimsNone t.seat (view_of f.seat)
+    left_none = ends_claiming_none y.view (view_of f.seat) takes ∙ claimed_none ∙ ap (λ (v : View). v.tallies.claims) seen
+
+    broken_last : (z : PromiseError) → f.journal.items ≡ t.journal → IsLastEntry t f (outcome_of z)
+    broken_last error.Memory same = (same, left_none)
+    broken_last error.JournalFull same = (same, left_none)
+
+    broken_full : (z : PromiseError) → CanRefuse b (length (all_moves t.state)) z → f.journal.items ≡ t.journal → LacksJournalRoom (view_of f.seat) t.state (calls_of t) f.journal.items (outcome_of z)
+    broken_full error.Memory could same = let long = ap (λ (es : List JournalEntry). length es) same in omega (arith, long, room)
+    broken_full error.JournalFull could same =
+        inr (written_maps t.state (asks b (length (all_moves t.state)) error.JournalFull could), (t.seat, a, inr (subst (λ (es : List JournalEntry). LacksEndRoom t.seat (view_of f.seat) t.state (call_at (calls_of t) (length es)) a) (sym same) (could_before could))))
+
+    over_by : Closes t.state t.journal e (outcome.Ended rule) f b d → IsOver table t f
+    over_by (inl closed) = record {
+      name = name;
+      seat = fits;
+      bare = bare;
+      state = (call_outcome a.files shortage 0 t.state c).process;
+      replays = subst (λ (es : List JournalEntry). Replays t.opening 0 0 (calls_of t) es (call_outcome a.files shortage 0 t.state c).process) (sym closed.journal) (one_longer t.opening (calls_of t) t.journal e t.state _ replays next_is led);
+      full = subst (LacksJournalRoom (view_of f.seat) (call_outcome a.files shortage 0 t.state c).process (calls_of t) f.journal.items) (sym closed.outcome) tt;
+      few = let long = ap (λ (es : List JournalEntry). length es) closed.journal in let both = length-append t.journal (e ∷ []) in omega (arith, long, both, room);
+      last = subst (λ (o : Outcome). IsLastEntry t f o) (sym closed.outcome) record {
+        entry = e;
+        files = a.files;
+        after = (call_outcome a.files shortage 0 t.state c).process;
+        journal = closed.journal;
+        next = next_is;
+        leads = leads _ refl;
+        reply = is.answer ∙ by;
+        lack = still_lack;
+      };
+    }
+    over_by (inr broken) = record {
+      name = name;
+      seat = fits;
+      bare = bare;
+      state = t.state;
+      replays = subst (λ (es : List JournalEntry). Replays t.opening 0 0 (calls_of t) es t.state) (sym broken.journal) replays;
+      full = subst (LacksJournalRoom (view_of f.seat) t.state (calls_of t) f.journal.items) (sym broken.outcome) (broken_full broken.error broken.could broken.journal);
+      few = let long = ap (λ (es : List JournalEntry). length es) broken.journal in omega (arith, long, room);
+      last = subst (λ (o : Outcome). IsLastEntry t f o) (sym broken.outcome) (broken_last broken.error broken.journal);
+    }
+
+    pub over : IsOver table t f
+    over = over_by closes
 
     broken_files : (z : PromiseError) → CanRefuse b (length (all_moves t.state)) z → HasMoves b [] d → KeepsFilesByOutcome t f (outcome_of z) a d
     broken_files error.Memory could none = unwritten none
-    broken_files error.JournalFull could none = (unwritten none, inr (could_before error.JournalFull could refl))
+    broken_files error.JournalFull could none = (unwritten none, inr (inr (could_before could)))
 
     filed_by : Closes t.state t.journal e (outcome.Ended rule) f b d → KeepsFilesByOutcome t f f.outcome a d
     filed_by (inl closed) = subst (λ (o : Outcome). KeepsFilesByOutcome t f o a d) (sym closed.outcome) (filed_end closed)

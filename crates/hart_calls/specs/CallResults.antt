@@ -5,6 +5,7 @@ use Rattle.std.specs.Prelude.{◌≡◌, ℕ, ◌+◌, ◌<◌, List, [], ◌++�
 use Rattle.address_space.specs.Agreement.{Body, IsSpace}
 use Rattle.file_cabinet.specs.Promises.{refusal_of}
 use Rattle.file_cabinet.specs.declared.promise.PromiseError.{PromiseError}
+use Rattle.frame_store.specs.View.{View}
 use Rattle.hart_calls.specs.CallKinds.{IsAccessCall}
 use Rattle.hart_calls.specs.ShortageReports.{ReportsShortage}
 use Rattle.hart_calls.specs.CallOutcomes.{reads_of, call_outcome, writes_of}
@@ -82,20 +83,25 @@ IsPlain (reply.Exited status) = ⊥
 IsPlain (reply.Forked n) = ⊥
 IsPlain r = Unit {0}
 
+-- no frame was claimed between views v and w of a seat
+abbrev pub ClaimsNone : View → View → Type 0
+ClaimsNone v w = w.tallies.claims ≡ v.tallies.claims
+
 -- the call was not made: the files could refuse to promise the one page that it would read, the space is still the process,
--- and no page was read or written
-pub record IsNotMade (y : Body) (files : List File) (Became : List PageMove → Type 0) (Refused : List PageMove → ℕ → Refusal → Type 0) (p : Process) (c : Call) (r : Refusal) : Type 0 where
+-- no frame was claimed, and no page was read or written
+pub record IsNotMade (x y : Body) (files : List File) (Became : List PageMove → Type 0) (Refused : List PageMove → ℕ → Refusal → Type 0) (p : Process) (c : Call) (r : Refusal) : Type 0 where
   pub could : Refused [] 1 r
   pub of_file : 0 < length (reads_of files nothing p c)
+  pub claims : ClaimsNone x.view y.view
   pub space : (u : Tables) × IsSpace y u p
   pub moves : Became []
 
 -- what each result promises of the process that the space was before the call
 abbrev pub IsCallResult : Body → Body → List File → (List PageMove → Type 0) → (List PageMove → ℕ → Refusal → Type 0) → (ℕ → Type 0) → Process → Call → CallResult → Type 0
-IsCallResult x y files Became Refused Promised p c (call_result.Cut r) = IsAccessCall c × IsNotMade y files Became Refused p c r
+IsCallResult x y files Became Refused Promised p c (call_result.Cut r) = IsAccessCall c × IsNotMade x y files Became Refused p c r
 IsCallResult x y files Became Refused Promised p c (call_result.Answered r) = IsPlain r × IsModelResult x y files Became Refused Promised p c (by_reply (address_of c) r) r
 IsCallResult x y files Became Refused Promised p c (call_result.Stopped r done) = IsModelResult x y files Became Refused Promised p c (refused done r) (reply.Refused r)
-IsCallResult x y files Became Refused Promised p c (call_result.Ended rule) = IsModelResult x y files Became Refused Promised p c (at_stop rule (address_of c)) (reply.Ended rule)
+IsCallResult x y files Became Refused Promised p c (call_result.Ended rule) = IsModelResult x y files Became Refused Promised p c (at_stop rule (address_of c)) (reply.Ended rule) × ClaimsNone x.view y.view
 
 -- `IsCallResult` for every process that the space was before the call, by any tables
 abbrev pub GivesCallResult : Body → Body → List File → (List PageMove → Type 0) → (List PageMove → ℕ → Refusal → Type 0) → (ℕ → Type 0) → Call → CallResult → Type 0

@@ -1,6 +1,7 @@
 -- Codings of the model's processes (`process_code`) and of their parts (accesses, page maps, pages, pending accesses), so
--- that a ghost field can have a process as its value. Law: an access is the one that its number codes (`access_back`).
-use base.Stored.{coded_unit, coded_via}
+-- that a ghost field can have a process as its value; the code of a process (`code_of`), data whose equality can be tested.
+-- Laws: an access is the one that its number codes (`access_back`), a process the one that its code codes (`same_process`).
+use base.Stored.{coded_unit, coded_via, Gv}
 use Rattle.std.proofs.Common.{◌≡◌, ℕ, zero, suc, Bool, List, Option, refl, ap}
 use Rattle.std.specs.Coded.{Coded, code_by, coded×, coded_ℕ, coded_bool, coded_list, coded_option}
 use Rattle.std.specs.FinMap.Entries.{find}
@@ -53,3 +54,11 @@ process_code = code_by (Scheme × (List Region × (List Region × (ℕ × (ℕ �
     (λ p. (p.scheme, (p.parts, (p.mappings, (p.heap_base, (p.size, (p.settled, (p.tabled, p.pending))))))))
     (λ c. record { scheme = c.0; parts = c.1.0; mappings = c.1.1.0; heap_base = c.1.1.1.0; size = c.1.1.1.1.0; settled = c.1.1.1.1.1.0; tabled = c.1.1.1.1.1.1.0; pending = c.1.1.1.1.1.1.1 })
     (λ _. refl)
+
+-- the code of a process; processes with one code are one
+pub code_of : Process → Gv
+code_of p = process_code.code p
+
+pub same_process : (p q : Process) → code_of p ≡ code_of q → p ≡ q
+unfolding code_of
+same_process p q same = process_code.inj p q same

@@ -1,6 +1,7 @@
 -- `Replays`: a journal (a process's calls with their replies) leads in the model from one process to another: each entry has
--- the list's next call and is a step of the model (`IsReplayStep`: reply, process, pages read, mmap's file). Also call k of
--- a list (`call_at`), an entry's call (`call_of`), list k (`list_at`), and how many children a journal names (`forks`).
+-- the list's next call and is a step of the model (`IsReplayStep`: reply, process before and after, pages read, mmap's file).
+-- Also call k of a list (`call_at`), an entry's call (`call_of`), list k (`list_at`), and how many children a journal names
+-- (`forks`).
 use Rattle.std.specs.Prelude.{◌≡◌, ℕ, pos, suc, ◌+◌, List, [], ◌∷◌, Option, None, Some, slice_get}
 use Rattle.hart_calls.specs.CallOutcomes.{file_of, reads_of, call_outcome}
 use Rattle.hart_calls.specs.Shortages.{CanBeShort, Shortage}
@@ -49,9 +50,10 @@ forks [] = 0
 forks (e ∷ es) = forked e.reply + forks es
 
 -- Entry e leads from process p, of which n children were named before, to process q: for these files and some shortage that
--- is possible, reply and process are the model's. The entry has the pages that the call reads from the files, and for an
--- mmap whether its file may be written.
+-- is possible, reply and process are the model's. The entry has p, the pages that the call reads from the files, and for an mmap
+-- whether its file may be written.
 pub record IsReplayStep (files : List File) (n : ℕ) (p : Process) (e : JournalEntry) (q : Process) : Type 0 where
+  pub before : e.before.state ≡ p
   pub shortage : Shortage
   pub possible : CanBeShort files p (call_of e) shortage
   pub reply : e.reply ≡ (call_outcome files shortage n p (call_of e)).reply

@@ -1,15 +1,17 @@
 -- What one call leaves: the process, perhaps with a child (`ContinuesTurn`), or its end (`IsOver`); the files and their
 -- history (`KeepsFilesOn`, `KeepsFilesByOutcome`); when the journal or the history was full (`LacksJournalRoom`,
--- `HasNoRoom`). Before it: whether it needs files (`NeedsFiles`), and a fork's reply by its slot (`ForkAnswer`).
+-- `HasNoRoom`, `IsCutFor`). Before it: whether it needs files (`NeedsFiles`), and a fork's reply by its slot (`ForkAnswer`).
 use Rattle.std.specs.Prelude.{◌≡◌, ◌⊎◌, ℕ, ◌+◌, ◌<◌, ◌≤◌, ◌∷◌, [], ◌++◌, List, Option, None, Some, length}
 use Rattle.address_space.specs.Steps.{IsBare}
+use Rattle.atomic_table.specs.Seated.{TableId}
 use Rattle.file_shelf.specs.ShelfStates.{HasMoves, CanRefuse, ShelfState}
 use Rattle.file_cabinet.specs.declared.promise.PromiseError.TheVariants as error
+use Rattle.frame_store.specs.View.{View}
 use Rattle.hart_calls.specs.ShortageReports.{ReportsShortage}
-use Rattle.hart_calls.specs.Replay.{call_of, forked, forks, IsReplayStep, Replays}
+use Rattle.hart_calls.specs.Replay.{call_at, call_of, forked, forks, IsReplayStep, Replays}
 use Rattle.hart_calls.specs.CallKinds.{IsAccessCall}
 use Rattle.hart_calls.specs.CallOutcomes.{reads_of, call_outcome, writes_of}
-use Rattle.hart_calls.specs.CallResults.{RefusesPromise}
+use Rattle.hart_calls.specs.CallResults.{ClaimsNone, RefusesPromise}
 use Rattle.hart_calls.specs.Shortages.{CanBeShort, nothing, Shortage, WasAsked}
 use Rattle.hart_calls.specs.Track.{AppendsEntry, calls_of, IsChild, next_of, Track}
 use Rattle.hart_calls.specs.declared.journal_entry.JournalEntry.{JournalEntry}
@@ -27,7 +29,7 @@ use Rattle.process_model.specs.declared.call.Call.TheVariants as call
 use Rattle.process_model.specs.declared.step.Refusal.TheVariants as refusal
 use Rattle.process_model.specs.declared.step.Reply.{Reply}
 use Rattle.process_model.specs.declared.step.Reply.TheVariants as reply
-use Rattle.shared_frames.specs.SeatsOfTable.{view_of}
+use Rattle.shared_frames.specs.SeatsOfTable.{FitsIn, view_of}
 
 -- what a call needs beside frames: a slot, files
 
@@ -101,32 +103,66 @@ pub record EndsBy (t : Track) (f : Finished) (r : Reply) : Type 0 where
   pub reply : entry.reply ≡ r
   pub lack : ReportsShortage t.seat (view_of f.seat) files t.state (call_of entry) leads.shortage
 
+-- there is no entry more, and the seat has claimed no frame since
+abbrev pub EndsUntold : Track → Finished → Type 0
+EndsUntold t f = (f.journal.items ≡ t.journal) × ClaimsNone t.seat (view_of f.seat)
+
 -- the journal by the outcome: after an exit or an end by a rule one entry more says so; after Memory or JournalFull there is
--- none more. No call has the outcome Refused
+-- none more (`EndsUntold`). No call has the outcome Refused
 abbrev pub IsLastEntry : Track → Finished → Outcome → Type 0
 IsLastEntry t f (outcome.Exited status) = EndsBy t f (reply.Exited status)
 IsLastEntry t f (outcome.Ended rule) = EndsBy t f (reply.Ended rule)
 IsLastEntry t f (outcome.Refused r) = ⊥
-IsLastEntry t f outcome.Memory = f.journal.items ≡ t.journal
-IsLastEntry t f outcome.JournalFull = f.journal.items ≡ t.journal
+IsLastEntry t f outcome.Memory = EndsUntold t f
+IsLastEntry t f outcome.JournalFull = EndsUntold t f
 
 abbrev pub most_entries : ℕ
 most_entries = 10000
 
--- after JournalFull the journal has 10,000 entries, or the process has a mapping: the files' history gets pages of mappings,
--- and no others
-abbrev pub LacksJournalRoom : List Region → List JournalEntry → Outcome → Type 0
-LacksJournalRoom mappings journal outcome.JournalFull = (length journal ≡ most_entries) ⊎ HasMapping mappings
-LacksJournalRoom mappings journal o = Unit {0}
+-- the reply ends the process
+abbrev pub EndsIt : Reply → Type 0
+EndsIt (reply.Ended rule) = Unit {0}
+EndsIt (reply.Exited status) = Unit {0}
+EndsIt r = ⊥
 
--- f is the end of t: its seat holds nothing, and its journal replays
-pub record IsOver (t : Track) (f : Finished) : Type 0 where
+-- the history has no room for the page that an access reads from a file
+abbrev pub LacksPageRoom : Process → Call → ShelfState → Type 0
+LacksPageRoom p c a = IsAccessCall c × (0 < length (reads_of a.files nothing p c)) × CanRefuse a 1 error.JournalFull
+
+-- for some shortage that is possible the call ends its process, and the history has no room for the pages that it reads and
+-- those that the end writes. Views v and w of the seat, before and after, are the evidence for the shortage
+abbrev pub LacksEndRoom : View → View → Process → Call → ShelfState → Type 0
+LacksEndRoom v w p c a = (shortage : Shortage) × CanBeShort a.files p c shortage × EndsIt (call_outcome a.files shortage 0 p c).reply × ReportsShortage v w a.files p c shortage
+    × CanRefuse a (length (reads_of a.files shortage p c) + length (all_moves p)) error.JournalFull
+
+-- the process has a mapping, and the call asks a promise of files, for which some history has no room. w is the seat's view
+-- at the end
+abbrev pub AsksMoreRoom : View → Process → Call → Type 0
+AsksMoreRoom w p c = HasMapping p.mappings × ((v : View) × (a : ShelfState) × (LacksPageRoom p c a ⊎ LacksEndRoom v w p c a))
+
+-- The process p has a journal of the first of these calls, and ends with no entry more. After JournalFull the journal has
+-- 10,000 entries, or the next call asks a promise for which a history has no room; after Memory it has fewer. w is the
+-- seat's view at the end
+abbrev pub LacksJournalRoom : View → Process → List Call → List JournalEntry → Outcome → Type 0
+LacksJournalRoom w p calls journal outcome.JournalFull = (length journal ≡ most_entries) ⊎ AsksMoreRoom w p (call_at calls (length journal))
+LacksJournalRoom w p calls journal outcome.Memory = length journal < most_entries
+LacksJournalRoom w p calls journal o = Unit {0}
+
+-- the same before the process ends, for a call that is not made
+abbrev pub IsCutFor : Process → Call → List JournalEntry → Outcome → Type 0
+IsCutFor p c journal outcome.JournalFull = (length journal ≡ most_entries) ⊎ (HasMapping p.mappings × ((a : ShelfState) × LacksPageRoom p c a))
+IsCutFor p c journal outcome.Memory = length journal < most_entries
+IsCutFor p c journal o = Unit {0}
+
+-- f is the end of t: its seat is at this table and holds nothing, and its journal replays
+pub record IsOver (table : TableId) (t : Track) (f : Finished) : Type 0 where
   pub name : f.name.items ≡ t.name
+  pub seat : FitsIn table f.seat
   pub bare : IsBare (view_of f.seat)
   pub state : Process
   pub replays : Replays t.opening 0 0 (calls_of t) f.journal.items state
   pub last : IsLastEntry t f f.outcome
-  pub full : LacksJournalRoom state.mappings f.journal.items f.outcome
+  pub full : LacksJournalRoom (view_of f.seat) state (calls_of t) f.journal.items f.outcome
   pub few : length f.journal.items ≤ most_entries
 
 -- ---- the files
@@ -159,22 +195,10 @@ pub record Unwritten (p : Process) (c : Call) (a b : ShelfState) : Type 0 where
   pub becomes : HasMoves a reads b
   pub files : b.files ≡ a.files
 
--- the reply ends the process
-abbrev pub EndsIt : Reply → Type 0
-EndsIt (reply.Ended rule) = Unit {0}
-EndsIt (reply.Exited status) = Unit {0}
-EndsIt r = ⊥
-
--- for some shortage that is possible the call ends its process, and the history has no room for the pages that it reads and
--- those that the end writes
-abbrev pub HasNoEnd : Track → Finished → Call → ShelfState → Type 0
-HasNoEnd t f c a = (shortage : Shortage) × CanBeShort a.files t.state c shortage × EndsIt (call_outcome a.files shortage 0 t.state c).reply × ReportsShortage t.seat (view_of f.seat) a.files t.state c shortage
-    × CanRefuse a (length (reads_of a.files shortage t.state c) + length (all_moves t.state)) error.JournalFull
-
 -- the history has no room for the page that an access reads from a file, or for what a call that ends the process reads and
 -- the end writes
 abbrev pub HasNoRoom : Track → Finished → ShelfState → Type 0
-HasNoRoom t f a = (IsAccessCall (next_of t) × (0 < length (reads_of a.files nothing t.state (next_of t))) × CanRefuse a 1 error.JournalFull) ⊎ HasNoEnd t f (next_of t) a
+HasNoRoom t f a = LacksPageRoom t.state (next_of t) a ⊎ LacksEndRoom t.seat (view_of f.seat) t.state (next_of t) a
 
 -- the files after the end of a process, by its outcome
 abbrev pub KeepsFilesByOutcome : Track → Finished → Outcome → ShelfState → ShelfState → Type 0

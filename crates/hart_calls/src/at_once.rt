@@ -10,7 +10,7 @@ ghost use Rattle.frame_store.specs.Laws.{IsSeatOf, KeepsSeats};
 ghost use Rattle.hart_calls.specs.AtOnce.{IsMadeAtOnce};
 ghost use Rattle.hart_calls.specs.CallKinds.{IsAccess, IsAccessCall};
 ghost use Rattle.hart_calls.specs.Track.{SameButSeat};
-ghost use Rattle.hart_calls.specs.TurnCases.{ContinuesTurn, KeepsFilesOn};
+ghost use Rattle.hart_calls.specs.TurnCases.{ContinuesTurn, KeepsFilesOn, NeedsFiles};
 ghost use Rattle.hart_calls.specs.declared.fork_slot.ForkSlot.{ForkSlot};
 ghost use Rattle.process_model.specs.Process.{Process};
 ghost use Rattle.process_model.specs.Service as service;
@@ -64,7 +64,8 @@ impl<'a, B: RunBrand> Tracked<'a, B> {
             None => return false,
         };
         let present = after_access(&self.parts.present, request);
-        let entry = JournalEntry::new(listed, reply, PagesRead::none(), None);
+        let was = self.parts.present.kept();
+        let entry = JournalEntry::new(listed, reply, PagesRead::none(), None, was);
         self.parts.journal.push_reserved(entry);
         self.parts.present = present;
         true
@@ -74,12 +75,14 @@ impl<'a, B: RunBrand> Tracked<'a, B> {
     /// journal entry, and no rule ends the process in the service of the fault. `store` must be at the frame table of the
     /// run.
     ///
-    /// Returns whether the call was made: if so, the process continues as after `next_call`. If not, the process is
-    /// unchanged but for what its seat read and the memory of its journal (`SameButSeat`), and `next_call` makes the call.
+    /// Returns whether the call was made: if so, the process continues as after `next_call`, and the call needs no files
+    /// (`needs_files`). If not, the process is unchanged but for what its seat read and the memory of its journal
+    /// (`SameButSeat`), and `next_call` makes the call.
     pub fn access_served<R: Wait>(&mut self, store: &mut SharedSupply<'_, R>) -> bool
         requires store { store.old ≡ B.table }
         ensures store { store.new ≡ B.table }
         ensures made { result ≡ true → (slot : ForkSlot) → ContinuesTurn self.old self.new None slot }
+        ensures files { result ≡ true → NeedsFiles self.old → ⊥ }
         ensures not_made { result ≡ false → SameButSeat self.old self.new }
     {
         let call = self.next();
@@ -101,7 +104,8 @@ impl<'a, B: RunBrand> Tracked<'a, B> {
         match call_result {
             CallResult::Answered(reply) => {
                 let present = state_after(&self.parts.present, before, call, &reply, None);
-                let entry = JournalEntry::new(listed, reply, PagesRead::none(), None);
+                let was = self.parts.present.kept();
+                let entry = JournalEntry::new(listed, reply, PagesRead::none(), None, was);
                 self.parts.journal.push_reserved(entry);
                 self.parts.present = present;
                 true

@@ -9,7 +9,7 @@ ghost use Rattle.file_shelf.specs.ShelfStates.{HasMoves, CanRefuse};
 ghost use Rattle.hart_calls.specs.ProcessEnd.{Closes, IsCause, outcome_of};
 ghost use Rattle.hart_calls.specs.Replay.{call_of, listed_call};
 ghost use Rattle.hart_calls.specs.Track.{next_of};
-ghost use Rattle.hart_calls.specs.TurnCases.{KeepsFilesByOutcome, LacksJournalRoom, IsOver, most_entries};
+ghost use Rattle.hart_calls.specs.TurnCases.{IsCutFor, IsOver, KeepsFilesByOutcome, most_entries};
 ghost use Rattle.process_model.specs.declared.call.Outcome.TheVariants as outcome;
 ghost use Rattle.process_model.specs.Mappings.{all_written_back};
 ghost use Rattle.process_model.specs.PageMoves.{all_moves};
@@ -22,6 +22,7 @@ ghost use Rattle.table_walk.specs.Tables.{Tables};
 use crate::finished::Finished;
 use crate::journal_entry::{JournalEntry, Listed, PagesRead};
 use crate::journal_reply::JournalReply;
+use crate::model_process::ModelProcess;
 use crate::run_brand::RunBrand;
 use crate::tracked::{Tracked, TrackedParts};
 use address_space::Space;
@@ -42,9 +43,9 @@ impl<'a, B: RunBrand> Tracked<'a, B> {
     ) -> Finished<'a>
         requires store { store.old ≡ B.table }
         requires cause { IsCause outcome }
-        requires full { LacksJournalRoom self.state.mappings self.journal outcome }
+        requires full { IsCutFor self.state (next_of self) self.journal outcome }
         ensures store { store.new ≡ B.table }
-        ensures over { IsOver self.entry result }
+        ensures over { IsOver B.table self.entry result }
         ensures outcome { result.outcome ≡ outcome }
     {
         let parts = self.parts;
@@ -76,28 +77,31 @@ impl<'a, B: RunBrand> Tracked<'a, B> {
         requires room { 0 < self.room }
         requires few { length self.journal < most_entries }
         ensures store { store.new ≡ B.table }
-        ensures over { IsOver self.entry result }
+        ensures over { IsOver B.table self.entry result }
         ensures files { KeepsFilesByOutcome self.entry result result.outcome shelf.old shelf.new }
     {
         let listed = self.listed();
         let parts = self.parts;
-        let entry = exit_entry(listed, status);
+        let before = parts.present.kept();
+        let entry = exit_entry(listed, status, before);
         close::<B, R>(parts, store, shelf, entry, exited(status))
     }
 }
 
 /// The journal entry of an exit.
-fn exit_entry<'a>(listed: Listed<'a>, status: i32) -> JournalEntry<'a>
+fn exit_entry<'a>(listed: Listed<'a>, status: i32, before: ModelProcess) -> JournalEntry<'a>
     ensures call { call_of result ≡ listed_call listed.entry }
     ensures reply { result.reply ≡ reply.Exited status }
     ensures pages { result.pages ≡ [] }
     ensures file { result.file ≡ None }
+    ensures before { result.before.state ≡ before.state }
 {
     JournalEntry::new(
         listed,
         JournalReply::short(ScalarReply::Exited(status)),
         PagesRead::none(),
         None,
+        before,
     )
 }
 
@@ -125,6 +129,7 @@ pub(crate) fn close<'a, B: RunBrand, R: Wait>(
     requires room { vec_len parts.journal < vec_capacity parts.journal }
     ensures store { store.new ≡ B.table }
     ensures name { result.name.items ≡ parts.entry.name.items }
+    ensures fits { FitsIn B.table result.seat }
     ensures bare { IsBare (view_of result.seat) }
     ensures tallies { TakesFrames (view_of parts.entry.space.value.seat) (view_of result.seat) 0 [] }
     ensures closes { Closes parts.entry.present.state parts.entry.journal.items entry.entry outcome result shelf.old shelf.new }
@@ -224,6 +229,7 @@ pub(crate) fn leave<B: RunBrand, R: Wait>(
     requires fits { FitsIn B.table space.value.seat }
     requires ready { (t : Tables) × (p : Process) × IsSpace (body_of view_of space.value) t p }
     ensures store { store.new ≡ B.table }
+    ensures fits { FitsIn B.table result }
     ensures bare { IsBare (view_of result) }
     ensures tallies { TakesFrames (view_of space.value.seat) (view_of result) 0 [] }
 {
@@ -239,6 +245,7 @@ pub(crate) fn destroy<B: RunBrand, R: Wait>(
     requires fits { FitsIn B.table space.seat }
     requires ready { (t : Tables) × (p : Process) × IsSpace (body_of view_of space) t p }
     ensures store { store.new ≡ B.table }
+    ensures fits { FitsIn B.table result }
     ensures bare { IsBare (view_of result) }
     ensures tallies { TakesFrames (view_of space.seat) (view_of result) 0 [] }
 {

@@ -14,7 +14,7 @@ pub struct Finished<'a> {
     pub outcome: Outcome,
     /// Its calls with their replies, in order; empty for a refused start.
     pub journal: Vec<JournalEntry<'a>>,
-    /// The seat that it had. Each function that returns a `Finished` promises that this seat holds no frame and has no
-    /// credits.
+    /// The seat that it had. Each function that returns a `Finished` promises that this seat is at the frame table of the
+    /// run, holds no frame and has no credits.
     pub seat: SharedSeat,
 }

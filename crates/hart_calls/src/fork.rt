@@ -4,7 +4,7 @@
 
 ghost use Rattle.std.specs.Prelude.{[], ◌∷◌, ◌≡◌, ◌≢◌, ◌<◌, IfErr, IfOk, length, List, None};
 ghost use Rattle.address_space.specs.Agreement.{body, body_of, IsSpace};
-ghost use Rattle.address_space.specs.Steps.{RunsDry, TakesFrames};
+ghost use Rattle.address_space.specs.Steps.{IsBare, RunsDry, TakesFrames};
 ghost use Rattle.cow_fork.specs.Forks.{HasForked, IsSharersFullError, IsNoFrameError};
 ghost use Rattle.frame_store.specs.Laws.{IsSeatOf, KeepsSeats};
 ghost use Rattle.frame_store.specs.View.{IsHeld};
@@ -25,6 +25,7 @@ ghost use Rattle.table_walk.specs.Tables.{Tables};
 use crate::fork_slot::{ForkSlot, Place};
 use crate::journal_entry::{JournalEntry, Listed, PagesRead};
 use crate::journal_reply::JournalReply;
+use crate::model_process::ModelProcess;
 use crate::plain_call::append_entry;
 use crate::run_brand::RunBrand;
 use crate::tracked::Tracked;
@@ -107,11 +108,12 @@ impl<'a, B: RunBrand> Tracked<'a, B> {
         let listed = self.listed();
         let mut parts = self.parts;
         let mut settled = mem::replace(&mut parts.settled, None);
+        let before = parts.present.kept();
         let forked = fork_there(&mut parts.space, store, &mut settled);
         parts.settled = settled;
         match forked {
             Ok(child) => {
-                let entry = answer(listed, ScalarReply::Forked(number));
+                let entry = answer(listed, ScalarReply::Forked(number), before);
                 let opening = parts.present.of_child();
                 let layout = parts.space.layout.copied();
                 let space = place.fill(child, layout);
@@ -120,7 +122,7 @@ impl<'a, B: RunBrand> Tracked<'a, B> {
                 (append_entry(parts, present, entry), Some(child))
             }
             Err(error) => {
-                let entry = answer(listed, ScalarReply::Refused(error.into()));
+                let entry = answer(listed, ScalarReply::Refused(error.into()), before);
                 let present = parts.present.kept();
                 (append_entry(parts, present, entry), None)
             }
@@ -142,7 +144,8 @@ impl<'a, B: RunBrand> Tracked<'a, B> {
         let _ = slot;
         let listed = self.listed();
         let parts = self.parts;
-        let entry = answer(listed, ScalarReply::Refused(refusal));
+        let before = parts.present.kept();
+        let entry = answer(listed, ScalarReply::Refused(refusal), before);
         let present = parts.present.kept();
         append_entry(parts, present, entry)
     }
@@ -209,6 +212,7 @@ fn bare_there<R: Wait>(
 ) -> SharedSeat
     requires fits { FitsIn store.old space.old.value.seat }
     requires ready { (t : Tables) × (p : Process) × IsSpace (body_of view_of space.old.value) t p }
+    ensures bare { IsBare (view_of result) }
     ensures store { store.new ≡ store.old }
     ensures fits { FitsIn store.old space.new.value.seat }
     ensures view { view_of space.new.value.seat ≡ view_of space.old.value.seat }
@@ -226,6 +230,7 @@ fn bare_beside<R: Wait>(
 ) -> SharedSeat
     requires fits { FitsIn store.old space.old.seat }
     requires anchored { IsHeld (view_of space.old.seat) 0 }
+    ensures bare { IsBare (view_of result) }
     ensures store { store.new ≡ store.old }
     ensures fits { FitsIn store.old space.new.seat }
     ensures view { view_of space.new.seat ≡ view_of space.old.seat }
@@ -237,11 +242,18 @@ fn bare_beside<R: Wait>(
 }
 
 /// The journal entry of a fork.
-fn answer<'a>(listed: Listed<'a>, reply: ScalarReply) -> JournalEntry<'a>
+fn answer<'a>(listed: Listed<'a>, reply: ScalarReply, before: ModelProcess) -> JournalEntry<'a>
     ensures call { call_of result ≡ listed_call listed.entry }
     ensures reply { result.reply ≡ reply_of_scalar reply }
     ensures pages { result.pages ≡ [] }
     ensures file { result.file ≡ None }
+    ensures before { result.before.state ≡ before.state }
 {
-    JournalEntry::new(listed, JournalReply::short(reply), PagesRead::none(), None)
+    JournalEntry::new(
+        listed,
+        JournalReply::short(reply),
+        PagesRead::none(),
+        None,
+        before,
+    )
 }

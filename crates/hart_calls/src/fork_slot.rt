@@ -3,6 +3,8 @@
 // until then.
 
 ghost use Rattle.std.specs.Prelude.{◌≡◌};
+ghost use Rattle.address_space.specs.Steps.{IsBare};
+ghost use Rattle.shared_frames.specs.SeatsOfTable.{view_of};
 
 use address_space::{Layout, Space};
 use cow_fork::Child;
@@ -11,11 +13,12 @@ use std::alloc::{AllocError, Global};
 use sv39_entry::{FrameNo, Scheme};
 
 /// Host memory for a child's space. It is allocated before the fork, so a fork for which the host has no memory changes
-/// nothing. Until the fork it has a filler, which is no process and whose seat holds nothing. `Tracked::child_place` makes
-/// one.
+/// nothing. Until the fork it has a filler, which is no process and whose seat holds no frame and has none reserved
+/// (`bare`), so none is lost with it. `Tracked::child_place` makes one.
 #[derive(Drop)]
 pub struct Place {
     pub(crate) space: Box<Space<SharedSeat>>,
+    pub ghost bare: { IsBare (view_of space.value.seat) },
 }
 
 impl Place {
@@ -23,7 +26,9 @@ impl Place {
     ///
     /// # Errors
     /// `AllocError`: the host is out of memory.
-    pub(crate) fn new(alloc: Global, bare: SharedSeat) -> Result<Place, AllocError> {
+    pub(crate) fn new(alloc: Global, bare: SharedSeat) -> Result<Place, AllocError>
+        requires bare { IsBare (view_of bare) }
+    {
         let nobody = Space {
             seat: bare,
             root: FrameNo(0),

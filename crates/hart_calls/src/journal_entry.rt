@@ -1,11 +1,12 @@
 // `JournalEntry` (struct): one call of a process as its journal keeps it: its place in the list, its reply, the pages that it
-// read from files (`PagesRead`, struct) and, for an mmap, whether its file may be written. Crate-internal: `Listed` (struct), a
-// place in a list, and `call_at`, the call there.
+// read from files (`PagesRead`, struct) and, for an mmap, whether its file may be written; for contracts also the process
+// before the call. Crate-internal: `Listed` (struct), a place in a list, and `call_at`, the call there.
 
 ghost use Rattle.std.specs.Prelude.{[], ◌≡◌, None};
 ghost use Rattle.hart_calls.specs.Replay.{call_at, call_of, listed_call};
 
 use crate::journal_reply::JournalReply;
+use crate::model_process::ModelProcess;
 use file_shelf::PageUse;
 use process_model::{Call, Sequence};
 use std::marker::Model;
@@ -23,6 +24,8 @@ pub struct JournalEntry<'a> {
     pub reply: JournalReply,
     /// The pages that the call read from files, at most two, in the order in which it read them.
     pub pages: PagesRead,
+    /// The process of the model before the call, for contracts alone. A child that a fork names begins as `child_of` it.
+    pub before: ModelProcess,
 }
 
 // A run may make millions of calls: each byte of an entry counts.
@@ -105,11 +108,13 @@ impl<'a> JournalEntry<'a> {
         reply: JournalReply,
         pages: PagesRead,
         file: Option<bool>,
+        before: ModelProcess,
     ) -> JournalEntry<'a>
         ensures call { call_of result ≡ listed_call listed.entry }
         ensures reply { result.reply ≡ reply }
         ensures pages { result.pages ≡ pages }
         ensures file { result.file ≡ file }
+        ensures before { result.before.state ≡ before.state }
     {
         JournalEntry {
             list: listed.list,
@@ -117,6 +122,7 @@ impl<'a> JournalEntry<'a> {
             file,
             reply,
             pages,
+            before,
         }
     }
 }

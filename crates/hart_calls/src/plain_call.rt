@@ -56,12 +56,13 @@ impl<'a, B: RunBrand> Tracked<'a, B> {
         requires pages { 2 ≤ vec_capacity pages.value }
         requires long { HasRoomFor call room }
         ensures store { store.new ≡ B.table }
-        ensures turned { HasTurned self.entry result slot.now }
+        ensures turned { HasTurned B.table self.entry result slot.now }
         ensures files { HasFilesAfter self.entry result shelf.old shelf.new }
     {
         let _ = slot;
         let listed = self.listed();
         let mut parts = self.parts;
+        let was = parts.present.kept();
         let before = Snapshot::of(&*shelf);
         let mark = uses(shelf);
         let file = mapped_file(shelf, call);
@@ -70,17 +71,17 @@ impl<'a, B: RunBrand> Tracked<'a, B> {
         match call_result {
             CallResult::Answered(reply) => {
                 let present = state_after(&parts.present, before, call, &reply, None);
-                let entry = JournalEntry::new(listed, reply, pages, file);
+                let entry = JournalEntry::new(listed, reply, pages, file, was);
                 Turn::Continues(append_entry(parts, present, entry), None)
             }
             CallResult::Stopped(refusal, done) => {
                 let reply = JournalReply::short(ScalarReply::Refused(refusal));
                 let present = state_after(&parts.present, before, call, &reply, Some(done));
-                let entry = JournalEntry::new(listed, reply, pages, file);
+                let entry = JournalEntry::new(listed, reply, pages, file, was);
                 Turn::Continues(append_entry(parts, present, entry), None)
             }
             CallResult::Ended(rule) => {
-                let entry = last_entry(listed, rule, pages, file);
+                let entry = last_entry(listed, rule, pages, file, was);
                 Turn::Over(close::<B, R>(parts, store, shelf, entry, Outcome::Ended(rule)))
             }
             CallResult::Cut(refusal) => {
@@ -100,17 +101,20 @@ fn last_entry<'a>(
     rule: Rule,
     pages: PagesRead,
     file: Option<bool>,
+    before: ModelProcess,
 ) -> JournalEntry<'a>
     ensures call { call_of result ≡ listed_call listed.entry }
     ensures reply { result.reply ≡ reply.Ended rule }
     ensures pages { result.pages ≡ pages }
     ensures file { result.file ≡ file }
+    ensures before { result.before.state ≡ before.state }
 {
     JournalEntry::new(
         listed,
         JournalReply::short(ScalarReply::Ended(rule)),
         pages,
         file,
+        before,
     )
 }
 

@@ -34,7 +34,7 @@ const SHORT_JOURNAL: usize = 512;
 pub enum Turn<'a, B: RunBrand> {
     /// The process continues, with one journal entry more. There is a child exactly when the entry's reply is `Forked`.
     Continues(Tracked<'a, B>, Option<Tracked<'a, B>>),
-    /// The process has ended. Its seat holds nothing.
+    /// The process has ended. Its seat is still at the frame table of the run, and holds nothing.
     Over(Finished<'a>),
 }
 
@@ -45,7 +45,8 @@ impl<'a, B: RunBrand> Tracked<'a, B> {
     /// Returns `Continues` with one journal entry more, whose reply is the model's for some shortage (what the call needed
     /// and did not get) that is possible (`CanBeShort`), and the child if it forked. Or returns `Over`. After an exit or an
     /// end by a rule the journal has one entry more that says so, and every mapping was written back. With outcome `Memory`
-    /// or `JournalFull` it has none more and no file was changed; the history may have the pages that the call read.
+    /// or `JournalFull` it has none more, the seat has claimed no frame, and no file was changed; the history may have the
+    /// pages that the call read.
     ///
     /// `slot`: for a fork, the child's place and its name, which must be `child_name`, or why it has none. If the process
     /// continues after a fork, the reply is the refusal `NoSlot` exactly for `ForkSlot::NoSlot` and `Memory` exactly for
@@ -56,8 +57,9 @@ impl<'a, B: RunBrand> Tracked<'a, B> {
     /// than were then needed; a fork's reply is `SharersFull` only if the seat read a reference count of 65,535.
     ///
     /// `JournalFull` ends the process only if its journal has `MOST_ENTRIES` entries or, with a shelf, if the history lacks
-    /// room for the page that an access reads, or for what a call that ends the process reads and the end writes. No cause
-    /// is promised for `Memory`.
+    /// room for the page that an access reads, or for what a call that ends the process reads and the end writes. `Memory`
+    /// ends it only if its journal has fewer; each call then asks the host for memory, and nothing is promised of when it is
+    /// refused.
     pub fn next_call<R: Wait>(
         self,
         store: &mut SharedSupply<'_, R>,
@@ -68,7 +70,7 @@ impl<'a, B: RunBrand> Tracked<'a, B> {
         requires slot { IsNamed slot (child_name self) }
         requires lent { NeedsFiles self → IsLent shelf }
         ensures store { store.new ≡ B.table }
-        ensures turned { HasTurned self.entry result slot }
+        ensures turned { HasTurned B.table self.entry result slot }
         ensures files { OfLent (HasFilesAfter self.entry result) (IsFullWithoutShelf self.entry result) shelf.entry shelf.exit }
     {
         match shelf {
@@ -88,20 +90,24 @@ impl<'a, B: RunBrand> Tracked<'a, B> {
         requires slot { IsNamed slot (child_name self) }
         requires none { NeedsFiles self → ⊥ }
         ensures store { store.new ≡ B.table }
-        ensures turned { HasTurned self.entry result slot }
+        ensures turned { HasTurned B.table self.entry result slot }
         ensures full { IsFullWithoutShelf self.entry result }
     {
         let alloc = self.parts.alloc;
         let Ok(cabinet) = Cabinet::new(alloc, &[]) else {
-            return Turn::Over(self.cut(store, Outcome::Memory));
+            if self.made() < MOST_ENTRIES {
+                return Turn::Over(self.cut(store, Outcome::Memory));
+            }
+            return Turn::Over(self.cut(store, Outcome::JournalFull));
         };
         let mut shelf = Shelf::new(alloc, cabinet);
         self.turn(store, &mut shelf, slot)
     }
 
-    /// `next_call` with a shelf. A function pays at entry for the size of its locals, so ends, forks, copies and exec, which
-    /// have large ones, are functions of their own (`inline(never)`).
-    fn turn<R: Wait>(
+    /// `next_call` with a shelf.
+    // A function pays at entry for the size of its locals, so ends, forks, copies and exec, which have large ones, are
+    // functions of their own (`inline(never)`).
+    pub fn turn<R: Wait>(
         mut self,
         store: &mut SharedSupply<'_, R>,
         shelf: &mut Shelf,
@@ -110,7 +116,7 @@ impl<'a, B: RunBrand> Tracked<'a, B> {
         requires store { store.old ≡ B.table }
         requires slot { IsNamed slot (child_name self) }
         ensures store { store.new ≡ B.table }
-        ensures turned { HasTurned self.entry result slot }
+        ensures turned { HasTurned B.table self.entry result slot }
         ensures files { HasFilesAfter self.entry result shelf.old shelf.new }
     {
         if self.made() == MOST_ENTRIES {

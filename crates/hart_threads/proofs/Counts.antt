@@ -1,7 +1,8 @@
 -- Lemmas on how many lives (the roster's records of processes) have one name: names stay apart if a life is added, removed,
 -- moved to the ended or replaced by one of its name; two lives of one name are one (`one_of`).
 use Rattle.std.proofs.Common.{◌≡◌, ◌⊎◌, inl, inr, ℕ, ◌+◌, ◌<◌, ◌≤◌, Bool, true, false, cond, List, [], ◌∷◌, ◌++◌, refl, sym, ap, ◌∙◌, arith}
-use Rattle.vouchers.specs.Entries.{TokenEntry as Life, entry, Has, same, same_name, without}
+use base.Stored.{gnil}
+use Rattle.vouchers.specs.Entries.{birth, TokenEntry as Life, entry, Has, same, same_name, without}
 use Rattle.vouchers.specs.Lists.{same_is, same_self, tells}
 use Rattle.hart_threads.specs.RosterState.{AreApart, AreNamed, times}
 
@@ -14,11 +15,14 @@ hit name l = cond (same_name name l.name) 1 0
 abbrev Hits : List ℕ → Life → Type 0
 Hits name l = ((l.name ≡ name) × (hit name l ≡ 1)) ⊎ ((l.name ≡ name → ⊥) × (hit name l ≡ 0))
 
+abbrev of_name : List ℕ → Life
+of_name xs = entry xs (birth 0 gnil) []
+
 is_name : (xs ys : List ℕ) → same_name xs ys ≡ true → xs ≡ ys
-is_name xs ys e = ap (λ (l : Life). l.name) (same_is (entry xs 0 []) (entry ys 0 []) e)
+is_name xs ys e = ap (λ (l : Life). l.name) (same_is (of_name xs) (of_name ys) e)
 
 self_name : (xs : List ℕ) → same_name xs xs ≡ true
-self_name xs = same_self (entry xs 0 [])
+self_name xs = same_self (of_name xs)
 
 hits : (name : List ℕ) (l : Life) → Hits name l
 hits name l = elim (tells (same_name name l.name)) as (λ _. Hits name l) [

@@ -7,3 +7,4 @@ mod TokenSteps
 mod Beginning
 mod Slotting
 mod Making
+mod Queueing

@@ -66,7 +66,13 @@ module _ (whole before : List Bool) (b : Bool) (after : List Bool) (is : whole �
   pub slots_after : whole ≡ (before ++ b ∷ []) ++ after
   slots_after = is ∙ sym (append_assoc before (b ∷ []) after)
 
--- a start that is refused, by its reason
+-- the first of them
+slots_first : (whole before after : List Bool) → whole ≡ before ++ after → (n : ℕ) → length before ≡ n → take n whole ≡ before
+slots_first whole before after is n number = subst (λ (k : ℕ). take k whole ≡ before) number (subst (λ (bs : List Bool). take (length before) bs ≡ before) (sym is) (here before))
+  where
+    here : (bs : List Bool) → take (length bs) (bs ++ after) ≡ bs
+    here [] = refl
+    here (x ∷ xs) = ap (λ (ys : List Bool). x ∷ ys) (here xs)
 
 -- a name is a start's, by its number
 started_same : (starts : List Start) (k : ℕ) (s t : Start) → slice_get starts k ≡ Some s → slice_get starts k ≡ Some t → s ≡ t
@@ -107,3 +113,13 @@ module _ (table : TableId) (slots : ℕ) (starts plan : List Start) (same : star
           long,
           subst (λ (t : ℕ). AreStartResults table slots starts (n + 1) t rest) (sym (count_push here.0 (takes_slot m))) here.3.1,
         )
+
+    -- the slots taken before the next one
+    pub enlists_out : (out next : ℕ) → out ≡ count (take n taken) → next ≡ out + cond (takes_slot m) 1 0 → next ≡ count (take (n + 1) taken)
+    enlists_out out next was is =
+        let more = here.0 ++ takes_slot m ∷ [] in
+        let long : length more ≡ n + 1 = let number = here.2 in let push = length-append {A = Bool} here.0 (takes_slot m ∷ []) in omega (arith, number, push) in
+        let before = ap count (slots_before taken here.0 (takes_slot m) (slots_of rest) here.1 n here.2) in
+        let now : count (take (n + 1) taken) ≡ count more = ap count (slots_first taken more (slots_of rest) (slots_after taken here.0 (takes_slot m) (slots_of rest) here.1) (n + 1) long) in
+        let push = count_push here.0 (takes_slot m) in
+        omega (arith, was, is, before, now, push)

@@ -4,6 +4,7 @@
 use Rattle.std.proofs.Common.{◌≡◌, inl, inr, ℕ, ◌<◌, Bool, true, false, List, [], ◌∷◌, ◌++◌, All, Option, Some, length, slice_get, take, refl, sym, ap, ◌∙◌, subst}
 use Rattle.std.proofs.lemmas.List.{append-nil}
 use Rattle.std.proofs.lemmas.List.Elements.{All-weaker}
+use Rattle.atomic_table.specs.Seated.{TableId}
 use Rattle.frame_store.specs.View.{View}
 use Rattle.hart_calls.specs.declared.journal_entry.JournalEntry.{JournalEntry}
 use Rattle.hart_calls.specs.declared.finished.Finished.{Finished}
@@ -17,7 +18,7 @@ use Rattle.process_model.specs.declared.call.Outcome.TheVariants as outcome
 use Rattle.process_model.specs.declared.call.Start.{Start}
 use Rattle.process_model.specs.declared.step.Refusal.TheVariants as refusal
 use Rattle.shared_frames.specs.SeatsOfTable.{view_of}
-use Rattle.vouchers.specs.Entries.{TokenEntry as Life, entry, Has, without}
+use Rattle.vouchers.specs.Entries.{Birth, TokenEntry as Life, entry, Has, nameless, without}
 use Rattle.vouchers.specs.Lists.{without_had}
 
 -- a process that began had a slot
@@ -60,8 +61,8 @@ takes_none slot s v (outcome.Exited status) journal why none is = absurd why
 takes_none slot s v (outcome.Ended rule) journal why none is = absurd why
 takes_none slot s v outcome.JournalFull journal why none is = absurd why
 
-pub unbegun_settled : (slots : ℕ) (taken : List Bool) (full : Bool) (i : ℕ) (s : Start) (f : Finished) → IsUnbegun slots (count (take i taken)) s (i ∷ []) f → slice_get taken i ≡ Some false → OnFull (full ≡ true) f.outcome → MatchesSlots slots taken full f
-unbegun_settled slots taken full i s f none is on = record { slot = here; reads = on }
+pub unbegun_settled : (table : TableId) (slots : ℕ) (taken : List Bool) (full : Bool) (i : ℕ) (s : Start) (f : Finished) → IsUnbegun table slots (count (take i taken)) s (i ∷ []) f → slice_get taken i ≡ Some false → OnFull (full ≡ true) f.outcome → MatchesSlots slots taken full f
+unbegun_settled table slots taken full i s f none is on = record { slot = here; reads = on }
   where
     here : (j : ℕ) → f.name.items ≡ j ∷ [] → KeepsSlots slots taken j f
     here j named =
@@ -78,13 +79,13 @@ pub taken_less : (slots : ℕ) (taken : List Bool) (e : Life) (out : List Life) 
 taken_less slots taken e out was l i h is = was l i (without_had e l out h) is
 
 -- a child is named: both vouchers come back, and the child's and the parent's go out
-module _ (name named : List ℕ) (list child : ℕ) (before child_lists none : List ℕ) (g0 g1 g2 g3 g4 : List Life) (e1 : g1 ≡ without (entry [] 0 []) g0) (e2 : g2 ≡ without (entry name list before) g1) (mine : Has (entry name list before) g1) (is : named ≡ name ++ length before ∷ []) (some : name ≡ [] → ⊥) (e3 : g3 ≡ entry named child none ∷ g2) (e4 : g4 ≡ entry name list child_lists ∷ g3) where
+module _ (name named : List ℕ) (began child : Birth) (before children none : List Birth) (g0 g1 g2 g3 g4 : List Life) (e1 : g1 ≡ without nameless g0) (e2 : g2 ≡ without (entry name began before) g1) (mine : Has (entry name began before) g1) (is : named ≡ name ++ length before ∷ []) (some : name ≡ [] → ⊥) (e3 : g3 ≡ entry named child none ∷ g2) (e4 : g4 ≡ entry name began children ∷ g3) where
   pub taken_born : (slots : ℕ) (taken : List Bool) → AreTaken slots taken g0 → AreTaken slots taken g4
   taken_born slots taken was =
-      let kept : AreTaken slots taken g1 = subst (AreTaken slots taken) (sym e1) (taken_less slots taken (entry [] 0 []) g0 was) in
-      let others : AreTaken slots taken g2 = subst (AreTaken slots taken) (sym e2) (taken_less slots taken (entry name list before) g1 kept) in
+      let kept : AreTaken slots taken g1 = subst (AreTaken slots taken) (sym e1) (taken_less slots taken nameless g0 was) in
+      let others : AreTaken slots taken g2 = subst (AreTaken slots taken) (sym e2) (taken_less slots taken (entry name began before) g1 kept) in
       let young : AreTaken slots taken g3 = subst (AreTaken slots taken) (sym e3) (taken_more slots taken (entry named child none) g2 (λ i of. absurd (no_start name (length before) i some (sym is ∙ of))) others) in
-      subst (AreTaken slots taken) (sym e4) (taken_more slots taken (entry name list child_lists) g3 (λ i of. kept (entry name list before) i mine of) young)
+      subst (AreTaken slots taken) (sym e4) (taken_more slots taken (entry name began children) g3 (λ i of. kept (entry name began before) i mine of) young)
 
 -- counts that were read as 65,535
 

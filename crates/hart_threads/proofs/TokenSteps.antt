@@ -3,10 +3,12 @@
 -- there is no child.
 use Rattle.std.proofs.Common.{◌≡◌, ◌⊎◌, inl, inr, ℕ, ◌+◌, List, [], ◌∷◌, ◌++◌, length, Option, None, Some, refl, sym, ap, ◌∙◌, subst, arith, Bool, true, false}
 use Rattle.std.proofs.lemmas.List.{append-nil, append_assoc}
-use Rattle.vouchers.specs.Entries.{TokenEntry as Life, entry}
+use Rattle.atomic_table.specs.Seated.{TableId}
+use Rattle.vouchers.specs.Entries.{Birth, birth, TokenEntry as Life, entry}
 use Rattle.hart_calls.specs.Replay.{call_of, forked, forks, list_at, Replays}
-use Rattle.hart_threads.specs.ChildLists.{fork_list, heir, child_lists}
-use Rattle.hart_calls.specs.Track.{AppendsEntry, SameButSeat, Track}
+use Rattle.hart_calls.specs.ProcessCodes.{code_of}
+use Rattle.hart_threads.specs.Births.{began, birth_of, births_of, fork_list, heir}
+use Rattle.hart_calls.specs.Track.{AppendsEntry, IsChild, SameButSeat, Track}
 use Rattle.hart_calls.specs.TurnCases.{BySlot, EndsBy, ContinuesTurn, LeavesRunning, LacksJournalRoom, IsOver, IsLastEntry}
 use Rattle.hart_calls.specs.declared.journal_entry.JournalEntry.{JournalEntry}
 use Rattle.hart_calls.specs.declared.finished.Finished.{Finished}
@@ -14,6 +16,7 @@ use Rattle.hart_calls.specs.declared.fork_slot.ForkSlot.{ForkSlot}
 use Rattle.hart_calls.specs.declared.fork_slot.ForkSlot.TheVariants as slot
 use Rattle.frame_store.specs.View.{View}
 use Rattle.process_model.specs.Process.{Process}
+use Rattle.process_model.specs.Residence.{child_of}
 use Rattle.process_model.specs.declared.call.Call.{Call}
 use Rattle.process_model.specs.declared.call.Call.TheVariants as call
 use Rattle.process_model.specs.declared.call.Start.{Start}
@@ -31,10 +34,10 @@ use Rattle.std.proofs.lemmas.Bool.{and_parts}
 use Rattle.hart_threads.specs.RosterState.{all_go_on, AsEnded, EndsIn, GoOn, HasRun, IsEndedWithToken, IsBirth, IsOut, lets_go_on, BeginsAsImage}
 
 -- a reply names a child, or none
-abbrev Names : Call → Reply → Type 0
+abbrev Names : Birth → Reply → Type 0
 Names c r = ((n : ℕ) × (r ≡ reply.Forked n)) ⊎ ((forked r ≡ 0) × (heir c r ≡ []))
 
-names : (c : Call) (r : Reply) → Names c r
+names : (c : Birth) (r : Reply) → Names c r
 names c reply.Done = inr (refl, refl)
 names c (reply.Started n) = inr (refl, refl)
 names c (reply.Forked n) = inl (n, refl)
@@ -55,46 +58,57 @@ names c (reply.ShortOut rule n) = inr (refl, refl)
 names c (reply.Exited status) = inr (refl, refl)
 names c (reply.Refused r) = inr (refl, refl)
 
-no_heir : (c : Call) (r : Reply) → forked r ≡ 0 → heir c r ≡ []
+no_heir : (c : Birth) (r : Reply) → forked r ≡ 0 → heir c r ≡ []
 no_heir c r none = elim (names c r) as (λ _. heir c r ≡ []) [
   | inl one ↦ absurd (let is : forked r ≡ 1 = ap forked one.1 in omega (arith, is, none))
   | inr is ↦ is.1
 ]
 
-one_heir : (c : Call) (r : Reply) (k : ℕ) → c ≡ call.Fork k → forked r ≡ 1 → heir c r ≡ k ∷ []
-one_heir c r k is one = elim (names c r) as (λ _. heir c r ≡ k ∷ []) [
-  | inl fork ↦ ap (heir c) fork.1 ∙ ap (λ (x : Call). fork_list x ∷ []) is
+one_heir : (c : Birth) (r : Reply) → forked r ≡ 1 → heir c r ≡ c ∷ []
+one_heir c r one = elim (names c r) as (λ _. heir c r ≡ c ∷ []) [
+  | inl fork ↦ ap (heir c) fork.1
   | inr none ↦ absurd (let zero = none.0 in omega (arith, zero, one))
 ]
 
-heirs_snoc : (es : List JournalEntry) (e : JournalEntry) → child_lists (es ++ e ∷ []) ≡ child_lists es ++ heir (call_of e) e.reply
-heirs_snoc [] e = append-nil (heir (call_of e) e.reply)
-heirs_snoc (x ∷ es) e = ap (λ hs. heir (call_of x) x.reply ++ hs) (heirs_snoc es e) ∙ sym (append_assoc (heir (call_of x) x.reply) (child_lists es) (heir (call_of e) e.reply))
+heirs_snoc : (es : List JournalEntry) (e : JournalEntry) → births_of (es ++ e ∷ []) ≡ births_of es ++ heir (birth_of e) e.reply
+heirs_snoc [] e = append-nil (heir (birth_of e) e.reply)
+heirs_snoc (x ∷ es) e = ap (λ hs. heir (birth_of x) x.reply ++ hs) (heirs_snoc es e) ∙ sym (append_assoc (heir (birth_of x) x.reply) (births_of es) (heir (birth_of e) e.reply))
 
-heirs_after : (es fs : List JournalEntry) (e : JournalEntry) (hs : List ℕ) → fs ≡ es ++ e ∷ [] → heir (call_of e) e.reply ≡ hs → child_lists fs ≡ child_lists es ++ hs
-heirs_after es fs e hs is h = ap child_lists is ∙ (heirs_snoc es e ∙ ap (λ ys. child_lists es ++ ys) h)
+heirs_after : (es fs : List JournalEntry) (e : JournalEntry) (hs : List Birth) → fs ≡ es ++ e ∷ [] → heir (birth_of e) e.reply ≡ hs → births_of fs ≡ births_of es ++ hs
+heirs_after es fs e hs is h = ap births_of is ∙ (heirs_snoc es e ∙ ap (λ ys. births_of es ++ ys) h)
 
 -- as many as the journal names
-add_lengths : (xs ys : List ℕ) → length (xs ++ ys) ≡ length xs + length ys
+add_lengths : (xs ys : List Birth) → length (xs ++ ys) ≡ length xs + length ys
 add_lengths [] ys = omega arith
 add_lengths (x ∷ xs) ys = let r = add_lengths xs ys in omega (arith, r)
 
-heir_counts : (c : Call) (r : Reply) → length (heir c r) ≡ forked r
+heir_counts : (c : Birth) (r : Reply) → length (heir c r) ≡ forked r
 heir_counts c r = elim (names c r) as (λ _. length (heir c r) ≡ forked r) [
   | inl one ↦ (let a : length (heir c r) ≡ 1 = ap (λ q. length (heir c q)) one.1 in let b : forked r ≡ 1 = ap forked one.1 in a ∙ sym b)
   | inr none ↦ (let a : length (heir c r) ≡ 0 = ap length none.1 in a ∙ sym none.0)
 ]
 
-heirs_count : (es : List JournalEntry) → length (child_lists es) ≡ forks es
+heirs_count : (es : List JournalEntry) → length (births_of es) ≡ forks es
 heirs_count [] = refl
 heirs_count (e ∷ es) =
-    let a = add_lengths (heir (call_of e) e.reply) (child_lists es) in
-    let b = heir_counts (call_of e) e.reply in
+    let a = add_lengths (heir (birth_of e) e.reply) (births_of es) in
+    let b = heir_counts (birth_of e) e.reply in
     let c = heirs_count es in
     omega (arith, a, b, c)
 
-entry_by : (m n : List ℕ) (j k : ℕ) (gs hs : List ℕ) → m ≡ n → j ≡ k → gs ≡ hs → entry m j gs ≡ entry n k hs
+entry_by : (m n : List ℕ) (j k : Birth) (gs hs : List Birth) → m ≡ n → j ≡ k → gs ≡ hs → entry m j gs ≡ entry n k hs
 entry_by m n j k gs hs a b c = ap (λ x. entry x j gs) a ∙ (ap (λ y. entry n y gs) b ∙ ap (λ y. entry n k y) c)
+
+-- as they began: a process is the same if its list and its first process are, a child is as its fork's entry says
+
+births : (j k : ℕ) (p q : Process) → j ≡ k → p ≡ q → birth j (code_of p) ≡ birth k (code_of q)
+births j k p q a b = ap (λ (n : ℕ). birth n (code_of p)) a ∙ ap (λ (r : Process). birth k (code_of r)) b
+
+began_same : (u t : Track) → u.list ≡ t.list → u.opening ≡ t.opening → began u ≡ began t
+began_same u t list opening = births _ _ _ _ list opening
+
+child_began : (t child : Track) (e : JournalEntry) (k : ℕ) → call_of e ≡ call.Fork k → e.before.state ≡ t.state → IsChild t child k → began child ≡ birth_of e
+child_began t child e k fork before young = births _ _ _ _ (young.list ∙ ap fork_list (sym fork)) (young.opening ∙ ap child_of (sym before))
 
 -- one more call that lets its process go on
 lets : (r : Reply) → LeavesRunning r → lets_go_on r ≡ true
@@ -127,7 +141,7 @@ module _ (lists : List (List Call)) (starts : List Start) (held : List Life) (t 
   opens_still u name opening = subst (λ (p : Process). BeginsAsImage starts u.name p) (sym opening) (subst (λ (m : List ℕ). BeginsAsImage starts m t.opening) (sym name) o.opens)
 
   -- it goes on, and its voucher tells of it
-  goes_out : (given : List Life) (u : Track) (e : JournalEntry) → AppendsEntry t u e → LeavesRunning e.reply → given ≡ entry u.name u.list (child_lists u.journal) ∷ [] → IsOut lists starts given u
+  goes_out : (given : List Life) (u : Track) (e : JournalEntry) → AppendsEntry t u e → LeavesRunning e.reply → given ≡ entry u.name (began u) (births_of u.journal) ∷ [] → IsOut lists starts given u
   goes_out given u e adds on holds = record {
     holds = holds;
     lists = adds.lists ∙ o.lists;
@@ -140,8 +154,8 @@ module _ (lists : List (List Call)) (starts : List Start) (held : List Life) (t 
   pub out_alone : (u : Track) (c : Option Track) (s : ForkSlot) → ContinuesTurn t u c s → c ≡ None → IsOut lists starts held u
   out_alone u c s went is =
       let g : ContinuesTurn t u None s = subst (λ (x : Option Track). ContinuesTurn t u x s) is went in
-      let same : child_lists u.journal ≡ child_lists t.journal = heirs_after t.journal u.journal g.entry [] g.adds.journal (no_heir (call_of g.entry) g.entry.reply g.child) ∙ append-nil (child_lists t.journal) in
-      goes_out held u g.entry g.adds g.on (o.holds ∙ ap (λ (l : Life). l ∷ []) (entry_by _ _ _ _ _ _ (sym g.adds.name) (sym g.adds.list) (sym same)))
+      let same : births_of u.journal ≡ births_of t.journal = heirs_after t.journal u.journal g.entry [] g.adds.journal (no_heir (birth_of g.entry) g.entry.reply g.child) ∙ append-nil (births_of t.journal) in
+      goes_out held u g.entry g.adds g.on (o.holds ∙ ap (λ (l : Life). l ∷ []) (entry_by _ _ _ _ _ _ (sym g.adds.name) (sym (began_same u t g.adds.list g.adds.opening)) (sym same)))
 
   -- a call that may have been made in place
   pub out_at_once : (u : Track) (made : Bool) → (made ≡ true → (s : ForkSlot) → ContinuesTurn t u None s) → (made ≡ false → u ≡ t) → IsOut lists starts held u
@@ -154,7 +168,7 @@ module _ (lists : List (List Call)) (starts : List Start) (held : List Life) (t 
   out_served u false went not =
       let same = not refl in
       record {
-        holds = o.holds ∙ ap (λ (l : Life). l ∷ []) (entry_by _ _ _ _ _ _ (sym same.name) (sym same.list) (ap child_lists (sym same.journal)));
+        holds = o.holds ∙ ap (λ (l : Life). l ∷ []) (entry_by _ _ _ _ _ _ (sym same.name) (sym (began_same u t same.list same.opening)) (ap births_of (sym same.journal)));
         lists = same.lists ∙ o.lists;
         named = λ none. o.named (sym same.name ∙ none);
         opens = opens_still u same.name same.opening;
@@ -172,18 +186,18 @@ module _ (lists : List (List Call)) (starts : List Start) (held : List Life) (t 
         let k = g.child.1.0 in
         let young = g.child.1.2 in
         record {
-          before = child_lists t.journal;
-          holds = o.holds ∙ ap (λ (l : Life). l ∷ []) (entry_by _ _ _ _ _ _ (sym g.adds.name) (sym g.adds.list) refl);
+          before = births_of t.journal;
+          holds = o.holds ∙ ap (λ (l : Life). l ∷ []) (entry_by _ _ _ _ _ _ (sym g.adds.name) (sym (began_same u t g.adds.list g.adds.opening)) refl);
           named = λ none. o.named (sym g.adds.name ∙ none);
-          journal = heirs_after t.journal u.journal g.entry (child.list ∷ []) g.adds.journal (one_heir (call_of g.entry) g.entry.reply k g.child.1.1 g.child.0 ∙ ap (λ (n : ℕ). n ∷ []) (sym young.list));
+          journal = heirs_after t.journal u.journal g.entry (began child ∷ []) g.adds.journal (one_heir (birth_of g.entry) g.entry.reply g.child.0 ∙ ap (λ (b : Birth). b ∷ []) (sym (child_began t child g.entry k g.child.1.1 g.leads.before young)));
           name = young.name ∙ (ap (λ (m : List ℕ). m ++ forks t.journal ∷ []) (sym g.adds.name) ∙ ap (λ (n : ℕ). u.name ++ n ∷ []) (sym (heirs_count t.journal)));
           none = young.journal;
         }
 
-    pub elder_out : (given : List Life) → given ≡ entry u.name u.list (child_lists u.journal) ∷ [] → IsOut lists starts given u
+    pub elder_out : (given : List Life) → given ≡ entry u.name (began u) (births_of u.journal) ∷ [] → IsOut lists starts given u
     elder_out given holds = goes_out given u here.entry here.adds here.on holds
 
-    pub young_out : (given : List Life) → given ≡ entry child.name child.list (child_lists child.journal) ∷ [] → IsOut lists starts given child
+    pub young_out : (given : List Life) → given ≡ entry child.name (began child) (births_of child.journal) ∷ [] → IsOut lists starts given child
     young_out given holds =
         let young = here.child.1.2 in
         record {
@@ -198,38 +212,39 @@ module _ (lists : List (List Call)) (starts : List Start) (held : List Life) (t 
   ends_in f r e = (t.journal, e.entry, e.journal, e.reply, o.goes)
 
   -- an end names no child
-  ends_heirs : (f : Finished) (r : Reply) → forked r ≡ 0 → EndsBy t f r → child_lists f.journal.items ≡ child_lists t.journal
-  ends_heirs f r none e = heirs_after t.journal f.journal.items e.entry [] e.journal (no_heir (call_of e.entry) e.entry.reply (ap forked e.reply ∙ none)) ∙ append-nil (child_lists t.journal)
+  ends_heirs : (f : Finished) (r : Reply) → forked r ≡ 0 → EndsBy t f r → births_of f.journal.items ≡ births_of t.journal
+  ends_heirs f r none e = heirs_after t.journal f.journal.items e.entry [] e.journal (no_heir (birth_of e.entry) e.entry.reply (ap forked e.reply ∙ none)) ∙ append-nil (births_of t.journal)
 
-  last_heirs : (f : Finished) (x : Outcome) → IsLastEntry t f x → child_lists f.journal.items ≡ child_lists t.journal
+  last_heirs : (f : Finished) (x : Outcome) → IsLastEntry t f x → births_of f.journal.items ≡ births_of t.journal
   last_heirs f (outcome.Exited status) l = ends_heirs f (reply.Exited status) refl l
   last_heirs f (outcome.Ended rule) l = ends_heirs f (reply.Ended rule) refl l
   last_heirs f (outcome.Refused r) l = absurd l
-  last_heirs f outcome.Memory l = ap child_lists l
-  last_heirs f outcome.JournalFull l = ap child_lists l
+  last_heirs f outcome.Memory l = ap births_of l.0
+  last_heirs f outcome.JournalFull l = ap births_of l.0
 
   last_began : (f : Finished) (x : Outcome) → IsLastEntry t f x → Unrefused x
   last_began f (outcome.Refused r) l = absurd l
   last_began f x l = tt
 
   module _ (calls : List Call) (f : Finished) (q : Process) (opens : BeginsAsImage starts t.name t.opening) (replays : Replays t.opening 0 0 calls f.journal.items q) where
-    ran : HasRun starts calls t.name f.journal.items
-    ran = (t.opening, q, opens, replays)
+    ran : HasRun starts calls t.name (code_of t.opening) f.journal.items
+    ran = (t.opening, q, refl, opens, replays)
 
-    as_ended : (v : View) (x : Outcome) → IsLastEntry t f x → LacksJournalRoom q.mappings f.journal.items x → AsEnded starts calls v x t.name f.journal.items
+    as_ended : (v : View) (x : Outcome) → IsLastEntry t f x → LacksJournalRoom v q calls f.journal.items x → AsEnded starts calls v x t.name (code_of t.opening) f.journal.items
     as_ended v (outcome.Exited status) l full = (ran, ends_in f (reply.Exited status) l)
     as_ended v (outcome.Ended rule) l full = (ran, ends_in f (reply.Ended rule) l)
     as_ended v (outcome.Refused r) l full = absurd l
-    as_ended v outcome.Memory l full = (ran, subst GoOn (sym l) o.goes)
-    as_ended v outcome.JournalFull l full = ((t.opening, q, opens, replays, full), subst GoOn (sym l) o.goes)
+    as_ended v outcome.Memory l full = (ran, subst GoOn (sym l.0) o.goes, full)
+    as_ended v outcome.JournalFull l full = ((t.opening, q, refl, opens, replays, full), subst GoOn (sym l.0) o.goes)
 
-  pub over_back : (f : Finished) → IsOver t f → IsEndedWithToken lists starts held f
-  over_back f over =
-      let replays = subst (λ (ls : List (List Call)). Replays t.opening 0 0 (list_at ls t.list) f.journal.items over.state) o.lists over.replays in (
-        entry t.name t.list (child_lists t.journal),
+  pub over_back : (table : TableId) (f : Finished) → IsOver table t f → IsEndedWithToken table lists starts held f
+  over_back table f over =
+      let replays = subst (λ (ls : List (List Call)). Replays t.opening 0 0 (list_at ls t.list) f.journal.items over.state) o.lists over.replays in
+      let full = subst (λ (ls : List (List Call)). LacksJournalRoom (view_of f.seat) over.state (list_at ls t.list) f.journal.items f.outcome) o.lists over.full in (
+        entry t.name (began t) (births_of t.journal),
         o.holds,
         o.named,
-        record { name = over.name; child_lists = last_heirs f f.outcome over.last; bare = over.bare; ended = as_ended (list_at lists t.list) f over.state o.opens replays (view_of f.seat) f.outcome over.last over.full; few = over.few },
+        record { name = over.name; children = last_heirs f f.outcome over.last; seat = over.seat; bare = over.bare; ended = as_ended (list_at lists t.list) f over.state o.opens replays (view_of f.seat) f.outcome over.last full; few = over.few },
         last_began f f.outcome over.last,
       )
 

@@ -1,8 +1,10 @@
 -- The files of this folder.
-pub mod ChildLists
+pub mod Births
 pub mod RosterState
+pub mod RosterView
 pub mod Slots
 pub mod StartEffects
 pub mod Starts
 pub mod Due
 pub mod Plans
+pub mod Queues

@@ -1,11 +1,14 @@
--- Predicates on lives (a life is the roster's record of a process: its name, its list, its children's lists): the roster's
+-- Predicates on lives (a life is the roster's record of a process: its name, how it began, how its children began): the roster's
 -- invariant (`IsRostered`), what `run_harts` returns (`ComesBack`), the end of a life (`IsEnded`: name, journal by outcome,
--- bare seat), why a start is refused (`RefusesStart`), what a voucher proves (`IsOut`, `IsEndedWithToken`, `IsBirth`).
+-- bare seat at the run's table), why a start is refused (`RefusesStart`), what a voucher proves (`IsOut`, `IsEndedWithToken`,
+-- `IsBirth`).
+use base.Stored.{Gv}
+use Rattle.hart_calls.specs.ProcessCodes.{code_of}
 use Rattle.std.specs.Prelude.{◌≡◌, ◌⊎◌, ℕ, ◌+◌, ◌<◌, ◌≤◌, ◌∷◌, [], ◌++◌, cond, List, length, Some, Ok, Err, slice_get, Bool, true, false, ◌&&◌}
 use Rattle.address_space.specs.Steps.{IsBare}
 use Rattle.atomic_table.specs.Seated.{TableId}
 use Rattle.frame_store.specs.View.{View}
-use Rattle.shared_frames.specs.SeatsOfTable.{view_of}
+use Rattle.shared_frames.specs.SeatsOfTable.{FitsIn, view_of}
 use Rattle.process_model.specs.Frames.{start_need}
 use Rattle.process_model.specs.Images.{image_loads, LoadSegment}
 use Rattle.process_model.specs.declared.call.Outcome.{Outcome}
@@ -15,13 +18,13 @@ use Rattle.process_model.specs.declared.image.Image.{Image}
 use Rattle.process_model.specs.declared.step.Refusal.{Refusal}
 use Rattle.process_model.specs.declared.step.Refusal.TheVariants as refusal
 use Rattle.sv39_entry.specs.declared.scheme.Scheme.TheVariants.{Sv39}
-use Rattle.vouchers.specs.Entries.{TokenEntry as Life, entry, Has, same_name}
+use Rattle.vouchers.specs.Entries.{Birth, birth, TokenEntry as Life, entry, Has, nameless, same_name}
 use Rattle.vouchers.specs.IssuerSeats.{HoldsAt, held_of}
 use Rattle.hart_calls.specs.declared.journal_entry.JournalEntry.{JournalEntry}
 use Rattle.hart_calls.specs.declared.finished.Finished.{Finished}
 use Rattle.hart_calls.specs.Replay.{list_at, Replays}
 use Rattle.hart_calls.specs.TurnCases.{LacksJournalRoom, most_entries}
-use Rattle.hart_threads.specs.ChildLists.{child_lists}
+use Rattle.hart_threads.specs.Births.{began, births_of}
 use Rattle.hart_calls.specs.Track.{Track}
 use Rattle.process_model.specs.Process.{Process}
 use Rattle.process_model.specs.declared.call.Call.{Call}
@@ -32,31 +35,31 @@ use Rattle.hart_threads.specs.Starts.{IsProcessOf}
 use Rattle.hart_threads.specs.declared.roster.Admission.{Admission}
 use Rattle.hart_threads.specs.declared.roster.Admission.TheVariants as admission
 
--- one of the lives has this name and this list
-abbrev pub Knows : List Life → List ℕ → ℕ → Type 0
-Knows lives name list = (lists : List ℕ) × Has (entry name list lists) lives
+-- one of the lives has this name and began so
+abbrev pub Knows : List Life → List ℕ → Birth → Type 0
+Knows lives name b = (children : List Birth) × Has (entry name b children) lives
 
--- each child that a life has named is among the lives, with the list of its fork
+-- each child that a life has named is among the lives, and began as its fork says
 abbrev pub Closed : List Life → Type 0
-Closed lives = (l : Life) (j list : ℕ) → Has l lives → slice_get l.child_lists j ≡ Some list → Knows lives (l.name ++ j ∷ []) list
+Closed lives = (l : Life) (j : ℕ) (b : Birth) → Has l lives → slice_get l.children j ≡ Some b → Knows lives (l.name ++ j ∷ []) b
 
 -- the first n starts are among the lives, each with its number as name and with its list
 abbrev pub Started : List Start → ℕ → List Life → Type 0
-Started starts n lives = (i : ℕ) (s : Start) → i < n → slice_get starts i ≡ Some s → Knows lives (i ∷ []) s.list
+Started starts n lives = (i : ℕ) (s : Start) → i < n → slice_get starts i ≡ Some s → (opening : Gv) × Knows lives (i ∷ []) (birth s.list opening)
 
 -- the name is the number of this start
 abbrev pub IsOfStart : List Start → List ℕ → Start → Type 0
 IsOfStart starts name s = (i : ℕ) × (name ≡ i ∷ []) × (slice_get starts i ≡ Some s)
 
--- l is a child that m has named: m's name with the child's number after it, and the list of the fork
+-- l is a child that m has named: m's name with the child's number after it; it began as the fork says
 pub record IsChildOf (m l : Life) : Type 0 where
   pub number : ℕ
   pub name : l.name ≡ m.name ++ number ∷ []
-  pub list : slice_get m.child_lists number ≡ Some l.list
+  pub birth : slice_get m.children number ≡ Some l.birth
 
 -- l is a start with its list, or a child of one of the lives
 abbrev pub IsStartOrChild : List Start → List Life → Life → Type 0
-IsStartOrChild starts lives l = ((s : Start) × IsOfStart starts l.name s × (l.list ≡ s.list)) ⊎ ((m : Life) × Has m lives × IsChildOf m l)
+IsStartOrChild starts lives l = ((s : Start) × IsOfStart starts l.name s × (l.birth.list ≡ s.list)) ⊎ ((m : Life) × Has m lives × IsChildOf m l)
 
 -- each life that has a name is a start with its list, or a child of one of the lives; a slot that is kept for a fork has no
 -- name
@@ -104,15 +107,14 @@ RefusesStart image v r = ⊥
 abbrev pub BeginsAsImage : List Start → List ℕ → Process → Type 0
 BeginsAsImage starts name p = (s : Start) → IsOfStart starts name s → ∥ IsProcessOf s.image p ∥₁
 
--- the journal is of the first calls of the list, and replays from the process of the start's image; for a child, from some
--- process
-abbrev pub HasRun : List Start → List Call → List ℕ → List JournalEntry → Type 0
-HasRun starts calls name journal = (p q : Process) × BeginsAsImage starts name p × Replays p 0 0 calls journal q
+-- the journal is of the first calls of the list, and replays from the process with this code, which of a start is its image's
+abbrev pub HasRun : List Start → List Call → List ℕ → Gv → List JournalEntry → Type 0
+HasRun starts calls name opening journal = (p q : Process) × (code_of p ≡ opening) × BeginsAsImage starts name p × Replays p 0 0 calls journal q
 
--- `HasRun`, and at the end the journal has 10,000 entries or the process has a mapping (only pages of mappings are added to
--- the files' history)
-abbrev pub HasRunFull : List Start → List Call → List ℕ → List JournalEntry → Type 0
-HasRunFull starts calls name journal = (p q : Process) × BeginsAsImage starts name p × Replays p 0 0 calls journal q × LacksJournalRoom q.mappings journal outcome.JournalFull
+-- `HasRun`, and at the end the journal has 10,000 entries, or the process has a mapping and its next call asks a promise for
+-- which a history of the files has no room. v is the seat's view then
+abbrev pub HasRunFull : List Start → List Call → View → List ℕ → Gv → List JournalEntry → Type 0
+HasRunFull starts calls v name opening journal = (p q : Process) × (code_of p ≡ opening) × BeginsAsImage starts name p × Replays p 0 0 calls journal q × LacksJournalRoom v q calls journal outcome.JournalFull
 
 -- the reply does not end the process; `GoOn`: no reply of the journal does
 abbrev pub lets_go_on : Reply → Bool
@@ -131,35 +133,36 @@ GoOn es = all_go_on es ≡ true
 abbrev pub EndsIn : Reply → List JournalEntry → Type 0
 EndsIn r journal = (es : List JournalEntry) × (e : JournalEntry) × (journal ≡ es ++ e ∷ []) × (e.reply ≡ r) × GoOn es
 
--- the journal by the outcome: a process that was started has made the first calls of its list; only a start is refused, and
--- then it has made no call
-abbrev pub AsEnded : List Start → List Call → View → Outcome → List ℕ → List JournalEntry → Type 0
-AsEnded starts calls v (outcome.Exited status) name journal = HasRun starts calls name journal × EndsIn (reply.Exited status) journal
-AsEnded starts calls v (outcome.Ended rule) name journal = HasRun starts calls name journal × EndsIn (reply.Ended rule) journal
-AsEnded starts calls v (outcome.Refused r) name journal = (journal ≡ []) × ((s : Start) × IsOfStart starts name s × RefusesStart s.image v r)
-AsEnded starts calls v outcome.Memory name journal = HasRun starts calls name journal × GoOn journal
-AsEnded starts calls v outcome.JournalFull name journal = HasRunFull starts calls name journal × GoOn journal
+-- the journal by the outcome: a process that was started has made the first calls of its list; after Memory it has fewer
+-- than 10,000 entries; only a start is refused, and then it has made no call
+abbrev pub AsEnded : List Start → List Call → View → Outcome → List ℕ → Gv → List JournalEntry → Type 0
+AsEnded starts calls v (outcome.Exited status) name opening journal = HasRun starts calls name opening journal × EndsIn (reply.Exited status) journal
+AsEnded starts calls v (outcome.Ended rule) name opening journal = HasRun starts calls name opening journal × EndsIn (reply.Ended rule) journal
+AsEnded starts calls v (outcome.Refused r) name opening journal = (journal ≡ []) × ((s : Start) × IsOfStart starts name s × RefusesStart s.image v r)
+AsEnded starts calls v outcome.Memory name opening journal = HasRun starts calls name opening journal × GoOn journal × (length journal < most_entries)
+AsEnded starts calls v outcome.JournalFull name opening journal = HasRunFull starts calls v name opening journal × GoOn journal
 
 -- f is the end of life l, which may be a start that was refused: it has the name, its journal is as the outcome says and
--- names the life's children, and its seat holds nothing
-pub record IsEnded (lists : List (List Call)) (starts : List Start) (l : Life) (f : Finished) : Type 0 where
+-- names the life's children, and its seat is at this table and holds nothing
+pub record IsEnded (table : TableId) (lists : List (List Call)) (starts : List Start) (l : Life) (f : Finished) : Type 0 where
   pub name : f.name.items ≡ l.name
-  pub child_lists : child_lists f.journal.items ≡ l.child_lists
+  pub children : births_of f.journal.items ≡ l.children
+  pub seat : FitsIn table f.seat
   pub bare : IsBare (view_of f.seat)
-  pub ended : AsEnded starts (list_at lists l.list) (view_of f.seat) f.outcome l.name f.journal.items
+  pub ended : AsEnded starts (list_at lists l.birth.list) (view_of f.seat) f.outcome l.name l.birth.opening f.journal.items
   pub few : length f.journal.items ≤ most_entries
 
 -- the ends are those of the lives, one for each, in the same order
-abbrev pub Each : List (List Call) → List Start → List Life → List Finished → Type 0
-Each lists starts [] [] = Unit {0}
-Each lists starts (l ∷ ls) (f ∷ fs) = IsEnded lists starts l f × Each lists starts ls fs
-Each lists starts ls fs = ⊥
+abbrev pub Each : TableId → List (List Call) → List Start → List Life → List Finished → Type 0
+Each table lists starts [] [] = Unit {0}
+Each table lists starts (l ∷ ls) (f ∷ fs) = IsEnded table lists starts l f × Each table lists starts ls fs
+Each table lists starts ls fs = ⊥
 
 -- The processes are the ends of lives: of each start with its list, of each child that a journal names with the list of its
--- fork, and of no others. No two have one name.
-pub record ComesBack (lists : List (List Call)) (starts : List Start) (ended : List Finished) : Type 0 where
+-- fork and as `child_of` the process before the fork, and of no others. No two have one name. Each seat is at this table.
+pub record ComesBack (table : TableId) (lists : List (List Call)) (starts : List Start) (ended : List Finished) : Type 0 where
   pub lives : List Life
-  pub each : Each lists starts lives ended
+  pub each : Each table lists starts lives ended
   pub started : Started starts (length starts) lives
   pub children : Closed lives
   pub kin : (l : Life) → Has l lives → IsStartOrChild starts lives l
@@ -167,13 +170,13 @@ pub record ComesBack (lists : List (List Call)) (starts : List Start) (ended : L
 
 -- if a slot is kept, its voucher is of this table and has no name
 abbrev pub IsAdmitted : TableId → Admission → Type 0
-IsAdmitted token_table (admission.Kept v) = HoldsAt token_table v × (held_of v ≡ entry [] 0 [] ∷ [])
+IsAdmitted token_table (admission.Kept v) = HoldsAt token_table v × (held_of v ≡ nameless ∷ [])
 IsAdmitted token_table a = Unit {0}
 
--- an unfinished process and what its voucher has: its name, its list and the lists of its children. A start began as the
+-- an unfinished process and what its voucher has: its name, how it began and how its children began. A start began as the
 -- process of its image, and no call has ended the process
 pub record IsOut (all : List (List Call)) (starts : List Start) (held : List Life) (t : Track) : Type 0 where
-  pub holds : held ≡ entry t.name t.list (child_lists t.journal) ∷ []
+  pub holds : held ≡ entry t.name (began t) (births_of t.journal) ∷ []
   pub lists : t.lists ≡ all
   pub named : t.name ≡ [] → ⊥
   pub opens : BeginsAsImage starts t.name t.opening
@@ -181,14 +184,14 @@ pub record IsOut (all : List (List Call)) (starts : List Start) (held : List Lif
 
 -- an ended process and the life that its voucher has: it is the end of that life, which has a name, and its outcome is no
 -- refusal
-abbrev pub IsEndedWithToken : List (List Call) → List Start → List Life → Finished → Type 0
-IsEndedWithToken lists starts held f = (l : Life) × (held ≡ l ∷ []) × (l.name ≡ [] → ⊥) × IsEnded lists starts l f × Unrefused f.outcome
+abbrev pub IsEndedWithToken : TableId → List (List Call) → List Start → List Life → Finished → Type 0
+IsEndedWithToken table lists starts held f = (l : Life) × (held ≡ l ∷ []) × (l.name ≡ [] → ⊥) × IsEnded table lists starts l f × Unrefused f.outcome
 
 -- the parent has named the child, which the parent's voucher does not list yet
 pub record IsBirth (held : List Life) (parent child : Track) : Type 0 where
-  pub before : List ℕ
-  pub holds : held ≡ entry parent.name parent.list before ∷ []
+  pub before : List Birth
+  pub holds : held ≡ entry parent.name (began parent) before ∷ []
   pub named : parent.name ≡ [] → ⊥
-  pub journal : child_lists parent.journal ≡ before ++ child.list ∷ []
+  pub journal : births_of parent.journal ≡ before ++ began child ∷ []
   pub name : child.name ≡ parent.name ++ length before ∷ []
   pub none : child.journal ≡ []

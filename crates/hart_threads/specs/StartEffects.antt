@@ -16,7 +16,7 @@ use Rattle.process_model.specs.declared.call.Outcome.{Outcome}
 use Rattle.process_model.specs.declared.call.Outcome.TheVariants as outcome
 use Rattle.process_model.specs.declared.call.Start.{Start}
 use Rattle.process_model.specs.declared.step.Refusal.TheVariants as refusal
-use Rattle.shared_frames.specs.SeatsOfTable.{view_of}
+use Rattle.shared_frames.specs.SeatsOfTable.{FitsIn, view_of}
 
 -- which starts take a slot: those that have a process
 
@@ -61,10 +61,12 @@ IsWhy s v (outcome.Refused r) = RefusesStart s.image v r
 IsWhy s v outcome.Memory = (p : Process) × IsProcessOf s.image p
 IsWhy s v o = ⊥
 
--- f is the end of start s, which has no process, with `taken` of `slots` slots taken before it
-pub record IsUnbegun (slots taken : ℕ) (s : Start) (name : List ℕ) (f : Finished) : Type 0 where
+-- f is the end of start s, which has no process, with `taken` of `slots` slots taken before it; its seat is at this table and
+-- holds nothing
+pub record IsUnbegun (table : TableId) (slots taken : ℕ) (s : Start) (name : List ℕ) (f : Finished) : Type 0 where
   pub named : f.name.items ≡ name
   pub journal : f.journal.items ≡ []
+  pub seat : FitsIn table f.seat
   pub bare : IsBare (view_of f.seat)
   pub finds : FindsSlot slots taken f.outcome
   pub why : IsWhy s (view_of f.seat) f.outcome
@@ -72,7 +74,7 @@ pub record IsUnbegun (slots taken : ℕ) (s : Start) (name : List ℕ) (f : Fini
 -- the result of start `s` with this name, if `taken` of `slots` slots are taken
 abbrev pub IsStartResult : TableId → ℕ → ℕ → Start → List ℕ → StartResult → Type 0
 IsStartResult table slots taken s name (made.Begun called space opening) = (taken < slots) × (called.items ≡ name) × IsBegun table space.value opening × IsProcessOf s.image opening.state
-IsStartResult table slots taken s name (made.Over f) = IsUnbegun slots taken s name f
+IsStartResult table slots taken s name (made.Over f) = IsUnbegun table slots taken s name f
 
 -- the results of the starts from number n on, if `taken` of `slots` slots are taken before them
 abbrev pub AreStartResults : TableId → ℕ → List Start → ℕ → ℕ → List StartResult → Type 0

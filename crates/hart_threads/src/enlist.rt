@@ -1,7 +1,7 @@
 // `Enlister` (struct): what the starts of a run share when they are enlisted; `enlist_all` enters each start's result on the
 // roster (list of unfinished and ended processes) and puts the process, if there is one, into the run queue.
 
-ghost use Rattle.std.specs.Prelude.{◌≡◌, ◌-◌, ◌<◌, ◌∷◌, [], All, Some, length, slice_get, take};
+ghost use Rattle.std.specs.Prelude.{◌≡◌, ◌+◌, ◌-◌, ◌<◌, ◌∷◌, [], All, cond, Some, length, slice_get, take};
 ghost use Rattle.hart_calls.specs.Track.{NameLists};
 ghost use Rattle.hart_threads.specs.StartEffects.{any_full, AreStartResults, IsFullKnown, IsStartResult, slots_of, takes_slot};
 ghost use Rattle.hart_threads.specs.Slots.{count};
@@ -40,14 +40,18 @@ impl<'r, 'a, B: Plan, R: Wait> Enlister<'r, 'a, B, R> {
         start: Start<'_>,
         place: usize,
     )
-        requires made { IsStartResult B.table F.slots (count (take (length B.plan - roster.old) F.taken)) start ((length B.plan - roster.old) ∷ []) made }
-        requires taken { slice_get F.taken (length B.plan - roster.old) ≡ Some (takes_slot made) }
+        requires made { IsStartResult B.table F.slots (count (take (length B.plan - roster.old.left) F.taken)) start ((length B.plan - roster.old.left) ∷ []) made }
+        requires taken { slice_get F.taken (length B.plan - roster.old.left) ≡ Some (takes_slot made) }
         requires full { IsFullKnown F.full made }
         requires list { start.list < length self.now.lists.now }
-        requires start { slice_get B.plan (length B.plan - roster.old) ≡ Some start }
+        requires start { slice_get B.plan (length B.plan - roster.old.left) ≡ Some start }
         requires named { NameLists self.now.lists.now }
-        requires left { 0 < roster.old }
-        ensures left { roster.new ≡ roster.old - 1 }
+        requires left { 0 < roster.old.left }
+        requires slots { roster.old.slots ≡ F.slots }
+        requires out { roster.old.out ≡ count (take (length B.plan - roster.old.left) F.taken) }
+        ensures left { roster.new.left ≡ roster.old.left - 1 }
+        ensures slots { roster.new.slots ≡ roster.old.slots }
+        ensures out { roster.new.out ≡ roster.old.out + cond (takes_slot made.entry) 1 0 }
     {
         match made {
             StartResult::Begun {
@@ -55,7 +59,7 @@ impl<'r, 'a, B: Plan, R: Wait> Enlister<'r, 'a, B, R> {
                 space,
                 opening,
             } => {
-                let token = roster.start(self.token_table, name.as_slice(), start.list);
+                let token = roster.start(self.token_table, name.as_slice(), start.list, &opening);
                 let tracked = Tracked::<B>::new(
                     self.alloc, opening, space, name, self.lists, start.list,
                 );
@@ -79,7 +83,9 @@ impl<'r, 'a, B: Plan, R: Wait> Enlister<'r, 'a, B, R> {
         requires lists { All (λ start. start.list < length self.now.lists.now) starts.now }
         requires named { NameLists self.now.lists.now }
         requires of_starts { starts.now ≡ B.plan }
-        requires left { roster.old ≡ length starts.now }
+        requires left { roster.old.left ≡ length starts.now }
+        requires slots { roster.old.slots ≡ F.slots }
+        requires none_out { roster.old.out ≡ 0 }
     {
         'starts: for number in 0..starts.len() {
             let Some(made) = all.pop_front() else {

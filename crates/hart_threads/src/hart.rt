@@ -8,7 +8,7 @@ ghost use Rattle.hart_calls.specs.TurnResults.{HasTurned};
 ghost use Rattle.hart_calls.specs.TurnCases.{IsNamed};
 ghost use Rattle.hart_threads.specs.Due.{IsDue, IsNone};
 ghost use Rattle.hart_threads.specs.RosterState.{IsEndedWithToken, IsOut};
-ghost use Rattle.vouchers.specs.Entries.{entry};
+ghost use Rattle.vouchers.specs.Entries.{nameless};
 ghost use Rattle.vouchers.specs.IssuerSeats.{HoldsAt, held_of};
 
 use crate::gate::Gate;
@@ -62,7 +62,7 @@ impl<'r, 'a, B: Plan, F: StartOutcomes, R: Wait, G: Gate> HartThread<'r, 'a, B, 
         ensures store { store.new ≡ B.table }
         ensures same { tracked.new ≡ tracked.old }
         ensures at { IfOk result (λ r. HoldsAt B.token_table r.0) }
-        ensures slot { IfOk result (λ r. held_of r.0 ≡ entry [] 0 [] ∷ []) }
+        ensures slot { IfOk result (λ r. held_of r.0 ≡ nameless ∷ []) }
         ensures name { IfOk result (λ r. r.1.items ≡ child_name tracked.old) }
         ensures none { IfErr result (λ slot. IsNone slot) }
     {
@@ -113,7 +113,7 @@ impl<'r, 'a, B: Plan, F: StartOutcomes, R: Wait, G: Gate> HartThread<'r, 'a, B, 
         requires store { store.old ≡ B.table }
         requires slot { IsNamed slot (child_name tracked) }
         ensures store { store.new ≡ B.table }
-        ensures turned { HasTurned tracked.entry result slot }
+        ensures turned { HasTurned B.table tracked.entry result slot }
     {
         if tracked.needs_files() {
             let mut shelf = self.shelf.lock(self.rt);
@@ -138,7 +138,7 @@ impl<'r, 'a, B: Plan, F: StartOutcomes, R: Wait, G: Gate> HartThread<'r, 'a, B, 
         requires store { store.old ≡ B.table }
         requires at { HoldsAt B.token_table token × HoldsAt B.token_table slot }
         requires out { IsOut B.lists B.plan (held_of token) tracked }
-        requires slot { held_of slot ≡ entry [] 0 [] ∷ [] }
+        requires slot { held_of slot ≡ nameless ∷ [] }
         requires name { name.items ≡ child_name tracked }
         ensures store { store.new ≡ B.table }
         ensures due { IsDue result }
@@ -217,12 +217,12 @@ impl<'r, 'a, B: Plan, F: StartOutcomes, R: Wait, G: Gate> HartThread<'r, 'a, B, 
     /// Returns an ended process and its voucher to the roster.
     #[inline(never)]
     fn finish(&self, gone: EndedJob<'a, B>)
-        requires back { IsEndedWithToken B.lists B.plan (held_of gone.token) gone.finished }
+        requires back { IsEndedWithToken B.table B.lists B.plan (held_of gone.token) gone.finished }
     {
         let EndedJob {
             finished,
             token,
-            ..
+            of: _,
         } = gone;
         self.roster
             .lock(self.rt)

@@ -1,7 +1,9 @@
 // `Job` (struct): an unfinished process with its voucher (a linear token which proves that the roster, the list of
 // processes, has it); `access_at_once` and `access_served` make its next call in place. `EndedJob` (struct): an ended
-// process with the voucher to return. `JobStep` (enum): which of the two a call leaves.
+// process with the voucher to return. `JobStep` (enum): which of the two a call leaves. None of these may be dropped.
 
+ghost use base.Stored.{Gv-set};
+ghost use denote.Struct.Props.{props};
 ghost use Rattle.std.specs.Prelude.{◌≡◌};
 ghost use Rattle.hart_threads.specs.RosterState.{IsOut};
 ghost use Rattle.vouchers.specs.IssuerSeats.{HoldsAt, held_of};
@@ -13,13 +15,13 @@ use std::marker::PhantomData;
 use std::sync::Wait;
 use vouchers::Token;
 
-/// An unfinished process and its voucher, as they are in the run queue or on a hart.
-#[derive(Drop)]
+/// An unfinished process and its voucher, as a hart has them. It is not `Drop`: who has a job must run it or put it into the
+/// queue.
 pub(crate) struct Job<'a, B: Plan> {
     pub(crate) tracked: Tracked<'a, B>,
     pub(crate) token: Token,
     ghost at: { HoldsAt B.token_table token },
-    ghost out: { IsOut B.lists B.plan (held_of token) tracked },
+    ghost out: { IsOut B.lists B.plan (held_of token) tracked } by { Prim.hlevel (props, Gv-set) },
 }
 
 impl<'a, B: Plan> Job<'a, B> {
@@ -42,8 +44,7 @@ impl<'a, B: Plan> Job<'a, B> {
     }
 }
 
-/// An ended process and the voucher that it had, which the hart has to return to the roster.
-#[derive(Drop)]
+/// An ended process and the voucher that it had, which the hart has to return to the roster. It is not `Drop`.
 pub(crate) struct EndedJob<'a, B: Plan> {
     pub(crate) finished: Finished<'a>,
     pub(crate) token: Token,
@@ -52,7 +53,6 @@ pub(crate) struct EndedJob<'a, B: Plan> {
 }
 
 /// What one call leaves of a job.
-#[derive(Drop)]
 pub(crate) enum JobStep<'a, B: Plan> {
     /// The process continues.
     Continues(Job<'a, B>),

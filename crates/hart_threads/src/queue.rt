@@ -1,17 +1,18 @@
 // The run queue: `Part`, a queue of jobs (unfinished processes) under a lock, one for each hart; `parts_for` allocates them,
 // `take` pops a job from the hart's own part or else from another, `put` appends one to a part that has room, `exchange` puts
-// one back into the hart's own part and takes the next.
+// one back into the hart's own part and takes the next. No contract names what is in a part, since other harts change it as
+// soon as its lock is released: that no job is lost or doubled follows from the types, as a `Job` is neither `Drop` nor `Copy`.
 
 use crate::job::Job;
+use crate::job_queue::JobQueue;
 use crate::plan::Plan;
 use crossbeam_utils::CachePadded;
 use std::alloc::{AllocError, Global};
-use std::collections::VecDeque;
 use std::sync::{Mutex, Wait};
 
 /// One part of the run queue, under its lock. No other part is on its cache lines, so a hart that locks its own part does
 /// not slow down the others.
-pub(crate) type Part<'a, B> = Mutex<CachePadded<VecDeque<Job<'a, B>>>>;
+pub(crate) type Part<'a, B> = Mutex<CachePadded<JobQueue<'a, B>>>;
 
 /// Makes a part for each hart, at least one, each with room for `slots` jobs.
 ///
@@ -24,7 +25,7 @@ pub(crate) fn parts_for<'a, B: Plan>(
 ) -> Result<Vec<Part<'a, B>>, AllocError> {
     let mut parts = Vec::new(alloc);
     'parts: for _ in 0..harts.max(1) {
-        let jobs = VecDeque::with_capacity(alloc, slots)?;
+        let jobs = JobQueue::with_room(alloc, slots)?;
         parts.push(Mutex::new(CachePadded::new(jobs)))?;
     }
     Ok(parts)
@@ -39,8 +40,9 @@ pub(crate) fn take<'a, B: Plan, R: Wait>(
 ) -> Option<Job<'a, B>> {
     'parts: for k in 0..parts.len() {
         let part = &parts[(hart % parts.len() + k) % parts.len()];
-        if let Some(job) = part.lock(rt).pop_front() {
-            return Some(job);
+        match part.lock(rt).pop() {
+            Some(job) => return Some(job),
+            None => {}
         }
     }
     None
@@ -61,12 +63,13 @@ pub(crate) fn put<'a, B: Plan, R: Wait>(
             continue;
         }
         place %= parts.len();
-        match parts[place].lock(rt).push_back(left) {
+        match parts[place].lock(rt).push(left) {
             Ok(()) => return,
-            Err(full) => left = full.value,
+            Err(job) => left = job,
         }
         place += 1;
     }
+    unreachable!()
 }
 
 /// Puts a job back into the hart's own part, behind its other jobs, and takes the first of these, under one lock. Returns the
@@ -81,12 +84,16 @@ pub(crate) fn exchange<'a, B: Plan, R: Wait>(
         return job;
     };
     let mut part = part.lock(rt);
-    let Some(next) = part.pop_front() else {
-        return job;
+    let next = match part.pop() {
+        Some(next) => next,
+        None => return job,
     };
-    if let Err(full) = part.push_back(job) {
-        drop(part);
-        put(rt, parts, hart, full.value);
+    match part.push(job) {
+        Ok(()) => {}
+        Err(job) => {
+            drop(part);
+            put(rt, parts, hart, job);
+        }
     }
     next
 }

@@ -158,11 +158,12 @@ fn run_made<
     requires none { given_of issuer ≡ [] }
     requires none_ended { ends.items ≡ [] }
     requires room { vec_len ends + length starts.now ≤ vec_capacity ends }
+    requires slots { slots ≡ F.slots }
     requires made { AreStartResults B.table F.slots starts.now 0 0 all.old.items }
     requires all { length all.old.items ≡ length starts.now }
     requires taken { F.taken ≡ slots_of all.old.items }
     requires full { F.full ≡ any_full all.old.items }
-    ensures back { ComesBack B.lists B.plan result.items }
+    ensures back { ComesBack B.table B.lists B.plan result.items }
     ensures settled { All (MatchesSlots F.slots F.taken F.full) result.items }
 {
     let mut roster = Roster::<B, F>::with_room(ends, issuer, slots, starts.len());
@@ -222,7 +223,7 @@ fn run_in<'a, B: Plan + Send + Sync, R: Threads + Wait + Sync, G: Gate + Sync>(
     requires named { NameLists lists.now }
     requires fits { FitsIn B.table kernel.old }
     requires anchored { IsHeld (view_of kernel.old) 0 }
-    ensures back { IfOk result (λ all. ComesBack B.lists B.plan all.items) }
+    ensures back { IfOk result (λ all. ComesBack B.table B.lists B.plan all.items) }
     ensures slots { IfOk result (λ all. AreSlotted slots all.items) }
     ensures full { IfOk result (λ all. All (λ f. OnFull (HasReadFull (view_of kernel.old) (view_of kernel.new)) f.outcome) all.items) }
     ensures memory { IfErr result (λ _. kernel.new ≡ kernel.old) }
@@ -267,8 +268,9 @@ fn run_in<'a, B: Plan + Send + Sync, R: Threads + Wait + Sync, G: Gate + Sync>(
 ///
 /// Returns each process that was started, and each child that a journal names, once, as it ended, and no other. Its journal
 /// has the first calls of its list, which is that of its start or of its parent's fork; the last entry says how it ended,
-/// except after `Memory` and `JournalFull`; its seat holds nothing. A start that was refused is returned too, with an empty
-/// journal.
+/// except after `Memory` and `JournalFull`. After `Memory` there are fewer than 10,000 entries; after `JournalFull` there are
+/// 10,000, or the process has a mapping and its next call asks a promise for which a history of files has no room. Its seat
+/// is still at the table of `frames`, and holds nothing. A start that was refused is returned too, with an empty journal.
 ///
 /// A start is refused with `NoSlot` exactly when at least `slots` of the starts before it took a slot. A start whose process
 /// made a call took one, and one that was refused took none; nothing is said of a process that ended with `Memory` before
@@ -296,7 +298,7 @@ pub fn run_harts<'a, R: Threads + Wait + Sync, G: Gate + Sync>(
     requires named { NameLists lists.now }
     requires fits { FitsIn frames.now.table kernel.old }
     requires anchored { IsHeld (view_of kernel.old) 0 }
-    ensures back { IfOk result (λ all. ComesBack lists.entry.now starts.now all.items) }
+    ensures back { IfOk result (λ all. ComesBack frames.now.table lists.entry.now starts.now all.items) }
     ensures slots { IfOk result (λ all. AreSlotted slots all.items) }
     ensures full { IfOk result (λ all. All (λ f. OnFull (HasReadFull (view_of kernel.old) (view_of kernel.new)) f.outcome) all.items) }
     ensures memory { IfErr result (λ _. kernel.new ≡ kernel.old) }

@@ -27,6 +27,7 @@ use sv39_entry::{FrameNo, Scheme};
 fn empty_seat<R: Wait>(store: &mut SharedSupply<'_, R>, kernel: &mut SharedSeat) -> SharedSeat
     requires fits { FitsIn store.old kernel.old }
     requires anchored { IsHeld (view_of kernel.old) 0 }
+    ensures fits_new { FitsIn store.old result }
     ensures bare { IsBare (view_of result) }
     ensures view { view_of kernel.new ≡ view_of kernel.old }
     ensures store { store.new ≡ store.old }
@@ -39,6 +40,7 @@ fn empty_seat<R: Wait>(store: &mut SharedSupply<'_, R>, kernel: &mut SharedSeat)
 fn release_seat<R: Wait>(store: &mut SharedSupply<'_, R>, mut seat: SharedSeat) -> SharedSeat
     requires fits { FitsIn store.old seat }
     requires seat { HoldsTrampoline (view_of seat) }
+    ensures fits { FitsIn store.old result }
     ensures bare { IsBare (view_of result) }
     ensures tallies { (view_of result).tallies ≡ (view_of seat).tallies }
     ensures store { store.new ≡ store.old }
@@ -80,6 +82,7 @@ fn built<R: Wait>(
     requires seat { HoldsTrampoline (view_of seat) }
     ensures built { IfOk result (λ r. IsBegun store.old r.0 r.1) }
     ensures process { IfOk result (λ r. r.1.state ≡ process_of image.now.scheme 0 image.now.loads) }
+    ensures fits { IfErr result (λ seat. FitsIn store.old seat) }
     ensures bare { IfErr result (λ seat. IsBare (view_of seat)) }
     ensures dry { IfErr result (λ seat. (0 < (view_of seat).tallies.zeros) × ((view_of seat).tallies.short < start_need image.now.scheme image.now.loads)) }
     ensures store { store.new ≡ store.old }
@@ -102,6 +105,7 @@ pub(crate) fn end_unstarted<'a, R: Wait>(
     ensures name { result.name.items ≡ name.items }
     ensures journal { result.journal.items ≡ [] }
     ensures outcome { result.outcome ≡ outcome.Memory }
+    ensures fits { FitsIn store.old result.seat }
     ensures bare { IsBare (view_of result.seat) }
     ensures store { store.new ≡ store.old }
 {
@@ -135,6 +139,7 @@ pub(crate) fn started<R: Wait>(
     ensures begins { IfOk result (λ _. (has_slot ≡ true) × ((view_of kernel.new).tallies.looks ≡ (view_of kernel.old).tallies.looks)) }
     ensures refused { IfErr result (λ e. IsRefusedStart has_slot image.entry (view_of kernel.old) (view_of kernel.new) e.0) }
     ensures why { IfErr result (λ e. RefusesStart image.entry (view_of e.1) e.0) }
+    ensures seat { IfErr result (λ e. FitsIn store.old e.1) }
     ensures bare { IfErr result (λ e. IsBare (view_of e.1)) }
     ensures lends { Lends (view_of kernel.old) (view_of kernel.new) }
     ensures store { store.new ≡ store.old }

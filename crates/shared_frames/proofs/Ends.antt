@@ -1,6 +1,7 @@
 -- Lemmas: a new table of shared frames, with its first seat, meets the invariant (`begins`); what is read as it is closed
 -- are its totals (`totals`); if the closing seat has all references to frame 0, the frames of count 0 and those that it
--- holds are all frames (`final`).
+-- holds are all frames (`final`); if it also has a credit for each frame of count 0, no other seat has anything
+-- (`last_totals`).
 use Rattle.std.proofs.Common.{◌≡◌, ◌≢◌, inl, inr, ℕ, zero, suc, ◌+◌, ◌-◌, ◌*◌, ◌<◌, ◌≤◌, List, [], ◌∷◌, length, get_or, set, replicate, refl, sym, ap, ◌∙◌, subst, arith, get_or-set_same, get_or-set_other, length-set, lit<}
 use Rattle.std.proofs.lemmas.Bool.Decides.{eqb_tells}
 use Rattle.std.proofs.lemmas.List.{get_or-replicate}
@@ -9,12 +10,12 @@ use Rattle.std.specs.Ordering.{nat_cmp}
 use mathlib.Core.Option.{some, some-ne-none, some-injective}
 use lib.ListN.{get_elem?, length-replicate}
 use Rattle.atomic_table.specs.Table.{Final, Seen}
-use Rattle.frame_store.specs.View.{View, Hold, hold_of, not_held, sole_hold, references, IsHeld, empty_view, opening_view}
+use Rattle.frame_store.specs.View.{View, Hold, hold_of, not_held, sole_hold, references, IsHeld, IsSole, empty_view, opening_view}
 use Rattle.frame_store.specs.Holds.{hold_of-with_hold_same, hold_of-with_hold_other, hold_of-empty}
 use Rattle.shared_frames.specs.Rule.{count_at, all_references, one_at_zero, zero_counts, FrameAgrees, ViewAgrees, IsSharedRule, Kept}
-use Rattle.shared_frames.specs.Totals.{AreTotals, first_words, held_frames}
+use Rattle.shared_frames.specs.Totals.{AreTotals, AreLastTotals, first_words, held_frames}
 use Rattle.shared_frames.specs.SeatsOfTable.{FrameFits, IsWithin}
-use Rattle.shared_frames.proofs.Sums.{total-two, total-lone}
+use Rattle.shared_frames.proofs.Sums.{total-one, total-two, total-lone}
 use Rattle.shared_frames.proofs.Zeros.{one_at_zero-le}
 use Rattle.shared_frames.proofs.Changes.{not_held_agrees}
 use Rattle.shared_frames.proofs.Within.{not_held_fits}
@@ -106,17 +107,19 @@ module _ (n : ℕ) (some_frame : 1 ≤ n) (few : n ≤ 256) where
 -- ---- the end
 module _ (n : ℕ) (words : List ℕ) (views : List View) (k : IsSharedRule n words views) (id : ℕ) (v : View) (at : get_elem? views id ≡ some v) (own : get_or words 1 0 ≡ references v 0) where
   -- no other seat has a reference of frame 0, so that none has any
+  none : (f j : ℕ) (u : View) → j ≢ id → get_elem? views j ≡ some u → references u f ≡ 0
+  none f j u ne e = elim (eqb_tells (references u f) 0) as (λ _. references u f ≡ 0) [
+    | inl z ↦ z.1
+    | inr z ↦ absurd (
+        let more : references u f ≢ 0 = z.1 in
+        let h = (k.agrees j u e).anchored f (omega (arith, more)) in
+        let two = total-two (λ x. references x 0) views j id u v ne e at in
+        let l = (k.agrees j u e).within 0 h in
+        let c = k.counted 0 l in omega (arith, h, two, c, own))
+  ]
+
   alone : (f : ℕ) → all_references f views ≡ references v f
-  alone f = total-lone (λ u. references u f) views id v at (λ j u ne e.
-      elim (eqb_tells (references u f) 0) as (λ _. references u f ≡ 0) [
-        | inl z ↦ z.1
-        | inr z ↦ absurd (
-            let more : references u f ≢ 0 = z.1 in
-            let h = (k.agrees j u e).anchored f (omega (arith, more)) in
-            let two = total-two (λ x. references x 0) views j id u v ne e at in
-            let l = (k.agrees j u e).within 0 h in
-            let c = k.counted 0 l in omega (arith, h, two, c, own))
-      ])
+  alone f = total-lone (λ u. references u f) views id v at (λ j u ne e. none f j u ne e)
 
   ends : (m : ℕ) → m ≤ n → zero_counts words m + held_frames m v ≡ m
   ends zero l = omega arith
@@ -124,6 +127,35 @@ module _ (n : ℕ) (words : List ℕ) (views : List View) (k : IsSharedRule n wo
       let r = ends m (omega arith) in
       let b : one_at_zero (get_or words (count_at m) 0) ≡ one_at_zero (references v m) = ap one_at_zero (k.counted m (omega arith) ∙ alone m) in
       let s = one_at_zero-le (references v m) in omega (arith, r, b, s)
+
+  -- nor has another a credit, if the closing seat has one for each frame that it does not hold
+  module _ (full : n ≤ held_frames n v + v.credits) where
+    no_credit : (j : ℕ) (u : View) → j ≢ id → get_elem? views j ≡ some u → u.credits ≡ 0
+    no_credit j u ne e =
+        let two = total-two (λ x. x.credits) views j id u v ne e at in
+        omega (arith, two, k.balanced, ends n (omega arith), full)
+
+    all_credit : zero_counts words n ≡ v.credits
+    all_credit =
+        let one = total-one (λ x. x.credits) views id v at in
+        omega (arith, one, k.balanced, ends n (omega arith), full)
+
+-- a sole holder of frame 0 has all references to it
+sole_count : (n : ℕ) (words : List ℕ) (views : List View) → IsSharedRule n words views → (id : ℕ) (v : View) → get_elem? views id ≡ some v → IsSole v 0 → get_or words 1 0 ≡ references v 0
+sole_count n words views k id v at sole =
+    let agreed = k.agrees id v at in
+    let h = (agreed.frames 0).sole sole in
+    k.counted 0 (agreed.within 0 h.0) ∙ h.1
+
+-- the closing seat has all frames
+pub last_totals : (n : ℕ) (v : View) (free trampoline : ℕ) → AreTotals n v free trampoline → IsSole v 0 → n ≤ held_frames n v + v.credits → AreLastTotals n v free trampoline
+last_totals n v free trampoline t sole full =
+    let own : get_or t.words 1 0 ≡ references v 0 = sole_count n t.words t.views t.kept t.seated.0 v t.seated.1 sole in record {
+      totals = t;
+      others = λ j u ne e. ((λ f. none n t.words t.views t.kept t.seated.0 v t.seated.1 own f j u ne e), no_credit n t.words t.views t.kept t.seated.0 v t.seated.1 own full j u ne e);
+      reserved = t.unheld ∙ all_credit n t.words t.views t.kept t.seated.0 v t.seated.1 own full;
+      own = t.base ∙ own;
+    }
 
 pub final : (n : ℕ) (ws : List ℕ) (xs : List (Unit {0})) (id : ℕ) (v : View) → Final (Seen (Kept n) id v) ws xs → get_or ws 1 0 ≡ references v 0 → zero_counts ws n + held_frames n v ≡ n
 final n ws xs id v last own = let s = last.0 in let h = last.1 in let is = last.2 in

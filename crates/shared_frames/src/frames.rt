@@ -4,11 +4,11 @@
 
 ghost use Rattle.std.specs.Prelude.{◌≡◌, ℕ, ◌+◌, ◌-◌, ◌*◌, ◌<◌, ◌≤◌, [], IfOk};
 ghost use Rattle.std.specs.Slots.{IsFull, slots_items, slots_len};
-ghost use Rattle.frame_store.specs.View.{opening_view, references};
+ghost use Rattle.frame_store.specs.View.{IsSole, opening_view, references};
 ghost use Rattle.shared_frames.specs.SeatsOfTable.{FitsIn, IsSized, view_of};
 ghost use Rattle.shared_frames.specs.Pool.{Pool};
 ghost use Rattle.shared_frames.specs.Rule.{zero_counts};
-ghost use Rattle.shared_frames.specs.Totals.{AreTotals, first_words, held_frames};
+ghost use Rattle.shared_frames.specs.Totals.{AreLastTotals, AreTotals, first_words, held_frames};
 
 use crate::access::SharedAccess;
 use crate::seat::{Knowledge, SharedSeat};
@@ -89,12 +89,16 @@ impl SharedFrames {
 
     /// Closes the table with `seat`, which must be at this table, frees its memory, and returns the totals of its last
     /// reference counts. If the count of frame 0 is the number of references that the seat has to it, then no other seat
-    /// holds a frame: `held` is how many frames this seat holds.
+    /// holds a frame: `held` is how many frames this seat holds. If the seat is known to be the sole holder of frame 0 and has
+    /// a credit for each frame that it does not hold, then no other seat has anything: `last` says this of the seats, and
+    /// `free` frames are exactly those reserved for this seat.
     pub fn close(self, seat: SharedSeat) -> Totals
         requires { FitsIn self.table seat }
         ensures totals { AreTotals self.frames (view_of seat) result.free result.trampoline }
         ensures all { result.free + result.held ≡ self.frames }
         ensures alone { result.trampoline ≡ references (view_of seat) 0 → result.held ≡ held_frames self.frames (view_of seat) }
+        ensures last { IsSole (view_of seat) 0 → self.frames ≤ held_frames self.frames (view_of seat) + (view_of seat).credits
+            → AreLastTotals self.frames (view_of seat) result.free result.trampoline }
     {
         let SharedFrames { table, frames } = self;
         let SharedSeat { seat } = seat;

@@ -1,10 +1,11 @@
 -- Laws of lists of entries (each describes an unfinished process), for the crates above: the test `same` is true if and
 -- only if two entries are equal; what is in a list without the first occurrence of an entry (`without`), and how long it
 -- is; what is in two lists appended.
+use base.Stored.{Gv, gcons, gnil, gnum}
 use Rattle.std.proofs.Common.{◌≡◌, ◌⊎◌, inl, inr, ℕ, ◌+◌, ◌==◌, Bool, true, false, cond, List, [], ◌∷◌, ◌++◌, length, refl, sym, ap, ◌∙◌, subst, arith}
 use Rattle.std.specs.Prelude.{◌&&◌}
 use Rattle.std.proofs.lemmas.Bool.Decides.{eqb_tells}
-use Rattle.vouchers.specs.Entries.{TokenEntry, entry, same, same_name, without, Has}
+use Rattle.vouchers.specs.Entries.{Birth, birth, TokenEntry, entry, same, same_birth, same_births, same_name, same_opening, without, Has}
 
 name_is : (xs ys : List ℕ) → same_name xs ys ≡ true → xs ≡ ys
 name_is [] [] e = refl
@@ -19,30 +20,74 @@ both : (x y : Bool) → x && y ≡ true → (x ≡ true) × (y ≡ true)
 both true y e = (refl, e)
 both false y e = absurd (let no : false ≡ true = e in cc)
 
-pub same_is : (a b : TokenEntry) → same a b ≡ true → a ≡ b
-same_is a b e = elim (eqb_tells a.list b.list) as (λ _. a ≡ b) [
+opening_is : (a b : Gv) → same_opening a b ≡ true → a ≡ b
+opening_is gnil gnil e = refl
+opening_is (gnum m) (gnum n) e = elim (eqb_tells m n) as (λ _. gnum m ≡ gnum n) [
+  | inl t ↦ ap gnum t.1
+  | inr t ↦ absurd (let no : false ≡ true = sym t.0 ∙ e in cc)
+]
+opening_is (gcons a b) (gcons c d) e =
+    let two = both (same_opening a c) (same_opening b d) e in
+    ap (λ (x : Gv). gcons x b) (opening_is a c two.0) ∙ ap (λ (y : Gv). gcons c y) (opening_is b d two.1)
+opening_is gnil (gnum n) e = absurd (cc)
+opening_is gnil (gcons c d) e = absurd (cc)
+opening_is (gnum m) gnil e = absurd (cc)
+opening_is (gnum m) (gcons c d) e = absurd (cc)
+opening_is (gcons a b) gnil e = absurd (cc)
+opening_is (gcons a b) (gnum n) e = absurd (cc)
+
+birth_is : (a b : Birth) → same_birth a b ≡ true → a ≡ b
+birth_is a b e = elim (eqb_tells a.list b.list) as (λ _. a ≡ b) [
   | inl t ↦
-      (let rest : same_name a.child_lists b.child_lists && same_name a.name b.name ≡ true = sym (ap (λ q. q && (same_name a.child_lists b.child_lists && same_name a.name b.name)) t.0) ∙ e in
-      let two = both (same_name a.child_lists b.child_lists) (same_name a.name b.name) rest in
-      entry_is (name_is a.name b.name two.1) t.1 (name_is a.child_lists b.child_lists two.0))
-  | inr t ↦ absurd (let no : false ≡ true = sym (ap (λ q. q && (same_name a.child_lists b.child_lists && same_name a.name b.name)) t.0) ∙ e in cc)
+      (let rest : same_opening a.opening b.opening ≡ true = sym (ap (λ (q : Bool). q && same_opening a.opening b.opening) t.0) ∙ e in
+      parts_are t.1 (opening_is a.opening b.opening rest))
+  | inr t ↦ absurd (let no : false ≡ true = sym (ap (λ (q : Bool). q && same_opening a.opening b.opening) t.0) ∙ e in cc)
 ]
   where
-    entry_is : a.name ≡ b.name → a.list ≡ b.list → a.child_lists ≡ b.child_lists → entry a.name a.list a.child_lists ≡ entry b.name b.list b.child_lists
-    entry_is n l h = ap (λ m. entry m a.list a.child_lists) n ∙ (ap (λ k. entry b.name k a.child_lists) l ∙ ap (λ k. entry b.name b.list k) h)
+    parts_are : a.list ≡ b.list → a.opening ≡ b.opening → birth a.list a.opening ≡ birth b.list b.opening
+    parts_are l o = ap (λ k. birth k a.opening) l ∙ ap (λ g. birth b.list g) o
+
+births_are : (xs ys : List Birth) → same_births xs ys ≡ true → xs ≡ ys
+births_are [] [] e = refl
+births_are [] (y ∷ ys) e = absurd (cc)
+births_are (x ∷ xs) [] e = absurd (cc)
+births_are (x ∷ xs) (y ∷ ys) e =
+    let two = both (same_birth x y) (same_births xs ys) e in
+    ap (λ (b : Birth). b ∷ xs) (birth_is x y two.0) ∙ ap (λ (bs : List Birth). y ∷ bs) (births_are xs ys two.1)
+
+pub same_is : (a b : TokenEntry) → same a b ≡ true → a ≡ b
+same_is a b e =
+    let one = both (same_birth a.birth b.birth) (same_births a.children b.children && same_name a.name b.name) e in
+    let two = both (same_births a.children b.children) (same_name a.name b.name) one.1 in
+    entry_is (name_is a.name b.name two.1) (birth_is a.birth b.birth one.0) (births_are a.children b.children two.0)
+  where
+    entry_is : a.name ≡ b.name → a.birth ≡ b.birth → a.children ≡ b.children → entry a.name a.birth a.children ≡ entry b.name b.birth b.children
+    entry_is n l h = ap (λ m. entry m a.birth a.children) n ∙ (ap (λ k. entry b.name k a.children) l ∙ ap (λ k. entry b.name b.birth k) h)
+
+number_same : (n : ℕ) → (n == n) ≡ true
+number_same n = elim (eqb_tells n n) as (λ _. (n == n) ≡ true) [
+  | inl t ↦ t.0
+  | inr t ↦ absurd (t.1 refl)
+]
 
 name_same : (xs : List ℕ) → same_name xs xs ≡ true
 name_same [] = refl
-name_same (x ∷ xs) = elim (eqb_tells x x) as (λ _. ((x == x) && same_name xs xs) ≡ true) [
-  | inl t ↦ rw t.0 (name_same xs)
-  | inr t ↦ absurd (t.1 refl)
-]
+name_same (x ∷ xs) = rw (number_same x) (name_same xs)
+
+opening_same : (a : Gv) → same_opening a a ≡ true
+opening_same gnil = refl
+opening_same (gnum n) = number_same n
+opening_same (gcons a b) = rw (opening_same a) (opening_same b)
+
+birth_same : (b : Birth) → same_birth b b ≡ true
+birth_same b = rw (number_same b.list) (opening_same b.opening)
+
+births_same : (xs : List Birth) → same_births xs xs ≡ true
+births_same [] = refl
+births_same (x ∷ xs) = rw (birth_same x) (births_same xs)
 
 pub same_self : (a : TokenEntry) → same a a ≡ true
-same_self a = elim (eqb_tells a.list a.list) as (λ _. ((a.list == a.list) && (same_name a.child_lists a.child_lists && same_name a.name a.name)) ≡ true) [
-  | inl t ↦ rw t.0 (rw (name_same a.child_lists) (name_same a.name))
-  | inr t ↦ absurd (t.1 refl)
-]
+same_self a = rw (birth_same a.birth) (rw (births_same a.children) (name_same a.name))
 
 pub tells : (b : Bool) → (b ≡ true) ⊎ (b ≡ false)
 tells true = inl refl

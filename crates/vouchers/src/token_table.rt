@@ -1,9 +1,9 @@
 // `TokenTable`, a struct: the table at which an issuer issues and redeems tokens (vouchers, each for one entry on the
 // issuer's list): `open`, `issue`, `redeem`. `Giving`, a trait: names the entry of a token for contracts.
 
-ghost use Rattle.std.specs.Prelude.{◌≡◌, ℕ, [], ◌∷◌, IfOk};
+ghost use Rattle.std.specs.Prelude.{◌≡◌, [], ◌∷◌, IfOk};
 ghost use Rattle.atomic_table.specs.Seated.{TableId};
-ghost use Rattle.vouchers.specs.Entries.{TokenEntry, Has, without, entry};
+ghost use Rattle.vouchers.specs.Entries.{TokenEntry, Has, without, nameless};
 ghost use Rattle.vouchers.specs.IssuerSeats.{given_of, held_of, KeepsAt, HoldsAt};
 
 use crate::holders::{Token, TokenIssuer};
@@ -32,7 +32,7 @@ pub trait Giving {
 }
 
 impl Giving for Brand {
-    ghost entry = { entry [] 0 [] };
+    ghost entry = { nameless };
 }
 
 struct Gives<G> {

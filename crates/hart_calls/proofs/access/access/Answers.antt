@@ -7,9 +7,10 @@ use Rattle.fault_rules.specs.declared.service.Served.TheVariants as served
 use Rattle.address_space.specs.Steps.{RunsDry}
 use Rattle.frame_store.specs.Laws.{fits_after, keeps_both}
 use Rattle.frame_store.specs.View.{View}
+use Rattle.hart_calls.specs.CallResults.{ClaimsNone}
 use Rattle.std.specs.Prelude.{option_to_list}
 use Rattle.process_model.specs.Frames.{resident_need}
-use Rattle.hart_calls.proofs.Accessed.{access_reads_file, as_told, bad_width, ended_served, ended_why, ends_denied, ends_dry_by, granted, is_access_call, made_at_once, made_later, not_granted, q, ready_none, ready_served, some_width}
+use Rattle.hart_calls.proofs.Accessed.{access_reads_file, as_told, bad_width, ended_served, ended_why, ends_denied, ends_dry_by, granted, is_access_call, made_at_once, made_later, not_dry, not_granted, q, ready_none, ready_served, some_width}
 use Rattle.hart_calls.proofs.Bodies.{still_space}
 use Rattle.process_model.specs.Bytes.{is_width}
 use Rattle.process_model.specs.Residence.{made_resident}
@@ -73,14 +74,22 @@ returns-in-Ended-clause-call_result g c = λ k is t p space.
     let wide : is_width c.args.request.width ≡ true = (let e = c.is_width.ensures in let f = c.if-not-is_width.false in cc) in
     let whole = e.whole c.in-Ended.rule refl t p here in
     let moves = e.moves (ended_served c.in-Ended.rule) t p here in
-    elim (ended_why files p a c.in-Ended.rule (e.ended t p here)) [
-      | inl by ↦ ends_denied files p a k is wide x y _ _ _ c.in-Ended.rule by (t, whole) moves
-      | inr both ↦
-          let none = both.0 in
-          let not = not_granted files p a (gives_leaf c.translate-walk.result) (sym c.is_permitted.ensures ∙ c.if-is_permitted.false) (rw (n.walk t p space) law) none in
-          let dry = e.dry (ap served.Ended both.1) t p (can_reside (body_of g.S.FrameSeat.view c.translate-walk.new.self) t p c.args.request.access c.args.request.va.0 c.args.request.width here none) in
-          ends_dry_by files p a k is wide x y _ _ _ c.in-Ended.rule both.1 none not dry.0 dry.1 (subst (λ (v : View). RunsDry v (g.S.FrameSeat.view c.serve.new.space.seat) (resident_need (is_shared_by dry.0) p c.args.request.access (page_of c.args.request.va.0)) (option_to_list dry.0)) n.view dry.2) (t, whole) moves
-    ]
+    let why = ended_why files p a c.in-Ended.rule (e.ended t p here) in (
+      elim why [
+        | inl by ↦ ends_denied files p a k is wide x y _ _ _ c.in-Ended.rule by (t, whole) moves
+        | inr both ↦
+            let none = both.0 in
+            let not = not_granted files p a (gives_leaf c.translate-walk.result) (sym c.is_permitted.ensures ∙ c.if-is_permitted.false) (rw (n.walk t p space) law) none in
+            let dry = e.dry (ap served.Ended both.1) t p (can_reside (body_of g.S.FrameSeat.view c.translate-walk.new.self) t p c.args.request.access c.args.request.va.0 c.args.request.width here none) in
+            ends_dry_by files p a k is wide x y _ _ _ c.in-Ended.rule both.1 none not dry.0 dry.1 (subst (λ (v : View). RunsDry v (g.S.FrameSeat.view c.serve.new.space.seat) (resident_need (is_shared_by dry.0) p c.args.request.access (page_of c.args.request.va.0)) (option_to_list dry.0)) n.view dry.2) (t, whole) moves
+      ],
+      elim why as (λ _. ClaimsNone x.view y.view) [
+        | inl by ↦ ap (λ (v : View). v.tallies.claims) (e.view_stays ((λ is. cc), not_dry files p a c.in-Ended.rule by) ∙ n.view)
+        | inr both ↦
+            let dry = e.dry (ap served.Ended both.1) t p (can_reside (body_of g.S.FrameSeat.view c.translate-walk.new.self) t p c.args.request.access c.args.request.va.0 c.args.request.width here both.0) in
+            dry.2.claims ∙ ap (λ (v : View). v.tallies.claims) n.view
+      ],
+    )
 
 pub returns-in-Unserved-clause-call_result : goal.returns-in-Unserved-clause-call_result
 returns-in-Unserved-clause-call_result g c = λ k is t p space.
@@ -92,6 +101,7 @@ returns-in-Unserved-clause-call_result g c = λ k is t p space.
       record {
         could = (c.args.files.now, x.0, g.met.C.Files.stays c.args.files.now, x.1, x.2);
         of_file = access_reads_file (g.C.Files.files c.args.files.now) p k (request_of c.args.request) is (let w = c.is_width.ensures in let f = c.if-not-is_width.false in cc) (e.of_file c.in-Unserved.refusal refl t p here);
+        claims = ap (λ (v : View). v.tallies.claims) (e.view_stays ((λ is. cc), (λ is. cc)) ∙ n.view);
         space = (t, still_space g.S.FrameSeat.view c.translate-walk.new.self c.serve.new.space (e.view_stays ((λ is. cc), (λ is. cc))) e.root e.trapframe e.layout t p here);
         moves = e.files_stay c.in-Unserved.refusal refl;
       },

@@ -15,6 +15,11 @@ release_seat-requires-clause-fits g c =
 pub release_seat-requires-clause-seat : goal.release_seat-requires-clause-seat
 release_seat-requires-clause-seat g c = ready_still _ _ _ c.in-Err.ensures.refused c.requires.seat
 
+pub returns-in-Err-clause-fits : goal.returns-in-Err-clause-fits
+returns-in-Err-clause-fits g c =
+    let still = fits_still _ _ _ c.args.seat c.in-Err.seat refl c.in-Err.ensures.keeps_refused c.requires.fits in
+    fits_at _ _ c.release_seat.result (sym still.0) c.release_seat.ensures.fits
+
 pub returns-in-Err-clause-store : goal.returns-in-Err-clause-store
 returns-in-Err-clause-store g c = c.release_seat.ensures.store ∙ (fits_still _ _ _ c.args.seat c.in-Err.seat refl c.in-Err.ensures.keeps_refused c.requires.fits).0
 

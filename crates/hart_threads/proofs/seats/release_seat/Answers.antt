@@ -10,6 +10,9 @@ release-requires-clause-anchored g c = released_anchored _ c.requires.seat
 pub returns-clause-bare : goal.returns-clause-bare
 returns-clause-bare g c = stripped_bare _ _ c.requires.seat c.release.ensures.view
 
+pub returns-clause-fits : goal.returns-clause-fits
+returns-clause-fits g c = (fits_still _ _ _ c.args.seat c.release.new.seat refl c.release.ensures.keeps c.requires.fits).1
+
 pub returns-clause-store : goal.returns-clause-store
 returns-clause-store g c = (fits_still _ _ _ c.args.seat c.release.new.seat refl c.release.ensures.keeps c.requires.fits).0
 

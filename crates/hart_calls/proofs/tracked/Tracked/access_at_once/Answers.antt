@@ -60,8 +60,8 @@ invariant_of-self-2 g c =
     let many = i.6 in
     rw c.push_reserved.ensures.items (
       (fits_still _ _ _ c.self.inside.parts.space.value.seat c.permitted_there.new.space.value.seat c.requires.store c.permitted_there.ensures.keeps i.0).1,
-      space_at_once t a c.next.result c.in-Some.ensures x y refl _ m e called n.reply pages n.file no_shelf _ c.after_access-present.ensures,
-      one_longer _ _ _ e _ _ i.2 next ([], leads_at_once t a c.next.result c.in-Some.ensures x y refl _ m e called n.reply pages n.file no_shelf _ c.after_access-present.ensures),
+      space_at_once t a c.next.result c.in-Some.ensures x y refl _ m e called n.reply pages n.file (n.before ∙ c.kept-was.ensures) no_shelf _ c.after_access-present.ensures,
+      one_longer _ _ _ e _ _ i.2 next ([], leads_at_once t a c.next.result c.in-Some.ensures x y refl _ m e called n.reply pages n.file (n.before ∙ c.kept-was.ensures) no_shelf _ c.after_access-present.ensures),
       i.3,
       i.4,
       omega (arith, few, length-append c.self.inside.parts.journal.items (e ∷ [])),
@@ -93,7 +93,7 @@ returns-clause-made g c =
     let called : call_of e ≡ c.next.result = n.call ∙ c.listed-listed.ensures ∙ sym c.next.ensures in
     let next : call_of e ≡ next_of t = subst (λ (z : Track). call_of e ≡ next_of z) (sym c.self.view_is) (n.call ∙ c.listed-listed.ensures) in
     let pages = n.pages ∙ c.none.ensures in
-    λ yes slot. rw (← c.self.view_is) (goes_at_once t a c.next.result c.in-Some.ensures x y refl _ m e called n.reply pages n.file _ (record { name = refl; lists = refl; list = refl; opening = refl; journal = c.push_reserved.ensures.items; next = next }) refl c.after_access-present.ensures slot)
+    λ yes slot. rw (← c.self.view_is) (goes_at_once t a c.next.result c.in-Some.ensures x y refl _ m e called n.reply pages n.file (n.before ∙ c.kept-was.ensures) _ (record { name = refl; lists = refl; list = refl; opening = refl; journal = c.push_reserved.ensures.items; next = next }) refl c.after_access-present.ensures slot)
 
 pub returns-clause-files : goal.returns-clause-files
 returns-clause-files g c =
@@ -117,4 +117,4 @@ returns-clause-files g c =
     let called : call_of e ≡ c.next.result = n.call ∙ c.listed-listed.ensures ∙ sym c.next.ensures in
     let next : call_of e ≡ next_of t = subst (λ (z : Track). call_of e ≡ next_of z) (sym c.self.view_is) (n.call ∙ c.listed-listed.ensures) in
     let pages = n.pages ∙ c.none.ensures in
-    λ yes shelf. rw (← c.self.view_is) (filed_at_once t a c.next.result c.in-Some.ensures x y refl _ m e called n.reply pages n.file _ (record { name = refl; lists = refl; list = refl; opening = refl; journal = c.push_reserved.ensures.items; next = next }) refl c.after_access-present.ensures shelf)
+    λ yes shelf. rw (← c.self.view_is) (filed_at_once t a c.next.result c.in-Some.ensures x y refl _ m e called n.reply pages n.file (n.before ∙ c.kept-was.ensures) _ (record { name = refl; lists = refl; list = refl; opening = refl; journal = c.push_reserved.ensures.items; next = next }) refl c.after_access-present.ensures shelf)

@@ -12,7 +12,7 @@ use Rattle.hart_calls.specs.Track.{next_of, Track}
 use Rattle.hart_calls.specs.TurnCases.{HasMapping, most_entries}
 use Rattle.hart_calls.proofs.Filing.{ended_files}
 use Rattle.hart_calls.proofs.Journals.{forks_more, one_longer, plain_forks}
-use Rattle.hart_calls.proofs.Served.{is_plain_access, maps_none, never_stops, reads_none, roomless}
+use Rattle.hart_calls.proofs.Served.{is_plain_access, maps_none, needs_none, never_stops, reads_none, roomless}
 use Rattle.hart_calls.proofs.Turning.{goes, IsEntryOf, leads}
 use Rattle.process_model.specs.Process.{Process}
 use Rattle.shared_frames.specs.SeatsOfTable.{fits_still, may_step, view_of}
@@ -61,6 +61,7 @@ invariant_of-self-in-Answered g c =
       answer = n.reply;
       pages = n.pages ∙ c.none.ensures ∙ sym (reads_none state i.1.1.sound.order a.files w k is unmapped);
       file = n.file ∙ maps_none k is a.files;
+      before = n.before ∙ c.kept-was.ensures;
     } in
     let moved : c.state_after-present.result.state ≡ (call_outcome a.files w 0 state k).process = c.state_after-present.ensures ∙ ap (λ (s : ShelfState). (call_outcome s.files w 0 state k).process) c.of-before.ensures in
     let next : call_of e ≡ next_of t = subst (λ (z : Track). call_of e ≡ next_of z) (sym c.self.view_is) (n.call ∙ c.listed-listed.ensures) in
@@ -112,10 +113,28 @@ returns-in-Answered-clause-made g c =
       answer = n.reply;
       pages = n.pages ∙ c.none.ensures ∙ sym (reads_none state i.1.1.sound.order a.files w k is unmapped);
       file = n.file ∙ maps_none k is a.files;
+      before = n.before ∙ c.kept-was.ensures;
     } in
     let moved : c.state_after-present.result.state ≡ (call_outcome a.files w 0 state k).process = c.state_after-present.ensures ∙ ap (λ (s : ShelfState). (call_outcome s.files w 0 state k).process) c.of-before.ensures in
     let next : call_of e ≡ next_of t = subst (λ (z : Track). call_of e ≡ next_of z) (sym c.self.view_is) (n.call ∙ c.listed-listed.ensures) in
     λ yes slot. rw (← c.self.view_is) (goes t k (is_plain_access k is) a b w r e of x y refl comes _ (record { name = refl; lists = refl; list = refl; opening = refl; journal = (c.push_reserved.ensures.items ∙ ap (λ es. es ++ c.new-entry.result ∷ []) c.reserve.ensures.items); next = next }) refl moved h.0 slot)
+
+pub returns-in-Answered-clause-files : goal.returns-in-Answered-clause-files
+returns-in-Answered-clause-files g c =
+    let t : Track = record {
+      name = c.self.inside.parts.name.items;
+      lists = c.self.inside.parts.lists.now;
+      list = c.self.inside.parts.list;
+      opening = c.self.inside.parts.opening.state;
+      state = c.self.inside.parts.present.state;
+      journal = c.self.inside.parts.journal.items;
+      seat = view_of c.self.inside.parts.space.value.seat;
+      room = vec_capacity c.self.inside.parts.journal - vec_len c.self.inside.parts.journal;
+    } in
+    let is = c.if-not-is_access.ensures refl in
+    let unmapped : HasMapping t.state.mappings → ⊥ = λ maps. let yes = c.has_mapping.ensures.1 (subst (λ (z : Track). HasMapping z.state.mappings) c.self.view_is maps) in let no = c.if-has_mapping.false in cc in
+    let next : c.next-call.result ≡ next_of t = subst (λ (z : Track). c.next-call.result ≡ next_of z) (sym c.self.view_is) c.next-call.ensures in
+    λ yes. rw (← c.self.view_is) (needs_none t c.next-call.result next is unmapped)
 
 -- ---- it was not made
 
@@ -135,7 +154,7 @@ invariant_of-self-in-Ended g c =
     let a = c.new-shelf.result in
     let state = c.self.inside.parts.present.state in
     let y = body_of view_of c.make_there-call_result.new.space.value in
-    let comes = c.in-Ended.ensures.call_result i.1.0 state i.1.1 in
+    let comes = (c.in-Ended.ensures.call_result i.1.0 state i.1.1).0 in
     let ended = ended_files a.files state (at_stop c.in-Ended.field-0 (address_of k)) k c.in-Ended.field-0 (is_plain_access k (c.if-not-is_access.ensures refl)) (sym comes.reply) in
     rw c.reserve.ensures.items (
       (fits_still _ _ _ c.self.inside.parts.space.value.seat c.make_there-call_result.new.space.value.seat c.requires.store c.make_there-call_result.ensures.keeps i.0).1,

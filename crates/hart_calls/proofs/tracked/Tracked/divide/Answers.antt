@@ -77,7 +77,7 @@ pub append_entry-requires-clause-leads : goal.append_entry-requires-clause-leads
 append_entry-requires-clause-leads g c =
     let e = c.answer-entry.ensures in
     let number : c.children-number.result ≡ forks c.self.inside.parts.journal.items = c.children-number.ensures ∙ ap (λ (t : Track). forks t.journal) (sym c.self.view_is) in
-    ([], fork_leads _ _ c.answer-entry.result c.args.list nothing (reply.Forked (forks c.self.inside.parts.journal.items)) (record { call = e.call ∙ c.listed-listed.ensures ∙ c.requires.next; answer = e.reply ∙ ap (λ (n : ℕ). reply.Forked n) number; pages = e.pages; file = e.file }) tt refl _ c.after_fork-present.ensures)
+    ([], fork_leads _ _ c.answer-entry.result c.args.list nothing (reply.Forked (forks c.self.inside.parts.journal.items)) (record { call = e.call ∙ c.listed-listed.ensures ∙ c.requires.next; answer = e.reply ∙ ap (λ (n : ℕ). reply.Forked n) number; pages = e.pages; file = e.file; before = e.before ∙ c.kept-before.ensures }) tt refl _ c.after_fork-present.ensures)
 
 pub returns-in-Ok-clause-goes : goal.returns-in-Ok-clause-goes
 returns-in-Ok-clause-goes g c =
@@ -88,7 +88,7 @@ returns-in-Ok-clause-goes g c =
     let next = subst (λ (t : Track). next_of t ≡ call.Fork c.args.list) (sym c.self.view_is) c.requires.next in
     let named = subst (λ (t : Track). c.args.name.items ≡ child_name t) (sym c.self.view_is) c.requires.named in
     rw (← c.self.view_is)
-    (fork_goes _ c.append_entry.result c.new-child.result c.answer-entry.result c.args.list (slot.Free c.args.name c.args.place) (record { call = e.call ∙ c.listed-listed.ensures ∙ c.requires.next; answer = e.reply ∙ ap (λ (n : ℕ). reply.Forked n) number; pages = e.pages; file = e.file })
+    (fork_goes _ c.append_entry.result c.new-child.result c.answer-entry.result c.args.list (slot.Free c.args.name c.args.place) (record { call = e.call ∙ c.listed-listed.ensures ∙ c.requires.next; answer = e.reply ∙ ap (λ (n : ℕ). reply.Forked n) number; pages = e.pages; file = e.file; before = e.before ∙ c.kept-before.ensures })
     (record { name = r.name; lists = r.lists; list = r.list; opening = r.opening; journal = r.journal; next = e.call ∙ c.listed-listed.ensures ∙ c.requires.next ∙ sym next }) (r.state ∙ c.after_fork-present.ensures)
     (record { name = y.name ∙ named; lists = y.lists; list = y.list; opening = y.opening ∙ c.of_child-opening.ensures; state = y.state ∙ c.of_child-opening.ensures; journal = y.journal }) (inl refl))
 
@@ -96,7 +96,7 @@ pub append_entry-requires-in-Err-clause-leads : goal.append_entry-requires-in-Er
 append_entry-requires-in-Err-clause-leads g c =
     let e = c.answer-entry-in-Err.ensures in
     let r = refusal_of c.in-Err.error in
-    ([], fork_leads _ _ c.answer-entry-in-Err.result c.args.list (refused 0 r) (reply.Refused r) (record { call = e.call ∙ c.listed-listed.ensures ∙ c.requires.next; answer = e.reply ∙ ap (λ (z : Refusal). reply.Refused z) c.into.ensures; pages = e.pages; file = e.file }) (fork_may c.in-Err.error) refl _ c.kept-present.ensures)
+    ([], fork_leads _ _ c.answer-entry-in-Err.result c.args.list (refused 0 r) (reply.Refused r) (record { call = e.call ∙ c.listed-listed.ensures ∙ c.requires.next; answer = e.reply ∙ ap (λ (z : Refusal). reply.Refused z) c.into.ensures; pages = e.pages; file = e.file; before = e.before ∙ c.kept-before.ensures }) (fork_may c.in-Err.error) refl _ c.kept-present.ensures)
 
 pub returns-in-Err-clause-goes : goal.returns-in-Err-clause-goes
 returns-in-Err-clause-goes g c =
@@ -108,5 +108,5 @@ returns-in-Err-clause-goes g c =
     let lack = subst (λ (v : View). ReportsShortage (view_of c.self.inside.parts.space.value.seat) v [] c.self.inside.parts.present.state (call.Fork c.args.list) (refused 0 r)) (sym j.seat)
     (fork_lack (view_of c.self.inside.parts.space.value.seat) (view_of c.fork_there-forked.new.space.value.seat) c.self.inside.parts.present.state c.args.list c.in-Err.error (λ by. c.in-Err.ensures.dry (ap Err by) p.0 _ p.1) (λ by. c.in-Err.ensures.full (ap Err by))) in
     rw (← c.self.view_is)
-    (fork_stays _ c.append_entry-in-Err.result c.answer-entry-in-Err.result c.args.list (slot.Free c.args.name c.args.place) r (record { call = e.call ∙ c.listed-listed.ensures ∙ c.requires.next; answer = e.reply ∙ ap (λ (z : Refusal). reply.Refused z) c.into.ensures; pages = e.pages; file = e.file }) (fork_may c.in-Err.error)
+    (fork_stays _ c.append_entry-in-Err.result c.answer-entry-in-Err.result c.args.list (slot.Free c.args.name c.args.place) r (record { call = e.call ∙ c.listed-listed.ensures ∙ c.requires.next; answer = e.reply ∙ ap (λ (z : Refusal). reply.Refused z) c.into.ensures; pages = e.pages; file = e.file; before = e.before ∙ c.kept-before.ensures }) (fork_may c.in-Err.error)
     (record { name = j.name; lists = j.lists; list = j.list; opening = j.opening; journal = j.journal; next = e.call ∙ c.listed-listed.ensures ∙ c.requires.next ∙ sym next }) (j.state ∙ c.kept-present.ensures) (fork_by_slot c.in-Err.error) lack)

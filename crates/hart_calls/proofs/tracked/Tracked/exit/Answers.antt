@@ -16,8 +16,8 @@ returns-clause-over g c =
     let e = c.exit_entry-entry.ensures in
     let round = to_z-of_z w32 c.args.status c.ranges.status in
     let closes = subst (λ (o : Outcome). Closes c.self.inside.parts.present.state c.self.inside.parts.journal.items c.exit_entry-entry.result o c.close.result c.args.shelf.now c.close.new.shelf) (c.exited.ensures ∙ ap (λ (z : ℤ). outcome.Exited z) round) c.close.ensures.closes in
-    subst (λ (t : Track). IsOver t c.close.result) c.self.view_is
-    (exit_over _ c.args.status c.exit_entry-entry.result (e.call ∙ c.listed-listed.ensures ∙ c.requires.next) (e.reply ∙ ap (λ (z : ℤ). reply.Exited z) round) e.pages e.file next c.self.invariant.2 (subst (λ (t : Track). length t.journal < most_entries) (sym c.self.view_is) c.requires.few) c.close.result c.close.ensures.name c.close.ensures.bare c.args.shelf.now c.close.new.shelf closes)
+    subst (λ (t : Track). IsOver g.B.RunBrand.table t c.close.result) c.self.view_is
+    (exit_over _ c.args.status c.exit_entry-entry.result (e.call ∙ c.listed-listed.ensures ∙ c.requires.next) (e.reply ∙ ap (λ (z : ℤ). reply.Exited z) round) e.pages e.file (e.before ∙ c.kept-before.ensures) next c.self.invariant.2 (subst (λ (t : Track). length t.journal < most_entries) (sym c.self.view_is) c.requires.few) c.close.result c.close.ensures.name g.B.RunBrand.table c.close.ensures.fits c.close.ensures.bare c.close.ensures.tallies c.args.shelf.now c.close.new.shelf closes)
 
 pub returns-clause-files : goal.returns-clause-files
 returns-clause-files g c =
@@ -26,4 +26,4 @@ returns-clause-files g c =
     let round = to_z-of_z w32 c.args.status c.ranges.status in
     let closes = subst (λ (o : Outcome). Closes c.self.inside.parts.present.state c.self.inside.parts.journal.items c.exit_entry-entry.result o c.close.result c.args.shelf.now c.close.new.shelf) (c.exited.ensures ∙ ap (λ (z : ℤ). outcome.Exited z) round) c.close.ensures.closes in
     subst (λ (t : Track). KeepsFilesByOutcome t c.close.result c.close.result.outcome c.args.shelf.now c.close.new.shelf) c.self.view_is
-    (exit_filed _ c.args.status c.exit_entry-entry.result (e.call ∙ c.listed-listed.ensures ∙ c.requires.next) (e.reply ∙ ap (λ (z : ℤ). reply.Exited z) round) e.pages e.file next c.self.invariant.2 (subst (λ (t : Track). length t.journal < most_entries) (sym c.self.view_is) c.requires.few) c.close.result c.close.ensures.name c.close.ensures.bare c.args.shelf.now c.close.new.shelf closes)
+    (exit_filed _ c.args.status c.exit_entry-entry.result (e.call ∙ c.listed-listed.ensures ∙ c.requires.next) (e.reply ∙ ap (λ (z : ℤ). reply.Exited z) round) e.pages e.file (e.before ∙ c.kept-before.ensures) next c.self.invariant.2 (subst (λ (t : Track). length t.journal < most_entries) (sym c.self.view_is) c.requires.few) c.close.result c.close.ensures.name g.B.RunBrand.table c.close.ensures.fits c.close.ensures.bare c.close.ensures.tallies c.args.shelf.now c.close.new.shelf closes)

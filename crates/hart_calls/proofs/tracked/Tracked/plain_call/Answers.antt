@@ -7,10 +7,10 @@ use Rattle.hart_calls.specs.ProcessEnd.{cause_of}
 use Rattle.hart_calls.specs.CallResults.{address_of, at_stop, by_reply, shortage_of}
 use Rattle.hart_calls.specs.CallOutcomes.{reads_of, call_outcome}
 use Rattle.hart_calls.specs.Track.{AppendsEntry, next_of, Track}
-use Rattle.hart_calls.specs.TurnCases.{KeepsFilesByOutcome, most_entries}
+use Rattle.hart_calls.specs.TurnCases.{IsCutFor, KeepsFilesByOutcome, most_entries}
 use Rattle.hart_calls.specs.Shortages.{nothing, refused, Shortage}
-use Rattle.hart_calls.proofs.Ends.{could_still, cut_files, cut_over, is_cause}
-use Rattle.hart_calls.proofs.Full.{full_for, read_maps}
+use Rattle.hart_calls.proofs.Ends.{could_still, cut_files, cut_for, cut_over, is_cause}
+use Rattle.hart_calls.proofs.Full.{read_maps}
 use Rattle.hart_calls.proofs.Filing.{ended_files}
 use Rattle.hart_calls.proofs.Staying.{has_grown, pages_are}
 use Rattle.hart_calls.proofs.Turning.{filed, filed_over, goes, IsEntryOf, leads, over}
@@ -49,8 +49,15 @@ pub cut-requires-clause-full : goal.cut-requires-clause-full
 cut-requires-clause-full g c =
     let p = c.self.invariant.1 in
     let q = c.self.inside.parts.present.state in
+    let k = c.args.call in
+    let a = c.args.shelf.now in
+    let journal = c.self.inside.parts.journal.items in
     let cut = c.in-Cut.ensures.call_result p.0 q p.1 in
-    rw c.cause_of.ensures (full_for q _ c.in-Cut.refusal (read_maps q p.1.sound.order (c.args.shelf.now).files c.args.call cut.0 cut.1.of_file))
+    let could = cut.1.could in
+    let maps = read_maps q p.1.sound.order a.files k cut.0 cut.1.of_file in
+    let few = subst (λ (z : Track). length z.journal < most_entries) (sym c.self.view_is) c.requires.few in
+    let next = subst (λ (z : Track). k ≡ next_of z) (sym c.self.view_is) c.requires.next in
+    rw c.cause_of.ensures (subst (λ (z : Call). IsCutFor q z journal (cause_of c.in-Cut.refusal)) next (cut_for q k journal a c.in-Cut.refusal could.1 few maps cut.0 cut.1.of_file (could_still a could.0 1 could.1 could.2 could.3) could.4))
 
 pub cut-requires-clause-store : goal.cut-requires-clause-store
 cut-requires-clause-store g c = (fits_still _ _ _ c.self.inside.parts.space.value.seat c.make_there-call_result.new.space.value.seat c.requires.store c.make_there-call_result.ensures.keeps c.self.invariant.0).0
@@ -118,6 +125,7 @@ append_entry-requires-clause-leads g c =
       answer = n.reply;
       pages = n.pages ∙ pages_are a.files w state k a.history b.history c.pages_read-pages.result c.uses-mark.result c.uses-mark.ensures c.pages_read-pages.ensures comes.moves.history;
       file = n.file ∙ c.mapped_file-file.ensures;
+      before = n.before ∙ c.kept-was.ensures;
     } in
     let moved : c.state_after-present.result.state ≡ (call_outcome a.files w 0 state k).process = c.state_after-present.ensures ∙ ap (λ (s : ShelfState). (call_outcome s.files w 0 state k).process) c.of-before.ensures in
     (a.files, leads t k c.requires.stays a b w r e is x y refl comes _ moved)
@@ -152,6 +160,7 @@ returns-in-Answered-clause-turned g c =
       answer = n.reply;
       pages = n.pages ∙ pages_are a.files w state k a.history b.history c.pages_read-pages.result c.uses-mark.result c.uses-mark.ensures c.pages_read-pages.ensures comes.moves.history;
       file = n.file ∙ c.mapped_file-file.ensures;
+      before = n.before ∙ c.kept-was.ensures;
     } in
     let moved : c.state_after-present.result.state ≡ (call_outcome a.files w 0 state k).process = c.state_after-present.ensures ∙ ap (λ (s : ShelfState). (call_outcome s.files w 0 state k).process) c.of-before.ensures in
     let next = subst (λ (z : Track). k ≡ next_of z) (sym c.self.view_is) c.requires.next in
@@ -189,6 +198,7 @@ returns-in-Answered-clause-files g c =
       answer = n.reply;
       pages = n.pages ∙ pages_are a.files w state k a.history b.history c.pages_read-pages.result c.uses-mark.result c.uses-mark.ensures c.pages_read-pages.ensures comes.moves.history;
       file = n.file ∙ c.mapped_file-file.ensures;
+      before = n.before ∙ c.kept-was.ensures;
     } in
     let moved : c.state_after-present.result.state ≡ (call_outcome a.files w 0 state k).process = c.state_after-present.ensures ∙ ap (λ (s : ShelfState). (call_outcome s.files w 0 state k).process) c.of-before.ensures in
     let next = subst (λ (z : Track). k ≡ next_of z) (sym c.self.view_is) c.requires.next in
@@ -250,6 +260,7 @@ append_entry-requires-in-Stopped-clause-leads g c =
       answer = n.reply ∙ c.short-reply.ensures;
       pages = n.pages ∙ pages_are a.files w state k a.history b.history c.pages_read-pages.result c.uses-mark.result c.uses-mark.ensures c.pages_read-pages.ensures comes.moves.history;
       file = n.file ∙ c.mapped_file-file.ensures;
+      before = n.before ∙ c.kept-was.ensures;
     } in
     let moved : c.state_after-present-in-Stopped.result.state ≡ (call_outcome a.files w 0 state k).process = c.state_after-present-in-Stopped.ensures ∙ ap (λ (z : Reply). (call_outcome (c.of-before.result.value).files (shortage_of (Some c.in-Stopped.done) k z) 0 state k).process) c.short-reply.ensures ∙ ap (λ (s : ShelfState). (call_outcome s.files w 0 state k).process) c.of-before.ensures in
     (a.files, leads t k c.requires.stays a b w r e is x y refl comes _ moved)
@@ -283,6 +294,7 @@ returns-in-Stopped-clause-turned g c =
       answer = n.reply ∙ c.short-reply.ensures;
       pages = n.pages ∙ pages_are a.files w state k a.history b.history c.pages_read-pages.result c.uses-mark.result c.uses-mark.ensures c.pages_read-pages.ensures comes.moves.history;
       file = n.file ∙ c.mapped_file-file.ensures;
+      before = n.before ∙ c.kept-was.ensures;
     } in
     let moved : c.state_after-present-in-Stopped.result.state ≡ (call_outcome a.files w 0 state k).process = c.state_after-present-in-Stopped.ensures ∙ ap (λ (z : Reply). (call_outcome (c.of-before.result.value).files (shortage_of (Some c.in-Stopped.done) k z) 0 state k).process) c.short-reply.ensures ∙ ap (λ (s : ShelfState). (call_outcome s.files w 0 state k).process) c.of-before.ensures in
     let next = subst (λ (z : Track). k ≡ next_of z) (sym c.self.view_is) c.requires.next in
@@ -319,6 +331,7 @@ returns-in-Stopped-clause-files g c =
       answer = n.reply ∙ c.short-reply.ensures;
       pages = n.pages ∙ pages_are a.files w state k a.history b.history c.pages_read-pages.result c.uses-mark.result c.uses-mark.ensures c.pages_read-pages.ensures comes.moves.history;
       file = n.file ∙ c.mapped_file-file.ensures;
+      before = n.before ∙ c.kept-was.ensures;
     } in
     let moved : c.state_after-present-in-Stopped.result.state ≡ (call_outcome a.files w 0 state k).process = c.state_after-present-in-Stopped.ensures ∙ ap (λ (z : Reply). (call_outcome (c.of-before.result.value).files (shortage_of (Some c.in-Stopped.done) k z) 0 state k).process) c.short-reply.ensures ∙ ap (λ (s : ShelfState). (call_outcome s.files w 0 state k).process) c.of-before.ensures in
     let next = subst (λ (z : Track). k ≡ next_of z) (sym c.self.view_is) c.requires.next in
@@ -345,7 +358,7 @@ close-requires-clause-ready g c =
     let x = body_of view_of c.self.inside.parts.space.value in
     let y = body_of view_of c.make_there-call_result.new.space.value in
     let state = c.self.inside.parts.present.state in
-    let comes = c.in-Ended.ensures.call_result p.0 state p.1 in
+    let comes = (c.in-Ended.ensures.call_result p.0 state p.1).0 in
     let r : Reply = reply.Ended c.in-Ended.rule in
     let w : Shortage = at_stop c.in-Ended.rule (address_of k) in
     let ended = ended_files a.files state w k c.in-Ended.rule c.requires.stays (sym comes.reply) in
@@ -370,7 +383,7 @@ returns-in-Ended-clause-turned g c =
     let x = body_of view_of c.self.inside.parts.space.value in
     let y = body_of view_of c.make_there-call_result.new.space.value in
     let state = c.self.inside.parts.present.state in
-    let comes = c.in-Ended.ensures.call_result p.0 state p.1 in
+    let comes = (c.in-Ended.ensures.call_result p.0 state p.1).0 in
     let r : Reply = reply.Ended c.in-Ended.rule in
     let w : Shortage = at_stop c.in-Ended.rule (address_of k) in
     let n = c.last_entry-entry.ensures in
@@ -380,10 +393,11 @@ returns-in-Ended-clause-turned g c =
       answer = n.reply;
       pages = n.pages ∙ pages_are a.files w state k a.history b.history c.pages_read-pages.result c.uses-mark.result c.uses-mark.ensures c.pages_read-pages.ensures comes.moves.history;
       file = n.file ∙ c.mapped_file-file.ensures;
+      before = n.before ∙ c.kept-was.ensures;
     } in
     let next = subst (λ (z : Track). k ≡ next_of z) (sym c.self.view_is) c.requires.next in
     let z = c.close.ensures in
-    rw (← c.self.view_is) (over t k c.requires.stays a b w r e is x y refl comes c.in-Ended.rule refl refl next c.self.invariant.2 (subst (λ (z : Track). length z.journal < most_entries) (sym c.self.view_is) c.requires.few) c.close.result z.name z.bare z.tallies c.close.new.shelf z.closes)
+    rw (← c.self.view_is) (over t k c.requires.stays a b w r e is x y refl comes c.in-Ended.rule refl refl next c.self.invariant.2 (subst (λ (z : Track). length z.journal < most_entries) (sym c.self.view_is) c.requires.few) c.close.result z.name g.B.RunBrand.table z.fits z.bare (c.in-Ended.ensures.call_result p.0 state p.1).1 z.tallies c.close.new.shelf z.closes)
 
 pub returns-in-Ended-clause-files : goal.returns-in-Ended-clause-files
 returns-in-Ended-clause-files g c =
@@ -404,7 +418,7 @@ returns-in-Ended-clause-files g c =
     let x = body_of view_of c.self.inside.parts.space.value in
     let y = body_of view_of c.make_there-call_result.new.space.value in
     let state = c.self.inside.parts.present.state in
-    let comes = c.in-Ended.ensures.call_result p.0 state p.1 in
+    let comes = (c.in-Ended.ensures.call_result p.0 state p.1).0 in
     let r : Reply = reply.Ended c.in-Ended.rule in
     let w : Shortage = at_stop c.in-Ended.rule (address_of k) in
     let n = c.last_entry-entry.ensures in
@@ -414,10 +428,11 @@ returns-in-Ended-clause-files g c =
       answer = n.reply;
       pages = n.pages ∙ pages_are a.files w state k a.history b.history c.pages_read-pages.result c.uses-mark.result c.uses-mark.ensures c.pages_read-pages.ensures comes.moves.history;
       file = n.file ∙ c.mapped_file-file.ensures;
+      before = n.before ∙ c.kept-was.ensures;
     } in
     let next = subst (λ (z : Track). k ≡ next_of z) (sym c.self.view_is) c.requires.next in
     let z = c.close.ensures in
-    subst (λ (z : Track). KeepsFilesByOutcome z c.close.result c.close.result.outcome a c.close.new.shelf) c.self.view_is (filed_over t k c.requires.stays a b w r e is x y refl comes c.in-Ended.rule refl refl next c.self.invariant.2 (subst (λ (z : Track). length z.journal < most_entries) (sym c.self.view_is) c.requires.few) c.close.result z.name z.bare z.tallies c.close.new.shelf z.closes)
+    subst (λ (z : Track). KeepsFilesByOutcome z c.close.result c.close.result.outcome a c.close.new.shelf) c.self.view_is (filed_over t k c.requires.stays a b w r e is x y refl comes c.in-Ended.rule refl refl next c.self.invariant.2 (subst (λ (z : Track). length z.journal < most_entries) (sym c.self.view_is) c.requires.few) c.close.result z.name g.B.RunBrand.table z.fits z.bare (c.in-Ended.ensures.call_result p.0 state p.1).1 z.tallies c.close.new.shelf z.closes)
 
 pub pages_read-pages-requires-clause-few : goal.pages_read-pages-requires-clause-few
 pages_read-pages-requires-clause-few g c =
@@ -441,7 +456,7 @@ invariant_of-tracked g c =
 
 pub returns-in-Cut-clause-turned : goal.returns-in-Cut-clause-turned
 returns-in-Cut-clause-turned g c =
-    rw (← c.self.view_is) (cut_over _ _ _ c.cut.result (cause_of c.in-Cut.refusal) (is_cause c.in-Cut.refusal) (c.cut.ensures.outcome ∙ c.cause_of.ensures) c.cut.ensures.over)
+    rw (← c.self.view_is) (cut_over _ _ _ _ (c.in-Cut.ensures.call_result c.self.invariant.1.0 c.self.inside.parts.present.state c.self.invariant.1.1).1.claims c.cut.result (cause_of c.in-Cut.refusal) (is_cause c.in-Cut.refusal) (c.cut.ensures.outcome ∙ c.cause_of.ensures) c.cut.ensures.over)
 
 pub returns-in-Cut-clause-files : goal.returns-in-Cut-clause-files
 returns-in-Cut-clause-files g c =

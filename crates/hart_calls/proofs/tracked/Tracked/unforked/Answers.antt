@@ -19,7 +19,7 @@ append_entry-requires-clause-agrees g c =
 pub append_entry-requires-clause-leads : goal.append_entry-requires-clause-leads
 append_entry-requires-clause-leads g c =
     let e = c.answer-entry.ensures in
-    ([], fork_leads _ _ c.answer-entry.result c.args.list (refused 0 c.args.refusal) (reply.Refused c.args.refusal) (record { call = e.call ∙ c.listed-listed.ensures ∙ c.requires.next; answer = e.reply; pages = e.pages; file = e.file }) c.requires.refusal refl _ c.kept-present.ensures)
+    ([], fork_leads _ _ c.answer-entry.result c.args.list (refused 0 c.args.refusal) (reply.Refused c.args.refusal) (record { call = e.call ∙ c.listed-listed.ensures ∙ c.requires.next; answer = e.reply; pages = e.pages; file = e.file; before = e.before ∙ c.kept-before.ensures }) c.requires.refusal refl _ c.kept-present.ensures)
 
 pub returns : goal.returns
 returns g c =
@@ -36,7 +36,7 @@ returns g c =
     let e = c.answer-entry.ensures in
     let r = c.append_entry.ensures in
     let next = subst (λ (z : Track). next_of z ≡ call.Fork c.args.list) (sym c.self.view_is) c.requires.next in
-    let is : IsForkOf c.answer-entry.result c.args.list (reply.Refused c.args.refusal) = record { call = e.call ∙ c.listed-listed.ensures ∙ c.requires.next; answer = e.reply; pages = e.pages; file = e.file } in
+    let is : IsForkOf t.state c.answer-entry.result c.args.list (reply.Refused c.args.refusal) = record { call = e.call ∙ c.listed-listed.ensures ∙ c.requires.next; answer = e.reply; pages = e.pages; file = e.file; before = e.before ∙ c.kept-before.ensures } in
     let adds : AppendsEntry t c.append_entry.result c.answer-entry.result = record { name = r.name; lists = r.lists; list = r.list; opening = r.opening; journal = r.journal; next = is.call ∙ sym next } in
     record {
       goes = subst (λ (z : Track). ContinuesTurn z c.append_entry.result None c.args.slot.now) c.self.view_is

@@ -15,4 +15,4 @@ pub invariant_of-result-in-None : goal.invariant_of-result-in-None
 invariant_of-result-in-None g c = record { at = c.requires.at.0; out = out_alone _ _ _ _ c.requires.out _ _ _ c.in-Continues.ensures.turned c.in-None.is }
 
 pub returns-in-Over : goal.returns-in-Over
-returns-in-Over g c = record { store = c.call.ensures.store; due = over_back _ _ _ _ c.requires.out _ c.in-Over.ensures.turned }
+returns-in-Over g c = record { store = c.call.ensures.store; due = over_back _ _ _ _ c.requires.out _ _ c.in-Over.ensures.turned }

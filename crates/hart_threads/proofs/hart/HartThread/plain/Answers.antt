@@ -9,4 +9,4 @@ pub invariant_of-result : goal.invariant_of-result
 invariant_of-result g c = record { at = c.requires.at; out = out_alone _ _ _ _ c.requires.out _ _ c.args.slot c.in-Continues.ensures.turned c.in-None.is }
 
 pub returns-in-Over : goal.returns-in-Over
-returns-in-Over g c = record { store = c.call.ensures.store; due = over_back _ _ _ _ c.requires.out _ c.in-Over.ensures.turned }
+returns-in-Over g c = record { store = c.call.ensures.store; due = over_back _ _ _ _ c.requires.out _ _ c.in-Over.ensures.turned }

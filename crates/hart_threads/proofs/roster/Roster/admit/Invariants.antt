@@ -1,7 +1,6 @@
 -- What `admit` picks: the voucher of no name.
-use Rattle.std.proofs.Common.{[]}
-use Rattle.vouchers.specs.Entries.{entry}
+use Rattle.vouchers.specs.Entries.{nameless}
 use Rattle.hart_threads.proofs.roster.Roster.admit.Given as goal
 
 abbrev pub ghosts-issue : goal.ghosts-issue
-ghosts-issue g a = record { entry = entry [] 0 [] }
+ghosts-issue g a = record { entry = nameless }

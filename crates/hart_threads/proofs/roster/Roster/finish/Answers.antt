@@ -1,5 +1,5 @@
 -- What the search left open of `finish`.
-use Rattle.std.proofs.Common.{◌≡◌, ◌∙◌, [], ◌∷◌, ◌++◌, ap, sym, arith, length}
+use Rattle.std.proofs.Common.{◌≡◌, ◌∙◌, [], ◌∷◌, ◌++◌, ap, sym, arith, length, refl}
 use Rattle.std.proofs.lemmas.List.Elements.{All-push}
 use Rattle.vouchers.specs.Entries.{without}
 use Rattle.vouchers.specs.Lists.{length-without}
@@ -30,11 +30,13 @@ invariant_of-self g c =
       (λ here.
           let was = i.2 here in (
             was.0 ++ life ∷ [],
-            each_push g.B.Plan.lists g.B.Plan.plan was.0 _ life f was.1 c.requires.back.3,
+            each_push g.B.RunBrand.table g.B.Plan.lists g.B.Plan.plan was.0 _ life f was.1 c.requires.back.3,
             rw e (rostered_finish _ was.0 life g.B.Plan.plan _ mine c.requires.back.2 was.2),
             All-push (MatchesSlots slots taken full) _ f was.3 (began_settled slots taken full f c.requires.back.4 (λ j is. i.5 life j mine (sym c.requires.back.3.name ∙ is))),
           )),
       omega (arith, i.3, i.1, n, l, v, w),
       i.4,
       rw e (taken_less slots taken life (given_of c.self.inside.issuer) i.5),
+      i.6,
+      omega (arith, i.7),
     )

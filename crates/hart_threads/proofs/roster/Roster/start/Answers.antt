@@ -1,18 +1,23 @@
 -- What the search left open of `start`.
-use Rattle.std.proofs.Common.{◌≡◌, ◌+◌, ◌-◌, ◌<◌, ◌∙◌, sym, ap, subst, ℕ, [], ◌∷◌, Some, arith, length}
+use Rattle.std.proofs.Common.{◌≡◌, ◌+◌, ◌-◌, ◌<◌, ◌∙◌, sym, ap, subst, ℕ, [], ◌∷◌, Some, arith, length, refl}
 use Rattle.std.specs.Prelude.{slice_get}
 use Rattle.vouchers.specs.IssuerSeats.{given_of}
 use Rattle.hart_threads.proofs.Rosters.{rostered_start}
 use Rattle.hart_threads.proofs.Names.{first_of}
 use Rattle.hart_threads.proofs.Slotting.{taken_more}
+use Rattle.hart_threads.specs.RosterView.{RosterView}
 use Rattle.hart_threads.specs.Slots.{IsTaken}
-use Rattle.vouchers.specs.Entries.{entry}
+use Rattle.hart_calls.specs.ProcessCodes.{code_of}
+use Rattle.vouchers.specs.Entries.{birth, entry}
 use Rattle.hart_threads.proofs.roster.Roster.start.Goals as goal
 
 pub invariant_of-self : goal.invariant_of-self
 invariant_of-self g c =
     let i = c.self.invariant in
-    let v_is = c.self.view_is in
+    let v_is = ap (λ (v : RosterView). v.left) c.self.view_is in
+    let out_is = ap (λ (v : RosterView). v.out) c.self.view_is in
+    let slots_is = ap (λ (v : RosterView). v.slots) c.self.view_is in
+    let free = c.requires.free in
     let starts = g.B.Plan.plan in
     let l : 0 < c.self.inside.left = let r = c.requires.left in omega (arith, r, v_is) in
     let s = c.requires.list.0 in
@@ -23,8 +28,13 @@ invariant_of-self g c =
       omega (arith, i.1, n),
       (λ here.
           let was = i.2 here in
-          (was.0, was.1, rw c.issue.ensures.given (rostered_start starts _ _ s (omega (arith, l, i.4)) at c.args.name.now c.args.list (given_of c.self.inside.issuer) was.0 named c.requires.list.2 was.2), was.3)),
+          (was.0, was.1, rw c.issue.ensures.given (rostered_start starts _ _ s (omega (arith, l, i.4)) at (code_of c.args.opening.now.state) c.args.name.now c.args.list (given_of c.self.inside.issuer) was.0 named c.requires.list.2 was.2), was.3)),
       omega (arith, i.3, l),
       omega (arith, i.4),
-      rw c.issue.ensures.given (taken_more g.F.StartOutcomes.slots g.F.StartOutcomes.taken (entry c.args.name.now c.args.list []) (given_of c.self.inside.issuer) (λ j is. subst (λ (k : ℕ). IsTaken g.F.StartOutcomes.slots g.F.StartOutcomes.taken k) (ap first_of (sym c.requires.name ∙ is)) c.requires.taken) i.5),
+      rw c.issue.ensures.given (taken_more g.F.StartOutcomes.slots g.F.StartOutcomes.taken (entry c.args.name.now (birth c.args.list (code_of c.args.opening.now.state)) []) (given_of c.self.inside.issuer) (λ j is. subst (λ (k : ℕ). IsTaken g.F.StartOutcomes.slots g.F.StartOutcomes.taken k) (ap first_of (sym c.requires.name ∙ is)) c.requires.taken) i.5),
+      i.6,
+      omega (arith, free, out_is, slots_is),
     )
+
+pub returns-clause-view : goal.returns-clause-view
+returns-clause-view g c = rw (← c.self.view_is) refl

@@ -17,4 +17,6 @@ invariant_of-result g c =
       omega (arith, room),
       omega (arith, count),
       rw c.requires.none (λ l i h is. absurd h),
+      c.requires.slots,
+      omega arith,
     )

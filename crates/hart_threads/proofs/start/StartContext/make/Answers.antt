@@ -1,5 +1,5 @@
 -- What the search left open of `make`.
-use Rattle.std.proofs.Common.{refl, sym, subst}
+use Rattle.std.proofs.Common.{◌∙◌, refl, sym, subst}
 use Rattle.std.proofs.lemmas.Bool.{ltb-true}
 use Rattle.address_space.specs.declared.space.Space.{Space}
 use Rattle.atomic_table.specs.Seated.{TableId}
@@ -8,7 +8,7 @@ use Rattle.hart_threads.specs.StartEffects.{IsWhy}
 use Rattle.hart_threads.specs.Slots.{FindsSlot}
 use Rattle.hart_threads.specs.Starts.{IsBegun}
 use Rattle.process_model.specs.declared.call.Outcome.{Outcome}
-use Rattle.shared_frames.specs.SeatsOfTable.{view_of}
+use Rattle.shared_frames.specs.SeatsOfTable.{FitsIn, view_of}
 use Rattle.shared_frames.specs.declared.seat.SharedSeat.{SharedSeat}
 use Rattle.hart_threads.proofs.start.StartContext.make.Goals as goal
 
@@ -33,6 +33,7 @@ returns-in-Err-new-clause-made g c =
     record {
       named = e.name;
       journal = e.journal;
+      seat = subst (λ (t : TableId). FitsIn t c.end_unstarted.result.seat) (c.started.ensures.store ∙ c.supply-store.ensures) e.fits;
       bare = e.bare;
       finds = subst (λ (o : Outcome). FindsSlot c.args.slots c.args.taken o) (sym e.outcome) (ltb-true c.args.taken c.args.slots c.in-Ok.ensures.begins.0);
       why = subst (λ (o : Outcome). IsWhy c.args.start (view_of c.end_unstarted.result.seat) o) (sym e.outcome) (c.in-Ok.opening.state, c.in-Ok.ensures.process);

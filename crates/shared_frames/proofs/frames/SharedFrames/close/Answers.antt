@@ -3,7 +3,7 @@ use Rattle.std.specs.Slots.{slots_items}
 use Rattle.shared_frames.specs.Pool.{Pool}
 use Rattle.shared_frames.specs.Rule.{zero_counts}
 use Rattle.shared_frames.specs.Totals.{AreTotals, held_frames}
-use Rattle.shared_frames.proofs.Ends.{final, totals, at_get}
+use Rattle.shared_frames.proofs.Ends.{final, last_totals, totals, at_get}
 use Rattle.shared_frames.proofs.Zeros.{zero_counts-le}
 use Rattle.shared_frames.proofs.frames.SharedFrames.close.Goals as goal
 
@@ -38,3 +38,6 @@ returns-clause-alone c own =
     let here : zero_counts ws c.self.inside.frames + held_frames c.self.inside.frames v ≡ c.self.inside.frames = subst (λ n. zero_counts ws n + held_frames n v ≡ n) (sym c.self.invariant.0) all in
     let is : c.self.inside.frames - c.count_free-free.result ≡ held_frames c.self.inside.frames v = omega (arith, e, here) in
     is ∙ ap (λ (p : Pool). held_frames p.frames v) c.self.view_is
+
+pub returns-clause-last : goal.returns-clause-last
+returns-clause-last c sole full = last_totals _ _ _ _ (returns-clause-totals c) sole full
