@@ -1,7 +1,7 @@
 -- Lemmas for the end of a run on threads: after the pool of frames is closed by a seat for which all user frames are
 -- reserved, all of them are free, as `LeavesFree` says (`closed`, `pool_closed`); the user frames are all but the kernel's;
 -- and the sorted ends are a text of the file (`is_text`).
-use Rattle.std.proofs.Common.{◌≡◌, ℕ, ◌+◌, ◌-◌, ◌≤◌, List, sym, ap, subst, ◌∙◌, arith}
+use Rattle.std.proofs.Common.{◌≡◌, ℕ, ◌+◌, ◌-◌, ◌≤◌, List, map, sym, ap, subst, ◌∙◌, arith}
 use Rattle.std.specs.List.Sorted.{IsPermutation}
 use Rattle.atomic_table.specs.Seated.{TableId}
 use Rattle.frame_store.specs.View.{IsSole, View, opening_view, references}
@@ -9,6 +9,7 @@ use Rattle.hart_calls.specs.declared.finished.Finished.{Finished}
 use Rattle.hart_threads.specs.RosterState.{ComesBack}
 use Rattle.hart_threads.specs.Slots.{AreSlotted}
 use Rattle.hart_threads.specs.Starts.{Lends}
+use Rattle.process_model.specs.Script.{file_of}
 use Rattle.process_model.specs.ThreadScript.{ThreadScript}
 use Rattle.process_model.specs.declared.call.Call.{Call}
 use Rattle.process_model.specs.declared.call.Pool.{Pool}
@@ -73,7 +74,7 @@ pub users_are : (p q : Pool) (k : ℕ) → q ≡ p → k ≡ kernel_of q → q.f
 users_are p q k same count = ap (λ (m : ℕ). q.frames - m) count ∙ ap user_frames same
 
 -- those who ended, sorted, are a text of the file
-pub is_text : (s : ThreadScript) (lists of_lists : List (List Call)) (starts of_starts : List Start) (ended sorted shown : List Finished) (free frames : ℕ) → AreListsOf s.images s.lists lists → of_lists ≡ lists → AreStartsOf s.images s.starts starts → of_starts ≡ starts → (table : TableId) × ComesBack table of_lists of_starts ended → AreSlotted s.pool.slots ended
+pub is_text : (s : ThreadScript) (lists of_lists : List (List Call)) (starts of_starts : List Start) (ended sorted shown : List Finished) (free frames : ℕ) → AreListsOf s.images s.lists lists → of_lists ≡ lists → AreStartsOf s.images s.starts starts → of_starts ≡ starts → (table : TableId) × ComesBack table (map file_of s.files) of_lists of_starts ended → AreSlotted s.pool.slots ended
     → IsPermutation ended sorted → AreInOrder sorted → shown ≡ sorted → LeavesFree s.pool free → frames ≡ user_frames s.pool → IsTextOf s (threads_text shown free frames)
 is_text s lists of_lists starts of_starts ended sorted shown free frames are_lists same_lists are_starts same_starts comes slots same order shows leaves users = record {
   lists = lists;
@@ -82,7 +83,7 @@ is_text s lists of_lists starts of_starts ended sorted shown free frames are_lis
   are_starts = are_starts;
   ended = ended;
   table = comes.0;
-  comes = subst (λ (ls : List (List Call)). ComesBack comes.0 ls starts ended) same_lists (subst (λ (ss : List Start). ComesBack comes.0 of_lists ss ended) same_starts comes.1);
+  comes = subst (λ (ls : List (List Call)). ComesBack comes.0 (map file_of s.files) ls starts ended) same_lists (subst (λ (ss : List Start). ComesBack comes.0 (map file_of s.files) of_lists ss ended) same_starts comes.1);
   slots = slots;
   shown = sorted;
   same = same;

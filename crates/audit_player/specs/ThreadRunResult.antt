@@ -1,7 +1,7 @@
 -- What `play_threads` returns and writes, by the bytes of the file for threads (`PlaysThreads`, `PlaysLists`): a text of a
 -- run that the file allows (`IsTextOf`), its refusal, or a prefix after a failed read or write; that all user frames are free
 -- after a run (`LeavesFree`).
-use Rattle.std.specs.Prelude.{◌≡◌, ◌⊎◌, ℕ, ◌-◌, List, Option, None, Some, Result, Ok, Err}
+use Rattle.std.specs.Prelude.{◌≡◌, ◌⊎◌, ℕ, ◌-◌, List, map, Option, None, Some, Result, Ok, Err}
 use Rattle.std.specs.Io.KnownBytes.{Appends, Keeps}
 use Rattle.std.specs.List.Sorted.{IsPermutation}
 use Rattle.atomic_table.specs.Seated.{TableId}
@@ -10,6 +10,7 @@ use Rattle.hart_calls.specs.declared.finished.Finished.{Finished}
 use Rattle.hart_threads.specs.RosterState.{ComesBack}
 use Rattle.hart_threads.specs.Slots.{AreSlotted}
 use Rattle.process_model.specs.Frames.{kernel_frames}
+use Rattle.process_model.specs.Script.{file_of}
 use Rattle.process_model.specs.ThreadScript.{ThreadScript, thread_script_of}
 use Rattle.process_model.specs.declared.call.Call.{Call}
 use Rattle.process_model.specs.declared.call.Pool.{Pool}
@@ -40,7 +41,7 @@ pub record LeavesFree (pool : Pool) (free : ℕ) : Type 0 where
 
 -- A text that playing the file may write: how processes ended, a line for each start and each child, sorted by their
 -- names, and last that all user frames are free, which they are (`LeavesFree`). The processes are those of a run of the
--- file's lists and starts (`ComesBack`), in its slots; their seats are at one table of frames.
+-- file's lists and starts over its declared files (`ComesBack`), in its slots; their seats are at one table of frames.
 pub record IsTextOf (s : ThreadScript) (whole : List ℕ) : Type 0 where
   pub lists : List (List Call)
   pub are_lists : AreListsOf s.images s.lists lists
@@ -48,7 +49,7 @@ pub record IsTextOf (s : ThreadScript) (whole : List ℕ) : Type 0 where
   pub are_starts : AreStartsOf s.images s.starts starts
   pub ended : List Finished
   pub table : TableId
-  pub comes : ComesBack table lists starts ended
+  pub comes : ComesBack table (map file_of s.files) lists starts ended
   pub slots : AreSlotted s.pool.slots ended
   pub shown : List Finished
   pub same : IsPermutation ended shown

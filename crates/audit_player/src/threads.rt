@@ -1,11 +1,12 @@
 // `play_threads` reads a file for threads, runs its processes on harts that are threads, and writes how each of them ended;
 // `play_threads_with` adds hooks around each call; `run_pool` only runs parsed lists and starts, and returns the ends.
 
-ghost use Rattle.std.specs.Prelude.{◌≡◌, ◌↔◌, ◌||◌, ◌≤◌, ◌<◌, All, false, length, IfOk, IsTrue, IsErrOf};
+ghost use Rattle.std.specs.Prelude.{◌≡◌, ◌↔◌, ◌||◌, ◌≤◌, ◌<◌, All, false, length, map, IfOk, IsTrue, IsErrOf};
 ghost use Rattle.atomic_table.specs.Seated.{TableId};
 ghost use Rattle.hart_calls.specs.Track.{NameLists};
 ghost use Rattle.hart_threads.specs.RosterState.{ComesBack};
 ghost use Rattle.hart_threads.specs.Slots.{AreSlotted};
+ghost use Rattle.process_model.specs.Script.{file_of};
 ghost use Rattle.process_model.specs.ThreadScript.{most_lists};
 ghost use Rattle.script_reader.specs.ThreadsPlayable.{IsThreadPlayable};
 ghost use Rattle.audit_player.specs.ThreadRunResult.{LeavesFree, PlaysLists, PlaysThreads};
@@ -22,11 +23,12 @@ use crate::transfer::{ReadError, read_bytes};
 use file_cabinet::Cabinet;
 use file_shelf::Shelf;
 use hart_calls::Finished;
-use hart_threads::{Gate, OpenGate, run_harts};
+use hart_threads::{Gate, OpenGate, RunFiles, RunShelf, run_harts};
 use process_model::{Call, Sequence, Start, kernel_frames};
 use script_reader::ThreadScript;
 use shared_frames::SharedFrames;
 use std::alloc::{AllocError, Global};
+use std::marker::Brand;
 use std::sync::{Mutex, Wait};
 use std::thread::Threads;
 use sv39_entry::Scheme;
@@ -38,9 +40,9 @@ const QUANTUM: usize = 8;
 /// thread; `gate` is called before and after each call of a process. There must be 64 lists, and each start and each fork
 /// must name one of them (`lend_lists`, `lend_starts`).
 ///
-/// Returns the processes as they ended, one for each start and for each child (`ComesBack`), and how many frames have
-/// reference count 0 then: all user frames. No seat but the kernel's holds a frame or has a credit then (`LeavesFree`); the
-/// kernel waits for that.
+/// Returns the processes as they ended, one for each start and for each child (`ComesBack`, over the declared files), and how
+/// many frames have reference count 0 then: all user frames. No seat but the kernel's holds a frame or has a credit then
+/// (`LeavesFree`); the kernel waits for that.
 ///
 /// # Errors
 /// `AllocError`: host memory was refused.
@@ -59,12 +61,39 @@ pub fn run_pool<'a, T: Threads + Wait + Sync, G: Gate + Sync>(
     requires starts { All (λ start. start.list < most_lists) starts.now }
     requires some { 1 ≤ harts }
     requires few { harts ≤ 8 }
-    ensures ended { IfOk result (λ r. (table : TableId) × ComesBack table lists.entry.now starts.now r.0.items) }
+    ensures ended { IfOk result (λ r. (table : TableId) × ComesBack table (map file_of script.now.files) lists.entry.now starts.now r.0.items) }
+    ensures slots { IfOk result (λ r. AreSlotted script.now.pool.slots r.0.items) }
+    ensures free { IfOk result (λ r. LeavesFree script.now.pool r.1) }
+{
+    let shelf = Shelf::new(alloc, Cabinet::new(alloc, script.files())?);
+    run_files::<Brand, T, G>(rt, alloc, script, shelf, lists, starts, harts, gate)
+}
+
+/// `run_pool`, with the shelf, which began with the files of `W`, those that the file for threads declares.
+fn run_files<'a, W: RunFiles + Send + Sync, T: Threads + Wait + Sync, G: Gate + Sync>(
+    rt: &T,
+    alloc: Global,
+    script: &ThreadScript,
+    shelf: Shelf,
+    lists: &'a [Sequence<Call<'a>>],
+    starts: &[Start<'a>],
+    harts: usize,
+    gate: &G,
+) -> Result<(Vec<Finished<'a>>, usize), AllocError>
+    requires playable { IsThreadPlayable script.now }
+    requires first { shelf.first ≡ W.files }
+    requires of_files { W.files ≡ map file_of script.now.files }
+    requires all { length lists.now ≡ most_lists }
+    requires there { NameLists lists.now }
+    requires starts { All (λ start. start.list < most_lists) starts.now }
+    requires some { 1 ≤ harts }
+    requires few { harts ≤ 8 }
+    ensures ended { IfOk result (λ r. (table : TableId) × ComesBack table (map file_of script.now.files) lists.entry.now starts.now r.0.items) }
     ensures slots { IfOk result (λ r. AreSlotted script.now.pool.slots r.0.items) }
     ensures free { IfOk result (λ r. LeavesFree script.now.pool r.1) }
 {
     let pool = script.pool();
-    let shelf = Mutex::new(Shelf::new(alloc, Cabinet::new(alloc, script.files())?));
+    let shelf = Mutex::new(RunShelf::<W>::new(shelf));
     let (frames, mut seat) = SharedFrames::new(alloc, pool.frames)?;
     let kernel = kernel_frames(Scheme::Sv39, pool.frames, pool.slots);
     take_kernel_frames(rt, &frames, &mut seat, kernel);

@@ -3,6 +3,7 @@ mod Names
 mod Counts
 mod Rosters
 mod Lending
+mod Reaching
 mod TokenSteps
 mod Beginning
 mod Slotting

@@ -7,6 +7,7 @@ use base.Stored.{Gv, gnil}
 use Rattle.atomic_table.specs.Seated.{TableId}
 use Rattle.vouchers.specs.Entries.{Birth, birth, TokenEntry as Life, entry, Has, nameless, without}
 use Rattle.vouchers.specs.Lists.{had_without, without_had, length-without, has_left, has_right, has_either}
+use Rattle.process_model.specs.Files.{File}
 use Rattle.process_model.specs.declared.call.Call.{Call}
 use Rattle.process_model.specs.declared.call.Start.{Start}
 use Rattle.hart_calls.specs.declared.finished.Finished.{Finished}
@@ -433,21 +434,19 @@ module _ (name named : List ℕ) (began child : Birth) (before children none : L
       }
 
 -- one more has ended
-pub each_push : (table : TableId) (lists : List (List Call)) (starts : List Start) (ls : List Life) (fs : List Finished) (l : Life) (f : Finished) → Each table lists starts ls fs → IsEnded table lists starts l f
-    → Each table lists starts (ls ++ l ∷ []) (fs ++ f ∷ [])
-each_push table lists starts [] [] l f each e = (e, tt)
-each_push table lists starts [] (g ∷ gs) l f each e = absurd each
-each_push table lists starts (k ∷ ks) [] l f each e = absurd each
-each_push table lists starts (k ∷ ks) (g ∷ gs) l f each e = (each.0, each_push table lists starts ks gs l f each.1 e)
+pub each_push : (table : TableId) (files : List File) (lists : List (List Call)) (starts : List Start) (ls : List Life) (fs : List Finished) (l : Life) (f : Finished) → Each table files lists starts ls fs → IsEnded table files lists starts l f → Each table files lists starts (ls ++ l ∷ []) (fs ++ f ∷ [])
+each_push table files lists starts [] [] l f each e = (e, tt)
+each_push table files lists starts [] (g ∷ gs) l f each e = absurd each
+each_push table files lists starts (k ∷ ks) [] l f each e = absurd each
+each_push table files lists starts (k ∷ ks) (g ∷ gs) l f each e = (each.0, each_push table files lists starts ks gs l f each.1 e)
 
 -- where nobody is out, those who ended are all
 nobody : (out : List Life) → length out ≡ 0 → out ≡ []
 nobody [] e = refl
 nobody (x ∷ xs) e = absurd (omega (arith, e))
 
-pub all_back : (table : TableId) (lists : List (List Call)) (starts : List Start) (out lives : List Life) (ended : List Finished) → length out ≡ 0 → Each table lists starts lives ended → IsRostered starts (length starts) out lives
-    → ComesBack table lists starts ended
-all_back table lists starts out lives ended none each was =
+pub all_back : (table : TableId) (files : List File) (lists : List (List Call)) (starts : List Start) (out lives : List Life) (ended : List Finished) → length out ≡ 0 → Each table files lists starts lives ended → IsRostered starts (length starts) out lives → ComesBack table files lists starts ended
+all_back table files lists starts out lives ended none each was =
     let rest : IsRostered starts (length starts) [] lives = subst (λ g. IsRostered starts (length starts) g lives) (nobody out none) was in
     record {
       lives = lives;

@@ -8,7 +8,7 @@ use Rattle.vouchers.specs.Entries.{Birth, birth, TokenEntry as Life, entry}
 use Rattle.hart_calls.specs.Replay.{call_of, forked, forks, list_at, Replays}
 use Rattle.hart_calls.specs.ProcessCodes.{code_of}
 use Rattle.hart_threads.specs.Births.{began, birth_of, births_of, fork_list, heir}
-use Rattle.hart_calls.specs.Track.{AppendsEntry, IsChild, SameButSeat, Track}
+use Rattle.hart_calls.specs.Track.{AppendsEntry, calls_of, IsChild, SameButSeat, Track}
 use Rattle.hart_calls.specs.TurnCases.{BySlot, EndsBy, ContinuesTurn, LeavesRunning, LacksJournalRoom, IsOver, IsLastEntry}
 use Rattle.hart_calls.specs.declared.journal_entry.JournalEntry.{JournalEntry}
 use Rattle.hart_calls.specs.declared.finished.Finished.{Finished}
@@ -29,6 +29,10 @@ use Rattle.process_model.specs.declared.step.Refusal.TheVariants as refusal
 use Rattle.shared_frames.specs.SeatsOfTable.{view_of}
 use Rattle.hart_threads.proofs.Names.{no_start, some_name}
 use Rattle.hart_threads.specs.Due.{IsNone}
+use Rattle.hart_threads.specs.FilesOfRun.{EndsOver, GoesOver, HasEndedOver, ReplaysOver, RunsOver}
+use Rattle.hart_threads.proofs.Reaching.{one_over, runs_new}
+use Rattle.process_model.specs.Files.{File}
+use Rattle.std.proofs.Math.Logic.{∥∥₁_map}
 use Rattle.hart_threads.specs.Slots.{Unrefused}
 use Rattle.std.proofs.lemmas.Bool.{and_parts}
 use Rattle.hart_threads.specs.RosterState.{all_go_on, AsEnded, EndsIn, GoOn, HasRun, IsEndedWithToken, IsBirth, IsOut, lets_go_on, BeginsAsImage}
@@ -136,42 +140,60 @@ go_on : (es : List JournalEntry) (e : JournalEntry) → GoOn es → LeavesRunnin
 go_on [] e go on = rw (lets e.reply on) refl
 go_on (x ∷ es) e go on = let both = and_parts (lets_go_on x.reply) (all_go_on es) go in rw both.0 (go_on es e both.1 on)
 
-module _ (lists : List (List Call)) (starts : List Start) (held : List Life) (t : Track) (o : IsOut lists starts held t) where
+-- a process's list is the same if its lists and its number in them are
+same_calls : (u t : Track) → u.lists ≡ t.lists → u.list ≡ t.list → calls_of u ≡ calls_of t
+same_calls u t lists list = ap (λ (ls : List (List Call)). list_at ls u.list) lists ∙ ap (λ (k : ℕ). list_at t.lists k) list
+
+module _ (files : List File) (lists : List (List Call)) (starts : List Start) (held : List Life) (t : Track) (o : IsOut files lists starts held t) where
   opens_still : (u : Track) → u.name ≡ t.name → u.opening ≡ t.opening → BeginsAsImage starts u.name u.opening
   opens_still u name opening = subst (λ (p : Process). BeginsAsImage starts u.name p) (sym opening) (subst (λ (m : List ℕ). BeginsAsImage starts m t.opening) (sym name) o.opens)
 
+  -- its journal runs on
+  runs_on : (u : Track) (e : JournalEntry) → AppendsEntry t u e → GoesOver files t u → ∥ ReplaysOver files u.opening 0 0 (calls_of u) u.journal u.state ∥₁
+  runs_on u e adds g = ∥∥₁_map o.runs (λ (r : ReplaysOver files t.opening 0 0 (calls_of t) t.journal t.state).
+      subst (λ (p : Process). ReplaysOver files p 0 0 (calls_of u) u.journal u.state) (sym adds.opening)
+      (subst (λ (cs : List Call). ReplaysOver files t.opening 0 0 cs u.journal u.state) (sym (same_calls u t adds.lists adds.list))
+      (subst (λ (es : List JournalEntry). ReplaysOver files t.opening 0 0 (calls_of t) es u.state) (sym g.adds)
+      (one_over files t.opening (calls_of t) t.journal g.entry t.state u.state r g.next (g.files, g.leads, g.given)))))
+
   -- it goes on, and its voucher tells of it
-  goes_out : (given : List Life) (u : Track) (e : JournalEntry) → AppendsEntry t u e → LeavesRunning e.reply → given ≡ entry u.name (began u) (births_of u.journal) ∷ [] → IsOut lists starts given u
-  goes_out given u e adds on holds = record {
+  goes_out : (given : List Life) (u : Track) (e : JournalEntry) → GoesOver files t u → AppendsEntry t u e → LeavesRunning e.reply → given ≡ entry u.name (began u) (births_of u.journal) ∷ [] → IsOut files lists starts given u
+  goes_out given u e over adds on holds = record {
     holds = holds;
     lists = adds.lists ∙ o.lists;
     named = λ none. o.named (sym adds.name ∙ none);
     opens = opens_still u adds.name adds.opening;
+    runs = runs_on u e adds over;
     goes = subst GoOn (sym adds.journal) (go_on t.journal e o.goes on);
   }
 
   -- without a child the voucher is the same
-  pub out_alone : (u : Track) (c : Option Track) (s : ForkSlot) → ContinuesTurn t u c s → c ≡ None → IsOut lists starts held u
-  out_alone u c s went is =
+  pub out_alone : (u : Track) (c : Option Track) (s : ForkSlot) → GoesOver files t u → ContinuesTurn t u c s → c ≡ None → IsOut files lists starts held u
+  out_alone u c s over went is =
       let g : ContinuesTurn t u None s = subst (λ (x : Option Track). ContinuesTurn t u x s) is went in
       let same : births_of u.journal ≡ births_of t.journal = heirs_after t.journal u.journal g.entry [] g.adds.journal (no_heir (birth_of g.entry) g.entry.reply g.child) ∙ append-nil (births_of t.journal) in
-      goes_out held u g.entry g.adds g.on (o.holds ∙ ap (λ (l : Life). l ∷ []) (entry_by _ _ _ _ _ _ (sym g.adds.name) (sym (began_same u t g.adds.list g.adds.opening)) (sym same)))
+      goes_out held u g.entry over g.adds g.on (o.holds ∙ ap (λ (l : Life). l ∷ []) (entry_by _ _ _ _ _ _ (sym g.adds.name) (sym (began_same u t g.adds.list g.adds.opening)) (sym same)))
 
   -- a call that may have been made in place
-  pub out_at_once : (u : Track) (made : Bool) → (made ≡ true → (s : ForkSlot) → ContinuesTurn t u None s) → (made ≡ false → u ≡ t) → IsOut lists starts held u
-  out_at_once u true went not = out_alone u None slot.NoSlot (went refl slot.NoSlot) refl
-  out_at_once u false went not = subst (IsOut lists starts held) (sym (not refl)) o
+  pub out_at_once : (u : Track) (made : Bool) → (made ≡ true → (s : ForkSlot) → ContinuesTurn t u None s) → (made ≡ false → u ≡ t) → (made ≡ true → GoesOver files t u) → IsOut files lists starts held u
+  out_at_once u true went not over = out_alone u None slot.NoSlot (over refl) (went refl slot.NoSlot) refl
+  out_at_once u false went not over = subst (IsOut files lists starts held) (sym (not refl)) o
 
   -- a call that may have been made in place with its service
-  pub out_served : (u : Track) (made : Bool) → (made ≡ true → (s : ForkSlot) → ContinuesTurn t u None s) → (made ≡ false → SameButSeat t u) → IsOut lists starts held u
-  out_served u true went not = out_alone u None slot.NoSlot (went refl slot.NoSlot) refl
-  out_served u false went not =
+  pub out_served : (u : Track) (made : Bool) → (made ≡ true → (s : ForkSlot) → ContinuesTurn t u None s) → (made ≡ false → SameButSeat t u) → (made ≡ true → GoesOver files t u) → IsOut files lists starts held u
+  out_served u true went not over = out_alone u None slot.NoSlot (over refl) (went refl slot.NoSlot) refl
+  out_served u false went not over =
       let same = not refl in
       record {
         holds = o.holds ∙ ap (λ (l : Life). l ∷ []) (entry_by _ _ _ _ _ _ (sym same.name) (sym (began_same u t same.list same.opening)) (ap births_of (sym same.journal)));
         lists = same.lists ∙ o.lists;
         named = λ none. o.named (sym same.name ∙ none);
         opens = opens_still u same.name same.opening;
+        runs = ∥∥₁_map o.runs (λ (r : ReplaysOver files t.opening 0 0 (calls_of t) t.journal t.state).
+            subst (λ (p : Process). ReplaysOver files p 0 0 (calls_of u) u.journal u.state) (sym same.opening)
+            (subst (λ (cs : List Call). ReplaysOver files t.opening 0 0 cs u.journal u.state) (sym (same_calls u t same.lists same.list))
+            (subst (λ (es : List JournalEntry). ReplaysOver files t.opening 0 0 (calls_of t) es u.state) (sym same.journal)
+            (subst (λ (q : Process). ReplaysOver files t.opening 0 0 (calls_of t) t.journal q) (sym same.state) r))));
         goes = subst GoOn (sym same.journal) o.goes;
       }
 
@@ -194,10 +216,10 @@ module _ (lists : List (List Call)) (starts : List Start) (held : List Life) (t 
           none = young.journal;
         }
 
-    pub elder_out : (given : List Life) → given ≡ entry u.name (began u) (births_of u.journal) ∷ [] → IsOut lists starts given u
-    elder_out given holds = goes_out given u here.entry here.adds here.on holds
+    pub elder_out : GoesOver files t u → (given : List Life) → given ≡ entry u.name (began u) (births_of u.journal) ∷ [] → IsOut files lists starts given u
+    elder_out over given holds = goes_out given u here.entry over here.adds here.on holds
 
-    pub young_out : (given : List Life) → given ≡ entry child.name (began child) (births_of child.journal) ∷ [] → IsOut lists starts given child
+    pub young_out : (given : List Life) → given ≡ entry child.name (began child) (births_of child.journal) ∷ [] → IsOut files lists starts given child
     young_out given holds =
         let young = here.child.1.2 in
         record {
@@ -205,6 +227,7 @@ module _ (lists : List (List Call)) (starts : List Start) (held : List Life) (t 
           lists = young.lists ∙ o.lists;
           named = λ none. some_name t.name (forks t.journal) (sym young.name ∙ none);
           opens = λ st of. absurd (no_start t.name (forks t.journal) of.0 o.named (sym young.name ∙ of.1));
+          runs = runs_new files child young.journal (young.state ∙ sym young.opening);
           goes = subst GoOn (sym young.journal) refl;
         }
 
@@ -226,25 +249,42 @@ module _ (lists : List (List Call)) (starts : List Start) (held : List Life) (t 
   last_began f (outcome.Refused r) l = absurd l
   last_began f x l = tt
 
-  module _ (calls : List Call) (f : Finished) (q : Process) (opens : BeginsAsImage starts t.name t.opening) (replays : Replays t.opening 0 0 calls f.journal.items q) where
-    ran : HasRun starts calls t.name (code_of t.opening) f.journal.items
-    ran = (t.opening, q, refl, opens, replays)
+  ends_over : (f : Finished) → EndsOver files t f → RunsOver files (calls_of t) t.opening f.journal.items
+  ends_over f e = ∥∥₁_map o.runs (λ (r : ReplaysOver files t.opening 0 0 (calls_of t) t.journal t.state).
+      (e.after, subst (λ (es : List JournalEntry). ReplaysOver files t.opening 0 0 (calls_of t) es e.after) (sym e.adds) (one_over files t.opening (calls_of t) t.journal e.entry t.state e.after r e.next (e.files, e.leads, e.given))))
 
-    as_ended : (v : View) (x : Outcome) → IsLastEntry t f x → LacksJournalRoom v q calls f.journal.items x → AsEnded starts calls v x t.name (code_of t.opening) f.journal.items
+  stays_over : (f : Finished) → f.journal.items ≡ t.journal → RunsOver files (calls_of t) t.opening f.journal.items
+  stays_over f same = ∥∥₁_map o.runs (λ (r : ReplaysOver files t.opening 0 0 (calls_of t) t.journal t.state).
+      (t.state, subst (λ (es : List JournalEntry). ReplaysOver files t.opening 0 0 (calls_of t) es t.state) (sym same) r))
+
+  -- the journal at the end
+  ended_runs : (f : Finished) (x : Outcome) → IsLastEntry t f x → HasEndedOver files t f x → RunsOver files (calls_of t) t.opening f.journal.items
+  ended_runs f (outcome.Exited status) l e = ends_over f e
+  ended_runs f (outcome.Ended rule) l e = ends_over f e
+  ended_runs f (outcome.Refused r) l e = absurd l
+  ended_runs f outcome.Memory l e = stays_over f l.0
+  ended_runs f outcome.JournalFull l e = stays_over f l.0
+
+  module _ (calls : List Call) (f : Finished) (q : Process) (opens : BeginsAsImage starts t.name t.opening) (replays : Replays t.opening 0 0 calls f.journal.items q) (runs : RunsOver files calls t.opening f.journal.items) where
+    ran : HasRun files starts calls t.name (code_of t.opening) f.journal.items
+    ran = (t.opening, q, refl, opens, replays, runs)
+
+    as_ended : (v : View) (x : Outcome) → IsLastEntry t f x → LacksJournalRoom v q calls f.journal.items x → AsEnded files starts calls v x t.name (code_of t.opening) f.journal.items
     as_ended v (outcome.Exited status) l full = (ran, ends_in f (reply.Exited status) l)
     as_ended v (outcome.Ended rule) l full = (ran, ends_in f (reply.Ended rule) l)
     as_ended v (outcome.Refused r) l full = absurd l
     as_ended v outcome.Memory l full = (ran, subst GoOn (sym l.0) o.goes, full)
-    as_ended v outcome.JournalFull l full = ((t.opening, q, refl, opens, replays, full), subst GoOn (sym l.0) o.goes)
+    as_ended v outcome.JournalFull l full = ((t.opening, q, refl, opens, replays, full, runs), subst GoOn (sym l.0) o.goes)
 
-  pub over_back : (table : TableId) (f : Finished) → IsOver table t f → IsEndedWithToken table lists starts held f
-  over_back table f over =
+  pub over_back : (table : TableId) (f : Finished) → HasEndedOver files t f f.outcome → IsOver table t f → IsEndedWithToken table files lists starts held f
+  over_back table f gone over =
       let replays = subst (λ (ls : List (List Call)). Replays t.opening 0 0 (list_at ls t.list) f.journal.items over.state) o.lists over.replays in
-      let full = subst (λ (ls : List (List Call)). LacksJournalRoom (view_of f.seat) over.state (list_at ls t.list) f.journal.items f.outcome) o.lists over.full in (
+      let full = subst (λ (ls : List (List Call)). LacksJournalRoom (view_of f.seat) over.state (list_at ls t.list) f.journal.items f.outcome) o.lists over.full in
+      let runs = subst (λ (ls : List (List Call)). RunsOver files (list_at ls t.list) t.opening f.journal.items) o.lists (ended_runs f f.outcome over.last gone) in (
         entry t.name (began t) (births_of t.journal),
         o.holds,
         o.named,
-        record { name = over.name; children = last_heirs f f.outcome over.last; seat = over.seat; bare = over.bare; ended = as_ended (list_at lists t.list) f over.state o.opens replays (view_of f.seat) f.outcome over.last full; few = over.few },
+        record { name = over.name; children = last_heirs f f.outcome over.last; seat = over.seat; bare = over.bare; ended = as_ended (list_at lists t.list) f over.state o.opens replays runs (view_of f.seat) f.outcome over.last full; few = over.few },
         last_began f f.outcome over.last,
       )
 

@@ -17,4 +17,4 @@ IsNone s = Unit {0}
 -- if the process has ended, the roster takes its end with the voucher that it had
 abbrev pub IsDue : {X : Type 0} {plan : Plan X} {room : RunBrand X} → JobStep X plan room → Type 0
 IsDue (step.Continues job) = Unit {0}
-IsDue {plan} {room} (step.Over gone) = IsEndedWithToken room.table plan.lists plan.plan (held_of gone.token) gone.finished
+IsDue {plan} {room} (step.Over gone) = IsEndedWithToken room.table plan.files plan.lists plan.plan (held_of gone.token) gone.finished

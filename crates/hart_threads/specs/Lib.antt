@@ -6,5 +6,6 @@ pub mod Slots
 pub mod StartEffects
 pub mod Starts
 pub mod Due
+pub mod FilesOfRun
 pub mod Plans
 pub mod Queues

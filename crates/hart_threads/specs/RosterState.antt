@@ -25,7 +25,9 @@ use Rattle.hart_calls.specs.declared.finished.Finished.{Finished}
 use Rattle.hart_calls.specs.Replay.{list_at, Replays}
 use Rattle.hart_calls.specs.TurnCases.{LacksJournalRoom, most_entries}
 use Rattle.hart_threads.specs.Births.{began, births_of}
-use Rattle.hart_calls.specs.Track.{Track}
+use Rattle.hart_threads.specs.FilesOfRun.{ReplaysOver, RunsOver}
+use Rattle.hart_calls.specs.Track.{calls_of, Track}
+use Rattle.process_model.specs.Files.{File}
 use Rattle.process_model.specs.Process.{Process}
 use Rattle.process_model.specs.declared.call.Call.{Call}
 use Rattle.process_model.specs.declared.step.Reply.{Reply}
@@ -107,14 +109,15 @@ RefusesStart image v r = ⊥
 abbrev pub BeginsAsImage : List Start → List ℕ → Process → Type 0
 BeginsAsImage starts name p = (s : Start) → IsOfStart starts name s → ∥ IsProcessOf s.image p ∥₁
 
--- the journal is of the first calls of the list, and replays from the process with this code, which of a start is its image's
-abbrev pub HasRun : List Start → List Call → List ℕ → Gv → List JournalEntry → Type 0
-HasRun starts calls name opening journal = (p q : Process) × (code_of p ≡ opening) × BeginsAsImage starts name p × Replays p 0 0 calls journal q
+-- the journal is of the first calls of the list, and replays from the process with this code, which of a start is its image's;
+-- each call is answered over files that the run reached, if it needs any
+abbrev pub HasRun : List File → List Start → List Call → List ℕ → Gv → List JournalEntry → Type 0
+HasRun files starts calls name opening journal = (p q : Process) × (code_of p ≡ opening) × BeginsAsImage starts name p × Replays p 0 0 calls journal q × RunsOver files calls p journal
 
 -- `HasRun`, and at the end the journal has 10,000 entries, or the process has a mapping and its next call asks a promise for
 -- which a history of the files has no room. v is the seat's view then
-abbrev pub HasRunFull : List Start → List Call → View → List ℕ → Gv → List JournalEntry → Type 0
-HasRunFull starts calls v name opening journal = (p q : Process) × (code_of p ≡ opening) × BeginsAsImage starts name p × Replays p 0 0 calls journal q × LacksJournalRoom v q calls journal outcome.JournalFull
+abbrev pub HasRunFull : List File → List Start → List Call → View → List ℕ → Gv → List JournalEntry → Type 0
+HasRunFull files starts calls v name opening journal = (p q : Process) × (code_of p ≡ opening) × BeginsAsImage starts name p × Replays p 0 0 calls journal q × LacksJournalRoom v q calls journal outcome.JournalFull × RunsOver files calls p journal
 
 -- the reply does not end the process; `GoOn`: no reply of the journal does
 abbrev pub lets_go_on : Reply → Bool
@@ -135,34 +138,34 @@ EndsIn r journal = (es : List JournalEntry) × (e : JournalEntry) × (journal �
 
 -- the journal by the outcome: a process that was started has made the first calls of its list; after Memory it has fewer
 -- than 10,000 entries; only a start is refused, and then it has made no call
-abbrev pub AsEnded : List Start → List Call → View → Outcome → List ℕ → Gv → List JournalEntry → Type 0
-AsEnded starts calls v (outcome.Exited status) name opening journal = HasRun starts calls name opening journal × EndsIn (reply.Exited status) journal
-AsEnded starts calls v (outcome.Ended rule) name opening journal = HasRun starts calls name opening journal × EndsIn (reply.Ended rule) journal
-AsEnded starts calls v (outcome.Refused r) name opening journal = (journal ≡ []) × ((s : Start) × IsOfStart starts name s × RefusesStart s.image v r)
-AsEnded starts calls v outcome.Memory name opening journal = HasRun starts calls name opening journal × GoOn journal × (length journal < most_entries)
-AsEnded starts calls v outcome.JournalFull name opening journal = HasRunFull starts calls v name opening journal × GoOn journal
+abbrev pub AsEnded : List File → List Start → List Call → View → Outcome → List ℕ → Gv → List JournalEntry → Type 0
+AsEnded files starts calls v (outcome.Exited status) name opening journal = HasRun files starts calls name opening journal × EndsIn (reply.Exited status) journal
+AsEnded files starts calls v (outcome.Ended rule) name opening journal = HasRun files starts calls name opening journal × EndsIn (reply.Ended rule) journal
+AsEnded files starts calls v (outcome.Refused r) name opening journal = (journal ≡ []) × ((s : Start) × IsOfStart starts name s × RefusesStart s.image v r)
+AsEnded files starts calls v outcome.Memory name opening journal = HasRun files starts calls name opening journal × GoOn journal × (length journal < most_entries)
+AsEnded files starts calls v outcome.JournalFull name opening journal = HasRunFull files starts calls v name opening journal × GoOn journal
 
 -- f is the end of life l, which may be a start that was refused: it has the name, its journal is as the outcome says and
 -- names the life's children, and its seat is at this table and holds nothing
-pub record IsEnded (table : TableId) (lists : List (List Call)) (starts : List Start) (l : Life) (f : Finished) : Type 0 where
+pub record IsEnded (table : TableId) (files : List File) (lists : List (List Call)) (starts : List Start) (l : Life) (f : Finished) : Type 0 where
   pub name : f.name.items ≡ l.name
   pub children : births_of f.journal.items ≡ l.children
   pub seat : FitsIn table f.seat
   pub bare : IsBare (view_of f.seat)
-  pub ended : AsEnded starts (list_at lists l.birth.list) (view_of f.seat) f.outcome l.name l.birth.opening f.journal.items
+  pub ended : AsEnded files starts (list_at lists l.birth.list) (view_of f.seat) f.outcome l.name l.birth.opening f.journal.items
   pub few : length f.journal.items ≤ most_entries
 
 -- the ends are those of the lives, one for each, in the same order
-abbrev pub Each : TableId → List (List Call) → List Start → List Life → List Finished → Type 0
-Each table lists starts [] [] = Unit {0}
-Each table lists starts (l ∷ ls) (f ∷ fs) = IsEnded table lists starts l f × Each table lists starts ls fs
-Each table lists starts ls fs = ⊥
+abbrev pub Each : TableId → List File → List (List Call) → List Start → List Life → List Finished → Type 0
+Each table files lists starts [] [] = Unit {0}
+Each table files lists starts (l ∷ ls) (f ∷ fs) = IsEnded table files lists starts l f × Each table files lists starts ls fs
+Each table files lists starts ls fs = ⊥
 
 -- The processes are the ends of lives: of each start with its list, of each child that a journal names with the list of its
 -- fork and as `child_of` the process before the fork, and of no others. No two have one name. Each seat is at this table.
-pub record ComesBack (table : TableId) (lists : List (List Call)) (starts : List Start) (ended : List Finished) : Type 0 where
+pub record ComesBack (table : TableId) (files : List File) (lists : List (List Call)) (starts : List Start) (ended : List Finished) : Type 0 where
   pub lives : List Life
-  pub each : Each table lists starts lives ended
+  pub each : Each table files lists starts lives ended
   pub started : Started starts (length starts) lives
   pub children : Closed lives
   pub kin : (l : Life) → Has l lives → IsStartOrChild starts lives l
@@ -175,17 +178,18 @@ IsAdmitted token_table a = Unit {0}
 
 -- an unfinished process and what its voucher has: its name, how it began and how its children began. A start began as the
 -- process of its image, and no call has ended the process
-pub record IsOut (all : List (List Call)) (starts : List Start) (held : List Life) (t : Track) : Type 0 where
+pub record IsOut (files : List File) (all : List (List Call)) (starts : List Start) (held : List Life) (t : Track) : Type 0 where
   pub holds : held ≡ entry t.name (began t) (births_of t.journal) ∷ []
   pub lists : t.lists ≡ all
   pub named : t.name ≡ [] → ⊥
   pub opens : BeginsAsImage starts t.name t.opening
+  pub runs : ∥ ReplaysOver files t.opening 0 0 (calls_of t) t.journal t.state ∥₁
   pub goes : GoOn t.journal
 
 -- an ended process and the life that its voucher has: it is the end of that life, which has a name, and its outcome is no
 -- refusal
-abbrev pub IsEndedWithToken : TableId → List (List Call) → List Start → List Life → Finished → Type 0
-IsEndedWithToken table lists starts held f = (l : Life) × (held ≡ l ∷ []) × (l.name ≡ [] → ⊥) × IsEnded table lists starts l f × Unrefused f.outcome
+abbrev pub IsEndedWithToken : TableId → List File → List (List Call) → List Start → List Life → Finished → Type 0
+IsEndedWithToken table files lists starts held f = (l : Life) × (held ≡ l ∷ []) × (l.name ≡ [] → ⊥) × IsEnded table files lists starts l f × Unrefused f.outcome
 
 -- the parent has named the child, which the parent's voucher does not list yet
 pub record IsBirth (held : List Life) (parent child : Track) : Type 0 where

@@ -7,6 +7,7 @@ ghost use Rattle.hart_calls.specs.Track.{child_name};
 ghost use Rattle.hart_calls.specs.TurnResults.{HasTurned};
 ghost use Rattle.hart_calls.specs.TurnCases.{IsNamed};
 ghost use Rattle.hart_threads.specs.Due.{IsDue, IsNone};
+ghost use Rattle.hart_threads.specs.FilesOfRun.{HasGoneOver};
 ghost use Rattle.hart_threads.specs.RosterState.{IsEndedWithToken, IsOut};
 ghost use Rattle.vouchers.specs.Entries.{nameless};
 ghost use Rattle.vouchers.specs.IssuerSeats.{HoldsAt, held_of};
@@ -16,8 +17,8 @@ use crate::job::{EndedJob, Job, JobStep};
 use crate::plan::Plan;
 use crate::queue::{Part, exchange, put, take};
 use crate::roster::{Admission, Roster};
+use crate::run_shelf::{RunFiles, RunShelf};
 use crate::start_outcomes::StartOutcomes;
-use file_shelf::Shelf;
 use hart_calls::{ForkSlot, Place, Tracked, Turn};
 use shared_frames::{SharedFrames, SharedSupply};
 use std::alloc::AllocError;
@@ -35,20 +36,29 @@ const FRAMES_APART: usize = 32;
 
 /// One hart, and what it shares with the others of its run.
 #[derive(Drop)]
-pub(crate) struct HartThread<'r, 'a, B: Plan, F: StartOutcomes, R: Wait, G: Gate> {
+pub(crate) struct HartThread<'r, 'a, B: Plan, F: StartOutcomes, W: RunFiles, R: Wait, G: Gate> {
     pub(crate) rt: &'r R,
     pub(crate) frames: &'r SharedFrames,
     pub(crate) token_table: &'r TokenTable,
     pub(crate) roster: &'r Mutex<Roster<'a, B, F>>,
-    pub(crate) shelf: &'r Mutex<Shelf>,
+    pub(crate) shelf: &'r Mutex<RunShelf<W>>,
     pub(crate) parts: &'r [Part<'a, B>],
     pub(crate) gate: &'r G,
     pub(crate) number: usize,
     ghost table: { frames.now.table ≡ B.table },
     ghost at: { token_table.now ≡ B.token_table },
+    ghost of_files: { W.files ≡ B.files },
 }
 
-impl<'r, 'a, B: Plan, F: StartOutcomes, R: Wait, G: Gate> HartThread<'r, 'a, B, F, R, G> {
+impl<'r, 'a, B: Plan, F: StartOutcomes, W: RunFiles, R: Wait, G: Gate> HartThread<
+    'r,
+    'a,
+    B,
+    F,
+    W,
+    R,
+    G,
+> {
     /// Keeps a slot for the child of the next call, with the child's name and a place for its space.
     ///
     /// # Errors
@@ -114,10 +124,10 @@ impl<'r, 'a, B: Plan, F: StartOutcomes, R: Wait, G: Gate> HartThread<'r, 'a, B, 
         requires slot { IsNamed slot (child_name tracked) }
         ensures store { store.new ≡ B.table }
         ensures turned { HasTurned B.table tracked.entry result slot }
+        ensures over { HasGoneOver B.files tracked.entry result }
     {
         if tracked.needs_files() {
-            let mut shelf = self.shelf.lock(self.rt);
-            tracked.next_call(store, Some(&mut shelf), slot)
+            self.shelf.lock(self.rt).call(store, tracked, slot)
         } else {
             tracked.next_call(store, None, slot)
         }
@@ -137,7 +147,7 @@ impl<'r, 'a, B: Plan, F: StartOutcomes, R: Wait, G: Gate> HartThread<'r, 'a, B, 
     ) -> JobStep<'a, B>
         requires store { store.old ≡ B.table }
         requires at { HoldsAt B.token_table token × HoldsAt B.token_table slot }
-        requires out { IsOut B.lists B.plan (held_of token) tracked }
+        requires out { IsOut B.files B.lists B.plan (held_of token) tracked }
         requires slot { held_of slot ≡ nameless ∷ [] }
         requires name { name.items ≡ child_name tracked }
         ensures store { store.new ≡ B.table }
@@ -183,7 +193,7 @@ impl<'r, 'a, B: Plan, F: StartOutcomes, R: Wait, G: Gate> HartThread<'r, 'a, B, 
     ) -> JobStep<'a, B>
         requires store { store.old ≡ B.table }
         requires at { HoldsAt B.token_table token }
-        requires out { IsOut B.lists B.plan (held_of token) tracked }
+        requires out { IsOut B.files B.lists B.plan (held_of token) tracked }
         requires none { IsNone slot }
         ensures store { store.new ≡ B.table }
         ensures due { IsDue result }
@@ -217,7 +227,7 @@ impl<'r, 'a, B: Plan, F: StartOutcomes, R: Wait, G: Gate> HartThread<'r, 'a, B, 
     /// Returns an ended process and its voucher to the roster.
     #[inline(never)]
     fn finish(&self, gone: EndedJob<'a, B>)
-        requires back { IsEndedWithToken B.table B.lists B.plan (held_of gone.token) gone.finished }
+        requires back { IsEndedWithToken B.table B.files B.lists B.plan (held_of gone.token) gone.finished }
     {
         let EndedJob {
             finished,

@@ -21,7 +21,7 @@ pub(crate) struct Job<'a, B: Plan> {
     pub(crate) tracked: Tracked<'a, B>,
     pub(crate) token: Token,
     ghost at: { HoldsAt B.token_table token },
-    ghost out: { IsOut B.lists B.plan (held_of token) tracked } by { Prim.hlevel (props, Gv-set) },
+    ghost out: { IsOut B.files B.lists B.plan (held_of token) tracked } by { Prim.hlevel (props, Gv-set) },
 }
 
 impl<'a, B: Plan> Job<'a, B> {

@@ -16,5 +16,5 @@ pub(crate) struct QueuedJob<'a, B: Plan> {
     pub(crate) tracked: Tracked<'a, B>,
     pub(crate) token: Token,
     ghost at: { HoldsAt B.token_table token },
-    ghost out: { IsOut B.lists B.plan (held_of token) tracked } by { Prim.hlevel (props, Gv-set) },
+    ghost out: { IsOut B.files B.lists B.plan (held_of token) tracked } by { Prim.hlevel (props, Gv-set) },
 }

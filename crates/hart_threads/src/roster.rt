@@ -57,7 +57,7 @@ impl<'a, B: Plan, F: StartOutcomes> Model for Roster<'a, B, F> {
 
     ghost invariant = { λ r. KeepsAt B.token_table r.issuer
         × (length (given_of r.issuer) ≡ r.out)
-        × (r.handed ≡ false → (lives : List Life) × Each B.table B.lists B.plan lives r.finished.items × IsRostered B.plan (length B.plan - r.left) (given_of r.issuer) lives × All (MatchesSlots F.slots F.taken F.full) r.finished.items)
+        × (r.handed ≡ false → (lives : List Life) × Each B.table B.files B.lists B.plan lives r.finished.items × IsRostered B.plan (length B.plan - r.left) (given_of r.issuer) lives × All (MatchesSlots F.slots F.taken F.full) r.finished.items)
         × (vec_len r.finished + r.out + r.left ≤ vec_capacity r.finished)
         × (r.left ≤ length B.plan)
         × AreTaken F.slots F.taken (given_of r.issuer)
@@ -136,7 +136,7 @@ impl<'a, B: Plan, F: StartOutcomes> Roster<'a, B, F> {
     pub(crate) fn refuse(&mut self, unstarted: Finished<'a>)
         requires left { 0 < self.old.left }
         requires name { unstarted.name.items ≡ (length B.plan - self.old.left) ∷ [] }
-        requires refused { (s : Start) × (opening : Gv) × (slice_get B.plan (length B.plan - self.old.left) ≡ Some s) × IsEnded B.table B.lists B.plan (entry unstarted.name.items (birth s.list opening) []) unstarted }
+        requires refused { (s : Start) × (opening : Gv) × (slice_get B.plan (length B.plan - self.old.left) ≡ Some s) × IsEnded B.table B.files B.lists B.plan (entry unstarted.name.items (birth s.list opening) []) unstarted }
         requires settled { MatchesSlots F.slots F.taken F.full unstarted }
         ensures view { self.new ≡ one_made self.old }
     {
@@ -208,7 +208,7 @@ impl<'a, B: Plan, F: StartOutcomes> Roster<'a, B, F> {
     )
         requires token_table { token_table.now ≡ B.token_table }
         requires at { HoldsAt B.token_table returned }
-        requires back { IsEndedWithToken B.table B.lists B.plan (held_of returned) finished }
+        requires back { IsEndedWithToken B.table B.files B.lists B.plan (held_of returned) finished }
         ensures view { self.new ≡ one_less self.old }
     {
         token_table.redeem(&mut self.issuer, returned);
@@ -225,7 +225,7 @@ impl<'a, B: Plan, F: StartOutcomes> Roster<'a, B, F> {
 
     /// Returns all ended processes, once. `None` while a slot is in use or a start is left, and after the first `Some`.
     pub(crate) fn close(&mut self, alloc: Global) -> Option<Vec<Finished<'a>>>
-        ensures back { IfSome result (λ all. ComesBack B.table B.lists B.plan all.items) }
+        ensures back { IfSome result (λ all. ComesBack B.table B.files B.lists B.plan all.items) }
         ensures settled { IfSome result (λ all. All (MatchesSlots F.slots F.taken F.full) all.items) }
     {
         if self.out > 0 || self.left > 0 || self.handed {

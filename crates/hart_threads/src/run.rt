@@ -19,10 +19,10 @@ use crate::name_buffer::name_rooms;
 use crate::plan::Plan;
 use crate::queue::{Part, parts_for};
 use crate::roster::Roster;
+use crate::run_shelf::{RunFiles, RunShelf};
 use crate::start::StartContext;
 use crate::start_outcomes::StartOutcomes;
 use crate::start_result::StartResult;
-use file_shelf::Shelf;
 use hart_calls::Finished;
 use process_model::{Call, Sequence, Start};
 use shared_frames::{SharedFrames, SharedSeat};
@@ -35,12 +35,12 @@ use std::thread::Threads;
 use vouchers::{TokenIssuer, TokenTable};
 
 /// Runs one hart until no slot is in use.
-fn run_hart<'a, B: Plan, F: StartOutcomes, R: Wait, G: Gate>(
+fn run_hart<'a, B: Plan, F: StartOutcomes, W: RunFiles, R: Wait, G: Gate>(
     rt: &R,
     frames: &SharedFrames,
     token_table: &TokenTable,
     roster: &Mutex<Roster<'a, B, F>>,
-    shelf: &Mutex<Shelf>,
+    shelf: &Mutex<RunShelf<W>>,
     parts: &[Part<'a, B>],
     gate: &G,
     number: usize,
@@ -48,6 +48,7 @@ fn run_hart<'a, B: Plan, F: StartOutcomes, R: Wait, G: Gate>(
 )
     requires frames { frames.now.table ≡ B.table }
     requires token_table { token_table.now ≡ B.token_table }
+    requires of_files { W.files ≡ B.files }
 {
     let hart = HartThread {
         rt,
@@ -68,6 +69,7 @@ fn run_all<
     'a,
     B: Plan + Send + Sync,
     F: StartOutcomes + Send + Sync,
+    W: RunFiles + Send + Sync,
     R: Threads + Wait + Sync,
     G: Gate + Sync,
 >(
@@ -75,7 +77,7 @@ fn run_all<
     frames: &'r SharedFrames,
     token_table: &'r TokenTable,
     roster: &'r Mutex<Roster<'a, B, F>>,
-    shelf: &'r Mutex<Shelf>,
+    shelf: &'r Mutex<RunShelf<W>>,
     parts: &'r [Part<'a, B>],
     gate: &'r G,
     harts: usize,
@@ -83,17 +85,18 @@ fn run_all<
 )
     requires frames { frames.now.table ≡ B.table }
     requires token_table { token_table.now ≡ B.token_table }
+    requires of_files { W.files ≡ B.files }
 {
     thread::scope(
         thread::scope_env(),
         rt,
         |scope|
-            requires { (frames.now.table ≡ B.table) × (token_table.now ≡ B.token_table) × IsSync R.row × IsSync G.row × IsSend B.row × IsSync B.row × IsSend F.row × IsSync F.row }
+            requires { (frames.now.table ≡ B.table) × (token_table.now ≡ B.token_table) × IsSync R.row × IsSync G.row × IsSend B.row × IsSync B.row × IsSend F.row × IsSync F.row × IsSend W.row × IsSync W.row × (W.files ≡ B.files) }
         {
             for number in 1..harts {
                 let _ = scope.spawn(
                     move || -> ()
-                        requires { (frames.now.table ≡ B.table) × (token_table.now ≡ B.token_table) }
+                        requires { (frames.now.table ≡ B.table) × (token_table.now ≡ B.token_table) × (W.files ≡ B.files) }
                     {
                         run_hart(
                             rt,
@@ -129,13 +132,14 @@ fn run_made<
     'a,
     B: Plan + Send + Sync,
     F: StartOutcomes + Send + Sync,
+    W: RunFiles + Send + Sync,
     R: Threads + Wait + Sync,
     G: Gate + Sync,
 >(
     rt: &R,
     alloc: Global,
     frames: &SharedFrames,
-    shelf: &Mutex<Shelf>,
+    shelf: &Mutex<RunShelf<W>>,
     token_table: &TokenTable,
     issuer: TokenIssuer,
     ends: Vec<Finished<'a>>,
@@ -150,6 +154,7 @@ fn run_made<
 ) -> Vec<Finished<'a>>
     requires frames { frames.now.table ≡ B.table }
     requires token_table { token_table.now ≡ B.token_table }
+    requires of_files { W.files ≡ B.files }
     requires of_lists { lists.now ≡ B.lists }
     requires of_starts { starts.now ≡ B.plan }
     requires lists { All (λ start. start.list < length lists.now) starts.now }
@@ -163,7 +168,7 @@ fn run_made<
     requires all { length all.old.items ≡ length starts.now }
     requires taken { F.taken ≡ slots_of all.old.items }
     requires full { F.full ≡ any_full all.old.items }
-    ensures back { ComesBack B.table B.lists B.plan result.items }
+    ensures back { ComesBack B.table B.files B.lists B.plan result.items }
     ensures settled { All (MatchesSlots F.slots F.taken F.full) result.items }
 {
     let mut roster = Roster::<B, F>::with_room(ends, issuer, slots, starts.len());
@@ -198,12 +203,18 @@ fn run_made<
 
 /// `run_harts` for the run `B`. All host memory for the starts is allocated before the first is made, except for their
 /// spaces. A process for whose space the host has no memory ends before its first call.
-fn run_in<'a, B: Plan + Send + Sync, R: Threads + Wait + Sync, G: Gate + Sync>(
+fn run_in<
+    'a,
+    B: Plan + Send + Sync,
+    W: RunFiles + Send + Sync,
+    R: Threads + Wait + Sync,
+    G: Gate + Sync,
+>(
     rt: &R,
     alloc: Global,
     frames: &SharedFrames,
     kernel: &mut SharedSeat,
-    shelf: &Mutex<Shelf>,
+    shelf: &Mutex<RunShelf<W>>,
     token_table: &TokenTable,
     issuer: TokenIssuer,
     lists: &'a [Sequence<Call<'a>>],
@@ -215,6 +226,7 @@ fn run_in<'a, B: Plan + Send + Sync, R: Threads + Wait + Sync, G: Gate + Sync>(
 ) -> Result<Vec<Finished<'a>>, AllocError>
     requires frames { frames.now.table ≡ B.table }
     requires token_table { token_table.now ≡ B.token_table }
+    requires of_files { W.files ≡ B.files }
     requires of_lists { lists.now ≡ B.lists }
     requires of_starts { starts.now ≡ B.plan }
     requires at { KeepsAt B.token_table issuer }
@@ -223,7 +235,7 @@ fn run_in<'a, B: Plan + Send + Sync, R: Threads + Wait + Sync, G: Gate + Sync>(
     requires named { NameLists lists.now }
     requires fits { FitsIn B.table kernel.old }
     requires anchored { IsHeld (view_of kernel.old) 0 }
-    ensures back { IfOk result (λ all. ComesBack B.table B.lists B.plan all.items) }
+    ensures back { IfOk result (λ all. ComesBack B.table B.files B.lists B.plan all.items) }
     ensures slots { IfOk result (λ all. AreSlotted slots all.items) }
     ensures full { IfOk result (λ all. All (λ f. OnFull (HasReadFull (view_of kernel.old) (view_of kernel.new)) f.outcome) all.items) }
     ensures memory { IfErr result (λ _. kernel.new ≡ kernel.old) }
@@ -238,7 +250,7 @@ fn run_in<'a, B: Plan + Send + Sync, R: Threads + Wait + Sync, G: Gate + Sync>(
     let starting = StartContext { rt, alloc, frames };
     starting.make_all(kernel, &mut rooms, &mut made, starts, slots);
     let parts = parts.as_slice();
-    Ok(run_made::<B, Brand, R, G>(
+    Ok(run_made::<B, Brand, W, R, G>(
         rt,
         alloc,
         frames,
@@ -260,7 +272,8 @@ fn run_in<'a, B: Plan + Send + Sync, R: Threads + Wait + Sync, G: Gate + Sync>(
 /// Starts processes in order, each of an image and with a list of calls, and runs them on `harts` harts until all have
 /// ended. Hart 0 is this thread, the others are threads of their own; a thread that cannot be started is left out. Page
 /// tables are of Sv39. A hart takes a process from the run queue, makes up to `quantum` calls and puts it back. `slots` is
-/// the number of places for processes. `shelf` has their files; `gate` is called before and after each call.
+/// the number of places for processes. `shelf` has their files, which were those of `W` at first; `gate` is called before and
+/// after each call.
 ///
 /// `kernel` must be a seat at the table of `frames` that has a reference to frame 0, which it shares with the processes. It
 /// then has the references and credits that it had, but may no longer be the sole holder of frame 0. Each start, and each
@@ -271,6 +284,7 @@ fn run_in<'a, B: Plan + Send + Sync, R: Threads + Wait + Sync, G: Gate + Sync>(
 /// except after `Memory` and `JournalFull`. After `Memory` there are fewer than 10,000 entries; after `JournalFull` there are
 /// 10,000, or the process has a mapping and its next call asks a promise for which a history of files has no room. Its seat
 /// is still at the table of `frames`, and holds nothing. A start that was refused is returned too, with an empty journal.
+/// Each call is answered over files that right page reads and writes give from those of `W`, if it needs any.
 ///
 /// A start is refused with `NoSlot` exactly when at least `slots` of the starts before it took a slot. A start whose process
 /// made a call took one, and one that was refused took none; nothing is said of a process that ended with `Memory` before
@@ -281,12 +295,12 @@ fn run_in<'a, B: Plan + Send + Sync, R: Threads + Wait + Sync, G: Gate + Sync>(
 /// # Errors
 /// `AllocError`: the kernel's seat is unchanged. All memory whose refusal is reported so is allocated before the first
 /// start.
-pub fn run_harts<'a, R: Threads + Wait + Sync, G: Gate + Sync>(
+pub fn run_harts<'a, W: RunFiles + Send + Sync, R: Threads + Wait + Sync, G: Gate + Sync>(
     rt: &R,
     alloc: Global,
     frames: &SharedFrames,
     kernel: &mut SharedSeat,
-    shelf: &Mutex<Shelf>,
+    shelf: &Mutex<RunShelf<W>>,
     lists: &'a [Sequence<Call<'a>>],
     starts: &[Start<'_>],
     slots: usize,
@@ -298,7 +312,7 @@ pub fn run_harts<'a, R: Threads + Wait + Sync, G: Gate + Sync>(
     requires named { NameLists lists.now }
     requires fits { FitsIn frames.now.table kernel.old }
     requires anchored { IsHeld (view_of kernel.old) 0 }
-    ensures back { IfOk result (λ all. ComesBack frames.now.table lists.entry.now starts.now all.items) }
+    ensures back { IfOk result (λ all. ComesBack frames.now.table W.files lists.entry.now starts.now all.items) }
     ensures slots { IfOk result (λ all. AreSlotted slots all.items) }
     ensures full { IfOk result (λ all. All (λ f. OnFull (HasReadFull (view_of kernel.old) (view_of kernel.new)) f.outcome) all.items) }
     ensures memory { IfErr result (λ _. kernel.new ≡ kernel.old) }
@@ -306,7 +320,7 @@ pub fn run_harts<'a, R: Threads + Wait + Sync, G: Gate + Sync>(
     ensures lends { Lends (view_of kernel.old) (view_of kernel.new) }
 {
     let (token_table, issuer) = TokenTable::open(alloc)?;
-    run_in::<Brand, R, G>(
+    run_in::<Brand, W, R, G>(
         rt,
         alloc,
         frames,

@@ -2,17 +2,19 @@
 // reserve every user frame. A frame that a seat which is gone still has reserved would count as free, but nobody could have
 // it.
 
-ghost use Rattle.std.specs.Prelude.{◌≤◌};
+ghost use Rattle.std.specs.Prelude.{◌≡◌, ◌≤◌};
+ghost use Rattle.script_reader.specs.ThreadsPlayable.{IsThreadPlayable};
 ghost use Rattle.shared_frames.specs.SeatsOfTable.{FitsIn};
 
 use audit_player::{lend_lists, lend_starts};
 use file_cabinet::Cabinet;
 use file_shelf::Shelf;
 use frame_store::FrameSupply;
-use hart_threads::{OpenGate, run_harts};
+use hart_threads::{OpenGate, RunFiles, RunShelf, run_harts};
 use script_reader::ThreadScript;
 use shared_frames::{SharedFrames, SharedSeat, SharedSupply};
-use std::alloc::Global;
+use std::alloc::{AllocError, Global};
+use std::marker::Brand;
 use std::sync::{Mutex, Wait};
 use std::test::Fail;
 use std::thread::Threads;
@@ -44,9 +46,27 @@ fn can_reserve_all<R: Threads + Wait + Sync>(
     let Ok(script) = ThreadScript::read(alloc, file.as_bytes()) else {
         return Err(Fail::from("a file for threads is refused"));
     };
-    let lists = lend_lists(alloc, &script)?;
-    let starts = lend_starts(alloc, &script)?;
-    let shelf = Mutex::new(Shelf::new(alloc, Cabinet::new(alloc, script.files())?));
+    let shelf = Shelf::new(alloc, Cabinet::new(alloc, script.files())?);
+    Ok(run_and_reserve::<Brand, R>(rt, alloc, &script, shelf, count, harts)?)
+}
+
+/// `can_reserve_all` for a file for threads that was read, with the shelf.
+fn run_and_reserve<W: RunFiles + Send + Sync, R: Threads + Wait + Sync>(
+    rt: &R,
+    alloc: Global,
+    script: &ThreadScript,
+    shelf: Shelf,
+    count: usize,
+    harts: usize,
+) -> Result<bool, AllocError>
+    requires playable { IsThreadPlayable script.now }
+    requires first { shelf.first ≡ W.files }
+    requires some { 1 ≤ count }
+    requires few { count ≤ 256 }
+{
+    let lists = lend_lists(alloc, script)?;
+    let starts = lend_starts(alloc, script)?;
+    let shelf = Mutex::new(RunShelf::<W>::new(shelf));
     let (frames, mut seat) = SharedFrames::new(alloc, count)?;
     let _ended = run_harts(
         rt,

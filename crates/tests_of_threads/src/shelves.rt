@@ -1,15 +1,21 @@
 // Tests of the shelf, the files that threads share. Calls that need no files do not lock it: processes run to their end
 // while the test holds the lock. When 65,536 pages have been read or written, it is full, and promises no further page.
 
+ghost use Rattle.std.specs.Prelude.{◌≡◌};
+ghost use Rattle.script_reader.specs.ThreadsPlayable.{IsThreadPlayable};
+
 use audit_player::{lend_lists, lend_starts};
 use file_cabinet::{Cabinet, Files, PromiseError};
 use file_shelf::{MOST_USES, Shelf};
-use hart_threads::{OpenGate, run_harts};
+use hart_threads::{OpenGate, RunFiles, RunShelf, run_harts};
 use process_model::{Bytes, FileText};
 use script_reader::ThreadScript;
 use shared_frames::SharedFrames;
-use std::sync::Mutex;
+use std::alloc::{AllocError, Global};
+use std::marker::Brand;
+use std::sync::{Mutex, Wait};
 use std::test::Fail;
+use std::thread::Threads;
 
 /// A file for threads of three processes that map nothing: loads, a store, a fork, a heap, copies and an exec.
 const NO_FILES: &str =
@@ -21,14 +27,32 @@ fn without_files_nobody_locks_the_shelf(rt: HostRuntime) -> Result<(), Fail> {
     let Ok(script) = ThreadScript::read(rt.alloc(), NO_FILES.as_bytes()) else {
         return Err(Fail::from("a file for threads is refused"));
     };
-    let lists = lend_lists(rt.alloc(), &script)?;
-    let starts = lend_starts(rt.alloc(), &script)?;
-    let shelf = Mutex::new(Shelf::new(rt.alloc(), Cabinet::new(rt.alloc(), &[])?));
-    let (frames, mut seat) = SharedFrames::new(rt.alloc(), 64)?;
-    let held = shelf.lock(&rt);
+    let shelf = Shelf::new(rt.alloc(), Cabinet::new(rt.alloc(), &[])?);
+    let (ended, free) = run_while_locked::<Brand, HostRuntime>(&rt, rt.alloc(), &script, shelf)?;
+    assert_eq!(rt; ended, 3);
+    assert_eq!(rt; free, 63);
+    Ok(())
+}
+
+/// Runs the processes of a file for threads while the lock of their shelf is held. Returns how many ended, and how many frames
+/// are free then.
+fn run_while_locked<W: RunFiles + Send + Sync, R: Threads + Wait + Sync>(
+    rt: &R,
+    alloc: Global,
+    script: &ThreadScript,
+    shelf: Shelf,
+) -> Result<(usize, usize), AllocError>
+    requires playable { IsThreadPlayable script.now }
+    requires first { shelf.first ≡ W.files }
+{
+    let lists = lend_lists(alloc, script)?;
+    let starts = lend_starts(alloc, script)?;
+    let shelf = Mutex::new(RunShelf::<W>::new(shelf));
+    let (frames, mut seat) = SharedFrames::new(alloc, 64)?;
+    let held = shelf.lock(rt);
     let ended = run_harts(
-        &rt,
-        rt.alloc(),
+        rt,
+        alloc,
         &frames,
         &mut seat,
         &shelf,
@@ -40,9 +64,7 @@ fn without_files_nobody_locks_the_shelf(rt: HostRuntime) -> Result<(), Fail> {
         &OpenGate,
     )?;
     drop(held);
-    assert_eq!(rt; ended.len(), 3);
-    assert_eq!(rt; frames.close(seat).free, 63);
-    Ok(())
+    Ok((ended.len(), frames.close(seat).free))
 }
 
 /// Writes and reads the first page of file 0 in turn, `uses` times in all, each time by a promise of one page. Returns

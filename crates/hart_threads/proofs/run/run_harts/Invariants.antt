@@ -6,4 +6,4 @@ abbrev pub ghosts-run_in-B-RunBrand : goal.ghosts-run_in-B-RunBrand
 ghosts-run_in-B-RunBrand g a = record { table = a.frames.now.table; token_table = a.token_table.now; starts = length a.starts.now }
 
 abbrev pub ghosts-run_in-B-Plan : goal.ghosts-run_in-B-Plan
-ghosts-run_in-B-Plan g a = record { lists = a.lists.now; plan = a.starts.now }
+ghosts-run_in-B-Plan g a = record { lists = a.lists.now; plan = a.starts.now; files = g.W.RunFiles.files }

@@ -15,8 +15,8 @@ invariant_of-put g c =
     let holds : held_of c.start-token.result ≡ entry c.in-Begun.name.items (birth k (code_of c.in-Begun.opening.state)) [] ∷ [] = c.start-token.ensures.holds ∙ ap (λ (m : List ℕ). entry m (birth k (code_of c.in-Begun.opening.state)) [] ∷ []) c.as_slice.ensures.value in
     record {
       at = c.start-token.ensures.at;
-      out = begun_out g.B.Plan.lists g.B.Plan.plan (length g.B.Plan.plan - c.args.roster.now.left) c.args.start c.requires.start c.in-Begun.name.items made.1 (held_of c.start-token.result) k c.new-tracked.result c.in-Begun.opening.state refl made.3
-          holds e.name (e.lists ∙ c.args.self.now.of_lists) e.list e.opening e.journal;
+      out = begun_out g.B.Plan.files g.B.Plan.lists g.B.Plan.plan (length g.B.Plan.plan - c.args.roster.now.left) c.args.start c.requires.start c.in-Begun.name.items made.1 (held_of c.start-token.result) k c.new-tracked.result c.in-Begun.opening.state refl made.3
+          holds e.name (e.lists ∙ c.args.self.now.of_lists) e.list e.opening e.state e.journal;
     }
 
 pub start-token-requires-clause-free : goal.start-token-requires-clause-free
@@ -30,7 +30,7 @@ start-token-requires-clause-free g c =
 pub refuse-requires-clause-refused : goal.refuse-requires-clause-refused
 refuse-requires-clause-refused g c =
     let made = rw c.in-Over.is at c.requires.made in
-    let ended = unbegun_ended g.B.Plan.lists g.B.Plan.plan (length g.B.Plan.plan - c.args.roster.now.left) c.args.start c.requires.start _ refl g.B.RunBrand.table _ _ c.in-Over.finished made in
+    let ended = unbegun_ended g.B.Plan.files g.B.Plan.lists g.B.Plan.plan (length g.B.Plan.plan - c.args.roster.now.left) c.args.start c.requires.start _ refl g.B.RunBrand.table _ _ c.in-Over.finished made in
     (c.args.start, ended.0, c.requires.start, ended.1)
 
 pub refuse-requires-clause-settled : goal.refuse-requires-clause-settled

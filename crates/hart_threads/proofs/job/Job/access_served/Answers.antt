@@ -1,5 +1,12 @@
+use Rattle.hart_calls.specs.declared.fork_slot.ForkSlot.TheVariants as slot
+use Rattle.hart_threads.proofs.Reaching.{free_over}
 use Rattle.hart_threads.proofs.TokenSteps.{out_served}
 use Rattle.hart_threads.proofs.job.Job.access_served.Goals as goal
 
 pub invariant_of-self : goal.invariant_of-self
-invariant_of-self g c = record { at = c.args.self.now.at; out = out_served _ _ _ _ c.args.self.now.out _ c.access_served.result c.access_served.ensures.made c.access_served.ensures.not_made }
+invariant_of-self g c =
+    let e = c.access_served.ensures in
+    record {
+      at = c.args.self.now.at;
+      out = out_served _ _ _ _ _ c.args.self.now.out _ c.access_served.result e.made e.not_made (λ yes. free_over g.B.Plan.files _ (e.files yes) _ _ slot.NoSlot (e.made yes slot.NoSlot));
+    }

@@ -30,7 +30,7 @@ invariant_of-self g c =
       (λ here.
           let was = i.2 here in (
             was.0 ++ life ∷ [],
-            each_push g.B.RunBrand.table g.B.Plan.lists g.B.Plan.plan was.0 _ life f was.1 c.requires.back.3,
+            each_push g.B.RunBrand.table g.B.Plan.files g.B.Plan.lists g.B.Plan.plan was.0 _ life f was.1 c.requires.back.3,
             rw e (rostered_finish _ was.0 life g.B.Plan.plan _ mine c.requires.back.2 was.2),
             All-push (MatchesSlots slots taken full) _ f was.3 (began_settled slots taken full f c.requires.back.4 (λ j is. i.5 life j mine (sym c.requires.back.3.name ∙ is))),
           )),

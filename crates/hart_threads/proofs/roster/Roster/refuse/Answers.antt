@@ -27,7 +27,7 @@ invariant_of-self g c =
       (λ here.
           let was = i.2 here in (
             was.0 ++ entry f.name.items (birth s.list o) [] ∷ [],
-            each_push g.B.RunBrand.table g.B.Plan.lists starts was.0 _ _ f was.1 c.requires.refused.3,
+            each_push g.B.RunBrand.table g.B.Plan.files g.B.Plan.lists starts was.0 _ _ f was.1 c.requires.refused.3,
             rostered_refuse starts _ _ s (omega (arith, l, i.4)) at o f.name.items named _ was.0 was.2,
             All-push (MatchesSlots g.F.StartOutcomes.slots g.F.StartOutcomes.taken g.F.StartOutcomes.full) _ f was.3 c.requires.settled,
           )),

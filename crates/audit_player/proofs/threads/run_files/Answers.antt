@@ -1,8 +1,10 @@
-use Rattle.std.proofs.Common.{arith, subst}
+use Rattle.std.proofs.Common.{List, arith, subst}
 use Rattle.audit_player.proofs.ClosedPools.{pool_closed}
+use Rattle.hart_threads.specs.RosterState.{ComesBack}
 use Rattle.hart_threads.specs.Slots.{AreSlotted}
+use Rattle.process_model.specs.Files.{File}
 use Rattle.process_model.specs.declared.call.Pool.{Pool}
-use Rattle.audit_player.proofs.threads.run_pool.Goals as goal
+use Rattle.audit_player.proofs.threads.run_files.Goals as goal
 
 pub reserve_user_frames-requires-clause-anchored : goal.reserve_user_frames-requires-clause-anchored
 reserve_user_frames-requires-clause-anchored g c = omega (arith, c.run_harts.ensures.lends.trampoline, c.take_kernel_frames.ensures.holds.trampoline)
@@ -17,4 +19,7 @@ pub returns-clause-slots : goal.returns-clause-slots
 returns-clause-slots g c = subst (λ (p : Pool). AreSlotted p.slots c.in_ok-ended.ended.items) c.pool-pool.ensures c.in_ok-ended.ensures.slots
 
 pub returns-clause-ended : goal.returns-clause-ended
-returns-clause-ended g c = (c.in_ok-frames.frames.table, c.in_ok-ended.ensures.back)
+returns-clause-ended g c = (
+  c.in_ok-frames.frames.table,
+  subst (λ (fs : List File). ComesBack c.in_ok-frames.frames.table fs c.args.lists.now c.args.starts.now c.in_ok-ended.ended.items) c.requires.of_files c.in_ok-ended.ensures.back,
+)
