@@ -17,4 +17,4 @@ pub use exec_image::exec;
 pub use image::Image;
 pub use image_faults::{FaultySegment, ImageFault, image_fault};
 pub use load::{GUARD_PAGES, STACK_PAGES};
-pub use start_process::start;
+pub use start_process::{start, start_frames};

@@ -1,5 +1,6 @@
-// The call `start`: builds the address space of a new process of a program image. `parts_of`, for `exec` too: the parts of
-// that process, each a region with its first bytes: the segments, then a guard page and a stack page of zeros.
+// The call `start`: builds the address space of a new process of a program image; `start_frames`, how many frames it takes.
+// `parts_of`, for `exec` too: the parts of that process, each a region with its first bytes: the segments, then a guard page
+// and a stack page of zeros.
 
 ghost use Rattle.std.specs.Prelude.{[], ◌≡◌, ◌-◌, ◌≤◌, ◌↔◌, if◌then◌else◌, IfErr, IfOk, is_ok, IsOk, ℕ};
 ghost use Rattle.address_space.specs.Agreement.{body_of, IsSpace, HoldsTrampoline};
@@ -14,7 +15,7 @@ ghost use Rattle.table_walk.specs.Tables as tables;
 
 use crate::image::Image;
 use crate::load::{GUARD_PAGES, Load, STACK_PAGES};
-use address_space::{Part, Region, RegionKind, Source, Space};
+use address_space::{Part, Region, RegionKind, Source, Space, frames_needed};
 use arrayvec::ArrayVec;
 use bitflags::Flags;
 use frame_store::{FrameSeat, FrameSupply, NoFrame};
@@ -47,6 +48,14 @@ pub fn start<F: FrameSupply<Seat = S>, S: FrameSeat>(
 {
     let parts = parts_of(image);
     Space::build(store, seat, image.scheme, parts.as_slice())
+}
+
+/// Returns how many frames `start` takes for `image`: `start_need`.
+pub fn start_frames(image: &Image) -> usize
+    ensures { result ≡ start_need image.now.scheme image.now.loads }
+{
+    let parts = parts_of(image);
+    frames_needed(image.scheme, parts.as_slice())
 }
 
 /// The parts of the process of an image: its segments, and after the last one a guard page and a stack page (the xv6 book,
