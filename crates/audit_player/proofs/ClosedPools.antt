@@ -7,7 +7,7 @@ use Rattle.atomic_table.specs.Seated.{TableId}
 use Rattle.frame_store.specs.View.{IsSole, View, opening_view, references}
 use Rattle.hart_calls.specs.declared.finished.Finished.{Finished}
 use Rattle.hart_threads.specs.RosterState.{ComesBack}
-use Rattle.hart_threads.specs.Slots.{AreSlotted}
+use Rattle.hart_threads.specs.StartFrames.{ArePoolStarts}
 use Rattle.hart_threads.specs.Starts.{Lends}
 use Rattle.process_model.specs.Script.{file_of}
 use Rattle.process_model.specs.ThreadScript.{ThreadScript}
@@ -73,10 +73,15 @@ pool_closed p q table first taken ended last n k free trampoline same size count
 pub users_are : (p q : Pool) (k : ℕ) → q ≡ p → k ≡ kernel_of q → q.frames - k ≡ user_frames p
 users_are p q k same count = ap (λ (m : ℕ). q.frames - m) count ∙ ap user_frames same
 
+-- why starts are refused, by the pool
+pub pool_starts : (p q : Pool) (k free : ℕ) (starts : List Start) (ended : List Finished) → q ≡ p → k ≡ kernel_of q → free ≡ q.frames - k → ArePoolStarts q.slots free starts ended → ArePoolStarts p.slots (user_frames p) starts ended
+pool_starts p q k free starts ended same count is h =
+    subst (λ (n : ℕ). ArePoolStarts p.slots n starts ended) (is ∙ users_are p q k same count) (subst (λ (r : Pool). ArePoolStarts r.slots free starts ended) same h)
+
 -- those who ended, sorted, are a text of the file
-pub is_text : (s : ThreadScript) (lists of_lists : List (List Call)) (starts of_starts : List Start) (ended sorted shown : List Finished) (free frames : ℕ) → AreListsOf s.images s.lists lists → of_lists ≡ lists → AreStartsOf s.images s.starts starts → of_starts ≡ starts → (table : TableId) × ComesBack table (map file_of s.files) of_lists of_starts ended → AreSlotted s.pool.slots ended
+pub is_text : (s : ThreadScript) (lists of_lists : List (List Call)) (starts of_starts : List Start) (ended sorted shown : List Finished) (free frames : ℕ) → AreListsOf s.images s.lists lists → of_lists ≡ lists → AreStartsOf s.images s.starts starts → of_starts ≡ starts → (table : TableId) × ComesBack table (map file_of s.files) of_lists of_starts ended → ArePoolStarts s.pool.slots (user_frames s.pool) of_starts ended
     → IsPermutation ended sorted → AreInOrder sorted → shown ≡ sorted → LeavesFree s.pool free → frames ≡ user_frames s.pool → IsTextOf s (threads_text shown free frames)
-is_text s lists of_lists starts of_starts ended sorted shown free frames are_lists same_lists are_starts same_starts comes slots same order shows leaves users = record {
+is_text s lists of_lists starts of_starts ended sorted shown free frames are_lists same_lists are_starts same_starts comes refusals same order shows leaves users = record {
   lists = lists;
   are_lists = are_lists;
   starts = starts;
@@ -84,7 +89,7 @@ is_text s lists of_lists starts of_starts ended sorted shown free frames are_lis
   ended = ended;
   table = comes.0;
   comes = subst (λ (ls : List (List Call)). ComesBack comes.0 (map file_of s.files) ls starts ended) same_lists (subst (λ (ss : List Start). ComesBack comes.0 (map file_of s.files) of_lists ss ended) same_starts comes.1);
-  slots = slots;
+  refusals = subst (λ (ss : List Start). ArePoolStarts s.pool.slots (user_frames s.pool) ss ended) same_starts refusals;
   shown = sorted;
   same = same;
   order = order;

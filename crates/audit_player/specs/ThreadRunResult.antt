@@ -8,7 +8,7 @@ use Rattle.atomic_table.specs.Seated.{TableId}
 use Rattle.frame_store.specs.View.{View}
 use Rattle.hart_calls.specs.declared.finished.Finished.{Finished}
 use Rattle.hart_threads.specs.RosterState.{ComesBack}
-use Rattle.hart_threads.specs.Slots.{AreSlotted}
+use Rattle.hart_threads.specs.StartFrames.{ArePoolStarts}
 use Rattle.process_model.specs.Frames.{kernel_frames}
 use Rattle.process_model.specs.Script.{file_of}
 use Rattle.process_model.specs.ThreadScript.{ThreadScript, thread_script_of}
@@ -41,7 +41,8 @@ pub record LeavesFree (pool : Pool) (free : ℕ) : Type 0 where
 
 -- A text that playing the file may write: how processes ended, a line for each start and each child, sorted by their
 -- names, and last that all user frames are free, which they are (`LeavesFree`). The processes are those of a run of the
--- file's lists and starts over its declared files (`ComesBack`), in its slots; their seats are at one table of frames.
+-- file's lists and starts over its declared files (`ComesBack`), in its slots and frames (`ArePoolStarts`); their seats are at
+-- one table of frames.
 pub record IsTextOf (s : ThreadScript) (whole : List ℕ) : Type 0 where
   pub lists : List (List Call)
   pub are_lists : AreListsOf s.images s.lists lists
@@ -50,7 +51,7 @@ pub record IsTextOf (s : ThreadScript) (whole : List ℕ) : Type 0 where
   pub ended : List Finished
   pub table : TableId
   pub comes : ComesBack table (map file_of s.files) lists starts ended
-  pub slots : AreSlotted s.pool.slots ended
+  pub refusals : ArePoolStarts s.pool.slots (user_frames s.pool) starts ended
   pub shown : List Finished
   pub same : IsPermutation ended shown
   pub order : AreInOrder shown

@@ -5,11 +5,11 @@ ghost use Rattle.std.specs.Prelude.{◌≡◌, ◌↔◌, ◌||◌, ◌≤◌, �
 ghost use Rattle.atomic_table.specs.Seated.{TableId};
 ghost use Rattle.hart_calls.specs.Track.{NameLists};
 ghost use Rattle.hart_threads.specs.RosterState.{ComesBack};
-ghost use Rattle.hart_threads.specs.Slots.{AreSlotted};
+ghost use Rattle.hart_threads.specs.StartFrames.{ArePoolStarts};
 ghost use Rattle.process_model.specs.Script.{file_of};
 ghost use Rattle.process_model.specs.ThreadScript.{most_lists};
 ghost use Rattle.script_reader.specs.ThreadsPlayable.{IsThreadPlayable};
-ghost use Rattle.audit_player.specs.ThreadRunResult.{LeavesFree, PlaysLists, PlaysThreads};
+ghost use Rattle.audit_player.specs.ThreadRunResult.{LeavesFree, PlaysLists, PlaysThreads, user_frames};
 
 use crate::fault::PlayError;
 use crate::kernel::{reserve_user_frames, take_kernel_frames};
@@ -23,7 +23,7 @@ use crate::transfer::{ReadError, read_bytes};
 use file_cabinet::Cabinet;
 use file_shelf::Shelf;
 use hart_calls::Finished;
-use hart_threads::{Gate, OpenGate, RunFiles, RunShelf, run_harts};
+use hart_threads::{Gate, OpenGate, RunFiles, RunShelf, run_harts_alone};
 use process_model::{Call, Sequence, Start, kernel_frames};
 use script_reader::ThreadScript;
 use shared_frames::SharedFrames;
@@ -43,6 +43,8 @@ const QUANTUM: usize = 8;
 /// Returns the processes as they ended, one for each start and for each child (`ComesBack`, over the declared files), and how
 /// many frames have reference count 0 then: all user frames. No seat but the kernel's holds a frame or has a credit then
 /// (`LeavesFree`); the kernel waits for that.
+/// A start is refused with `NoSlot` exactly when as many starts before it took a slot as there are, with `NoFrame` only if
+/// these leave fewer user frames than it needs, and with `SharersFull` never.
 ///
 /// # Errors
 /// `AllocError`: host memory was refused.
@@ -62,7 +64,7 @@ pub fn run_pool<'a, T: Threads + Wait + Sync, G: Gate + Sync>(
     requires some { 1 ≤ harts }
     requires few { harts ≤ 8 }
     ensures ended { IfOk result (λ r. (table : TableId) × ComesBack table (map file_of script.now.files) lists.entry.now starts.now r.0.items) }
-    ensures slots { IfOk result (λ r. AreSlotted script.now.pool.slots r.0.items) }
+    ensures refusals { IfOk result (λ r. ArePoolStarts script.now.pool.slots (user_frames script.now.pool) starts.now r.0.items) }
     ensures free { IfOk result (λ r. LeavesFree script.now.pool r.1) }
 {
     let shelf = Shelf::new(alloc, Cabinet::new(alloc, script.files())?);
@@ -89,7 +91,7 @@ fn run_files<'a, W: RunFiles + Send + Sync, T: Threads + Wait + Sync, G: Gate + 
     requires some { 1 ≤ harts }
     requires few { harts ≤ 8 }
     ensures ended { IfOk result (λ r. (table : TableId) × ComesBack table (map file_of script.now.files) lists.entry.now starts.now r.0.items) }
-    ensures slots { IfOk result (λ r. AreSlotted script.now.pool.slots r.0.items) }
+    ensures refusals { IfOk result (λ r. ArePoolStarts script.now.pool.slots (user_frames script.now.pool) starts.now r.0.items) }
     ensures free { IfOk result (λ r. LeavesFree script.now.pool r.1) }
 {
     let pool = script.pool();
@@ -97,8 +99,10 @@ fn run_files<'a, W: RunFiles + Send + Sync, T: Threads + Wait + Sync, G: Gate + 
     let (frames, mut seat) = SharedFrames::new(alloc, pool.frames)?;
     let kernel = kernel_frames(Scheme::Sv39, pool.frames, pool.slots);
     take_kernel_frames(rt, &frames, &mut seat, kernel);
-    let ended = run_harts(
+    let free = pool.frames - kernel;
+    let ended = run_harts_alone(
         rt, alloc, &frames, &mut seat, &shelf, lists, starts, pool.slots, harts, QUANTUM, gate,
+        free,
     )?;
     reserve_user_frames(rt, &frames, &mut seat, pool.frames - kernel);
     let totals = frames.close(seat);

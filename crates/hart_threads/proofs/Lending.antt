@@ -117,6 +117,10 @@ module _ {E : Type 0} (z b : TableId) (s t : SharedSeat) (fits : FitsIn z s) whe
   opens_looks (Ok u) o = ap (λ (v : View). v.tallies.looks) o.0
   opens_looks (Err e) o = tt
 
+  pub opens_fresh : (r : Result SharedSeat E) → Opens r → IfOk r (λ u. (view_of u).tallies.claims ≡ 0)
+  opens_fresh (Ok u) o = ap (λ (v : View). v.tallies.claims) o.1
+  opens_fresh (Err e) o = tt
+
   pub opens_store : (r : Result SharedSeat E) → Opens r → b ≡ z
   opens_store (Ok u) o = (fits_both z z b s t u refl o.3 fits).0
   opens_store (Err e) o = (fits_still z z b s t refl o.4 fits).0

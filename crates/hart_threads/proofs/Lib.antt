@@ -8,4 +8,6 @@ mod TokenSteps
 mod Beginning
 mod Slotting
 mod Making
+mod Framing
+mod Tries
 mod Queueing

@@ -1,15 +1,19 @@
--- Lemmas on the results of starts, made one by one: one result more keeps `AreStartResults`, the slots taken and the counts
--- that were read; the next result on the list is the one to enlist, with the rest left (`enlists_made`, `enlists_rest`).
-use Rattle.std.proofs.Common.{◌≡◌, ℕ, ◌+◌, ◌-◌, ◌<◌, ◌≤◌, Bool, cond, List, [], ◌∷◌, ◌++◌, Some, length, length-append, lit≤, slice_get, take, refl, sym, ap, ◌∙◌, subst, arith}
+-- Lemmas on the results of starts, made one by one: one result more keeps `AreStartResults`, the slots taken and why one was
+-- refused with SharersFull; the next result on the list is the one to enlist, with the rest left (`enlists_made`, `enlists_rest`).
+use Rattle.std.proofs.Common.{◌≡◌, ◌⊎◌, inl, inr, ℕ, ◌+◌, ◌-◌, ◌<◌, ◌≤◌, Bool, true, false, cond, List, [], ◌∷◌, ◌++◌, Some, length, length-append, lit≤, slice_get, take, refl, sym, ap, ◌∙◌, subst, arith}
 use Rattle.std.proofs.lemmas.List.{append-nil, append_assoc}
 use Rattle.std.proofs.lemmas.Option.{same_Some}
 use Rattle.atomic_table.specs.Seated.{TableId}
-use Rattle.frame_store.specs.View.{View}
-use Rattle.hart_threads.specs.StartEffects.{all_looks, AreStartResults, IsStartResult, looks_of, slots_of, takes_slot}
-use Rattle.hart_threads.specs.Slots.{count}
+use Rattle.hart_threads.proofs.Slotting.{on_weaker}
+use Rattle.hart_threads.specs.StartEffects.{all_looks, any_full, AreStartResults, fulls, has_any, IsStartResult, looks_of, slots_of, takes_slot}
+use Rattle.hart_threads.specs.StartFrames.{IfFull}
+use Rattle.hart_threads.specs.Slots.{count, OnFull}
 use Rattle.hart_threads.specs.declared.start_result.StartResult.{StartResult}
 use Rattle.hart_threads.specs.declared.start_result.StartResult.TheVariants as made
+use Rattle.process_model.specs.declared.call.Outcome.{Outcome}
+use Rattle.process_model.specs.declared.call.Outcome.TheVariants as outcome
 use Rattle.process_model.specs.declared.call.Start.{Start}
+use Rattle.process_model.specs.declared.step.Refusal.TheVariants as refusal
 
 -- one more
 
@@ -43,9 +47,28 @@ pub looks_push : (ms : List StartResult) (m : StartResult) → all_looks (ms ++ 
 looks_push [] m = append-nil (looks_of m)
 looks_push (x ∷ ms) m = ap (λ (ls : List ℕ). looks_of x ++ ls) (looks_push ms m) ∙ sym (append_assoc (looks_of x) (all_looks ms) (looks_of m))
 
--- a kernel's seat after one more start
-pub looks_next : (u v w : View) (ms : List StartResult) (m : StartResult) → v.tallies.looks ≡ u.tallies.looks ++ all_looks ms → w.tallies.looks ≡ v.tallies.looks ++ looks_of m → w.tallies.looks ≡ u.tallies.looks ++ all_looks (ms ++ m ∷ [])
-looks_next u v w ms m was now = now ∙ (ap (λ (ls : List ℕ). ls ++ looks_of m) was ∙ (append_assoc u.tallies.looks (all_looks ms) (looks_of m) ∙ ap (λ (ls : List ℕ). u.tallies.looks ++ ls) (sym (looks_push ms m))))
+has_either : (xs ys : List ℕ) → has_any (xs ++ ys) ≡ true → (has_any xs ≡ true) ⊎ (has_any ys ≡ true)
+has_either [] ys is = inr is
+has_either (x ∷ xs) ys is = inl refl
+
+one_full : (p : Type 0) (o : Outcome) → OnFull p o → has_any (fulls o) ≡ true → p
+one_full p (outcome.Refused refusal.SharersFull) on is = on
+one_full p o on is = absurd (let no : false ≡ true = is in cc)
+
+full_one : (p : Type 0) (m : StartResult) → IfFull p m → has_any (looks_of m) ≡ true → p
+full_one p (made.Begun name space opening) on is = absurd (let no : false ≡ true = is in cc)
+full_one p (made.Over f) on is = one_full p f.outcome on is
+
+-- one more start, which was refused with SharersFull only if p holds
+pub full_push : (p : Type 0) (ms : List StartResult) (m : StartResult) → (any_full ms ≡ true → p) → IfFull p m → any_full (ms ++ m ∷ []) ≡ true → p
+full_push p ms m was on is = elim (has_either (all_looks ms) (looks_of m) (ap has_any (sym (looks_push ms m)) ∙ is)) as (λ _. p) [
+  | inl before ↦ was before
+  | inr now ↦ full_one p m on now
+]
+
+pub if_full_weaker : (p q : Type 0) → (p → q) → (m : StartResult) → IfFull p m → IfFull q m
+if_full_weaker p q f (made.Begun name space opening) on = tt
+if_full_weaker p q f (made.Over ended) on = on_weaker p q f ended.outcome on
 
 -- the first of those that are left
 module _ (whole before : List Bool) (b : Bool) (after : List Bool) (is : whole ≡ before ++ b ∷ after) where
@@ -67,7 +90,7 @@ module _ (whole before : List Bool) (b : Bool) (after : List Bool) (is : whole �
   slots_after = is ∙ sym (append_assoc before (b ∷ []) after)
 
 -- the first of them
-slots_first : (whole before after : List Bool) → whole ≡ before ++ after → (n : ℕ) → length before ≡ n → take n whole ≡ before
+pub slots_first : (whole before after : List Bool) → whole ≡ before ++ after → (n : ℕ) → length before ≡ n → take n whole ≡ before
 slots_first whole before after is n number = subst (λ (k : ℕ). take k whole ≡ before) number (subst (λ (bs : List Bool). take (length before) bs ≡ before) (sym is) (here before))
   where
     here : (bs : List Bool) → take (length bs) (bs ++ after) ≡ bs

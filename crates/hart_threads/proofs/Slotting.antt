@@ -1,8 +1,7 @@
 -- Lemmas on slots (places in the process table): ends with and without a process keep the rule for slots and counts
 -- (`MatchesSlots`), the unfinished starts took free slots (`AreTaken`) at each roster step, and what follows for a run
--- (`all_slotted`, `all_full`).
+-- (`all_slotted`, `all_full`, `all_pooled`).
 use Rattle.std.proofs.Common.{◌≡◌, inl, inr, ℕ, ◌<◌, Bool, true, false, List, [], ◌∷◌, ◌++◌, All, Option, Some, length, slice_get, take, refl, sym, ap, ◌∙◌, subst}
-use Rattle.std.proofs.lemmas.List.{append-nil}
 use Rattle.std.proofs.lemmas.List.Elements.{All-weaker}
 use Rattle.atomic_table.specs.Seated.{TableId}
 use Rattle.frame_store.specs.View.{View}
@@ -10,7 +9,9 @@ use Rattle.hart_calls.specs.declared.journal_entry.JournalEntry.{JournalEntry}
 use Rattle.hart_calls.specs.declared.finished.Finished.{Finished}
 use Rattle.hart_threads.proofs.Names.{first_of, no_start}
 use Rattle.hart_threads.specs.StartEffects.{all_looks, any_full, fulls, has_any, IsFullKnown, IsUnbegun, IsWhy, looks_of}
-use Rattle.hart_threads.specs.Slots.{AreSlotted, AreTaken, count, FindsSlot, HasReadFull, MatchesSlots, IsTaken, KeepsSlots, OnFull, Takes, Unrefused}
+use Rattle.hart_threads.specs.Settled.{MatchesSlots}
+use Rattle.hart_threads.specs.Slots.{AreSlotted, AreTaken, count, FindsSlot, IsTaken, KeepsSlots, OnFull, Takes, Unrefused}
+use Rattle.hart_threads.specs.StartFrames.{ArePoolStarts, IsPoolStart, LacksFrames, OnNoFrame}
 use Rattle.hart_threads.specs.declared.start_result.StartResult.{StartResult}
 use Rattle.hart_threads.specs.declared.start_result.StartResult.TheVariants as made
 use Rattle.process_model.specs.declared.call.Outcome.{Outcome}
@@ -45,10 +46,15 @@ not_full : (full : Type 0) (o : Outcome) → Unrefused o → OnFull full o
 not_full full (outcome.Refused r) began = absurd began
 not_full full o began = tt
 
-pub began_settled : (slots : ℕ) (taken : List Bool) (full : Bool) (f : Finished) → Unrefused f.outcome → ((i : ℕ) → f.name.items ≡ i ∷ [] → IsTaken slots taken i) → MatchesSlots slots taken full f
-began_settled slots taken full f began all = record {
+not_dry : (lacks : Type 0) (o : Outcome) → Unrefused o → OnNoFrame lacks o
+not_dry lacks (outcome.Refused r) began = absurd began
+not_dry lacks o began = tt
+
+pub began_settled : (starts : List Start) (slots : ℕ) (taken : List Bool) (full : Bool) (free : ℕ) (f : Finished) → Unrefused f.outcome → ((i : ℕ) → f.name.items ≡ i ∷ [] → IsTaken slots taken i) → MatchesSlots starts slots taken full free f
+began_settled starts slots taken full free f began all = record {
   slot = λ i is. let t = all i is in record { finds = finds_free slots (count (take i taken)) f.outcome began t.0; takes = takes_one (slice_get taken i) f.outcome f.journal.items began t.1 };
   reads = not_full (full ≡ true) f.outcome began;
+  frames = λ i is. not_dry (LacksFrames free starts taken i) f.outcome began;
 }
 
 -- a start without a process took none
@@ -61,13 +67,14 @@ takes_none slot s v (outcome.Exited status) journal why none is = absurd why
 takes_none slot s v (outcome.Ended rule) journal why none is = absurd why
 takes_none slot s v outcome.JournalFull journal why none is = absurd why
 
-pub unbegun_settled : (table : TableId) (slots : ℕ) (taken : List Bool) (full : Bool) (i : ℕ) (s : Start) (f : Finished) → IsUnbegun table slots (count (take i taken)) s (i ∷ []) f → slice_get taken i ≡ Some false → OnFull (full ≡ true) f.outcome → MatchesSlots slots taken full f
-unbegun_settled table slots taken full i s f none is on = record { slot = here; reads = on }
+pub unbegun_settled : (table : TableId) (starts : List Start) (slots : ℕ) (taken : List Bool) (full : Bool) (free : ℕ) (i : ℕ) (s : Start) (f : Finished) → IsUnbegun table slots (count (take i taken)) s (i ∷ []) f → slice_get taken i ≡ Some false → OnFull (full ≡ true) f.outcome → OnNoFrame (LacksFrames free starts taken i) f.outcome → MatchesSlots starts slots taken full free f
+unbegun_settled table starts slots taken full free i s f none is on dry = record { slot = here; reads = on; frames = λ j named. subst (λ (k : ℕ). OnNoFrame (LacksFrames free starts taken k) f.outcome) (same j named) dry }
   where
+    same : (j : ℕ) → f.name.items ≡ j ∷ [] → i ≡ j
+    same j named = ap first_of (sym none.named ∙ named)
+
     here : (j : ℕ) → f.name.items ≡ j ∷ [] → KeepsSlots slots taken j f
-    here j named =
-        let same : i ≡ j = ap first_of (sym none.named ∙ named) in
-        subst (λ (k : ℕ). KeepsSlots slots taken k f) same record { finds = none.finds; takes = takes_none (slice_get taken i) s (view_of f.seat) f.outcome f.journal.items none.why none.journal is }
+    here j named = subst (λ (k : ℕ). KeepsSlots slots taken k f) (same j named) record { finds = none.finds; takes = takes_none (slice_get taken i) s (view_of f.seat) f.outcome f.journal.items none.why none.journal is }
 
 -- who is out
 
@@ -106,32 +113,21 @@ any_right (x ∷ xs) ys is = refl
 pub full_rest : (full : Bool) (m : StartResult) (ms : List StartResult) → (any_full (m ∷ ms) ≡ true → full ≡ true) → any_full ms ≡ true → full ≡ true
 full_rest full m ms told is = told (any_right (looks_of m) (all_looks ms) is)
 
-none_true : has_any [] ≡ true → ⊥
-none_true is = let no : false ≡ true = is in cc
-
--- the first that was read
-first_full : (o : Outcome) (rest : List ℕ) → (has_any rest ≡ true → (after : List ℕ) × (rest ≡ 65535 ∷ after)) → has_any (fulls o ++ rest) ≡ true → (after : List ℕ) × (fulls o ++ rest ≡ 65535 ∷ after)
-first_full (outcome.Refused refusal.SharersFull) rest others is = (rest, refl)
-first_full o rest others is = others is
-
-looks_full : (ms : List StartResult) → any_full ms ≡ true → (after : List ℕ) × (all_looks ms ≡ 65535 ∷ after)
-looks_full [] is = absurd (none_true is)
-looks_full (made.Begun name space opening ∷ ms) is = looks_full ms is
-looks_full (made.Over f ∷ ms) is = first_full f.outcome (all_looks ms) (looks_full ms) is
-
-pub has_read : (v w : View) (ms : List StartResult) → w.tallies.looks ≡ v.tallies.looks ++ all_looks ms → any_full ms ≡ true → HasReadFull v w
-has_read v w ms looks is =
-    let first = looks_full ms is in
-    ([], first.0, looks ∙ (ap (λ (ls : List ℕ). v.tallies.looks ++ ls) first.1 ∙ ap (λ (ls : List ℕ). ls ++ 65535 ∷ first.0) (sym (append-nil v.tallies.looks))))
-
 -- what a run says of slots and of counts
 
-on_weaker : (p q : Type 0) → (p → q) → (o : Outcome) → OnFull p o → OnFull q o
+pub on_weaker : (p q : Type 0) → (p → q) → (o : Outcome) → OnFull p o → OnFull q o
 on_weaker p q f (outcome.Refused refusal.SharersFull) on = f on
 on_weaker p q f o on = tt
 
-pub all_slotted : (slots : ℕ) (taken : List Bool) (full : Bool) (ended : List Finished) → All (MatchesSlots slots taken full) ended → AreSlotted slots ended
-all_slotted slots taken full ended all = (taken, All-weaker (MatchesSlots slots taken full) (λ f. (i : ℕ) → f.name.items ≡ i ∷ [] → KeepsSlots slots taken i f) (λ f settled. settled.slot) ended all)
+module _ (starts : List Start) (slots : ℕ) (taken : List Bool) (full : Bool) (free : ℕ) (ended : List Finished) (all : All (MatchesSlots starts slots taken full free) ended) where
+  pub all_slotted : AreSlotted slots ended
+  all_slotted = (taken, All-weaker (MatchesSlots starts slots taken full free) (λ f. (i : ℕ) → f.name.items ≡ i ∷ [] → KeepsSlots slots taken i f) (λ f settled. settled.slot) ended all)
 
-pub all_full : (slots : ℕ) (taken : List Bool) (full : Bool) (p : Type 0) → (full ≡ true → p) → (ended : List Finished) → All (MatchesSlots slots taken full) ended → All (λ f. OnFull p f.outcome) ended
-all_full slots taken full p told ended all = All-weaker (MatchesSlots slots taken full) (λ f. OnFull p f.outcome) (λ f settled. on_weaker (full ≡ true) p told f.outcome settled.reads) ended all
+  pub all_full : (p : Type 0) → (full ≡ true → p) → All (λ f. OnFull p f.outcome) ended
+  all_full p told = All-weaker (MatchesSlots starts slots taken full free) (λ f. OnFull p f.outcome) (λ f settled. on_weaker (full ≡ true) p told f.outcome settled.reads) ended all
+
+  pub all_pooled : (full ≡ true → ⊥) → ArePoolStarts slots free starts ended
+  all_pooled never = (taken, All-weaker (MatchesSlots starts slots taken full free) (λ f. (i : ℕ) → f.name.items ≡ i ∷ [] → IsPoolStart slots free starts taken i f) each ended all)
+    where
+      each : (f : Finished) → MatchesSlots starts slots taken full free f → (i : ℕ) → f.name.items ≡ i ∷ [] → IsPoolStart slots free starts taken i f
+      each f settled i named = record { slot = settled.slot i named; frames = settled.frames i named; sharers = on_weaker (full ≡ true) ⊥ never f.outcome settled.reads }

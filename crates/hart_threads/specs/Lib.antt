@@ -2,8 +2,10 @@
 pub mod Births
 pub mod RosterState
 pub mod RosterView
+pub mod Settled
 pub mod Slots
 pub mod StartEffects
+pub mod StartFrames
 pub mod Starts
 pub mod Due
 pub mod FilesOfRun

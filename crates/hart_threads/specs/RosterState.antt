@@ -33,7 +33,7 @@ use Rattle.process_model.specs.declared.call.Call.{Call}
 use Rattle.process_model.specs.declared.step.Reply.{Reply}
 use Rattle.process_model.specs.declared.step.Reply.TheVariants as reply
 use Rattle.hart_threads.specs.Slots.{Unrefused}
-use Rattle.hart_threads.specs.Starts.{IsProcessOf}
+use Rattle.hart_threads.specs.Starts.{IsProcessOf, IsStarved}
 use Rattle.hart_threads.specs.declared.roster.Admission.{Admission}
 use Rattle.hart_threads.specs.declared.roster.Admission.TheVariants as admission
 
@@ -97,12 +97,12 @@ pub record IsRostered (starts : List Start) (n : ℕ) (out ended : List Life) : 
 
 -- why a start may be refused, by its image and the view of the seat that is left. NoSlot, SharersFull: nothing is said here.
 -- BadImage: the image fails this check. NoFrame: it passes all, and the free count was read as 0 with fewer frames reserved
--- than it needs. There is no other reason
+-- than it needs, and none was claimed. There is no other reason
 abbrev pub RefusesStart : Image → View → Refusal → Type 0
 RefusesStart image v refusal.NoSlot = Unit {0}
 RefusesStart image v refusal.SharersFull = Unit {0}
 RefusesStart image v (refusal.BadImage part) = image_loads Sv39 image ≡ Err part
-RefusesStart image v refusal.NoFrame = (ls : List LoadSegment) × (image_loads Sv39 image ≡ Ok ls) × (0 < v.tallies.zeros) × (v.tallies.short < start_need Sv39 ls)
+RefusesStart image v refusal.NoFrame = (ls : List LoadSegment) × (image_loads Sv39 image ≡ Ok ls) × IsStarved (start_need Sv39 ls) v
 RefusesStart image v r = ⊥
 
 -- if the name is that of a start, the process is that of the start's image

@@ -41,6 +41,10 @@ AreSlotted slots ended = (taken : List Bool) × All (λ f. (i : ℕ) → f.name.
 abbrev pub HasReadFull : View → View → Type 0
 HasReadFull v w = (before after : List ℕ) × (w.tallies.looks ≡ v.tallies.looks ++ before ++ 65535 ∷ after)
 
+-- between views v and w of a seat, it read some counts
+abbrev pub HasRead : View → View → Type 0
+HasRead v w = (more : List ℕ) × (w.tallies.looks ≡ v.tallies.looks ++ more)
+
 -- the outcome is SharersFull only if this holds
 abbrev pub OnFull : Type 0 → Outcome → Type 0
 OnFull full (outcome.Refused refusal.SharersFull) = full
@@ -58,9 +62,3 @@ IsTaken slots taken i = (count (take i taken) < slots) × (slice_get taken i ≡
 -- each start among the lives took a slot, and one was free
 abbrev pub AreTaken : ℕ → List Bool → List Life → Type 0
 AreTaken slots taken lives = (l : Life) (i : ℕ) → Has l lives → l.name ≡ i ∷ [] → IsTaken slots taken i
-
--- f, an ended process of a run whose starts took the slots in `taken`: if it is start i, it is as `KeepsSlots` says; its
--- outcome is SharersFull only if `full` is true
-pub record MatchesSlots (slots : ℕ) (taken : List Bool) (full : Bool) (f : Finished) : Type 0 where
-  pub slot : (i : ℕ) → f.name.items ≡ i ∷ [] → KeepsSlots slots taken i f
-  pub reads : OnFull (full ≡ true) f.outcome

@@ -1,7 +1,8 @@
 -- Predicates for one start: what the kernel's seat (its capability at the frame store) keeps when it lends frame 0
--- (`Lends`); why the start is refused (`IsRefusedStart`); the space that begins agrees with a process (`IsBegun`), which is
--- its image's (`IsProcessOf`).
-use Rattle.std.specs.Prelude.{◌≡◌, ◌≢◌, ℕ, ◌++◌, ◌∷◌, [], Bool, true, false, Err, List, Ok}
+-- (`Lends`); why the start is refused (`IsRefusedStart`, `IsRefusedTry`, `IsStarved`); the space that begins agrees with a
+-- process (`IsBegun`), which is its image's (`IsProcessOf`).
+use Rattle.std.specs.Prelude.{◌≡◌, ◌≢◌, ℕ, ◌<◌, Bool, true, false, Err, List, Ok}
+use Rattle.hart_threads.specs.Slots.{HasReadFull}
 use Rattle.address_space.specs.Agreement.{body_of, IsSpace}
 use Rattle.address_space.specs.declared.space.Space.{Space}
 use Rattle.atomic_table.specs.Seated.{TableId}
@@ -27,14 +28,26 @@ pub record Lends (v w : View) : Type 0 where
   pub words : (hold_of w 0).words ≡ (hold_of v 0).words
   pub others : (f : ℕ) → f ≢ 0 → hold_of w f ≡ hold_of v f
 
--- why a start is refused, and what the kernel's seat read: NoSlot exactly if there is none; BadImage, the image fails this
--- check; SharersFull, one count was read as 65,535; NoFrame. No other count was read
-abbrev pub IsRefusedStart : Bool → Image → View → View → Refusal → Type 0
-IsRefusedStart slot image v w refusal.NoSlot = (slot ≡ false) × (w.tallies.looks ≡ v.tallies.looks)
-IsRefusedStart slot image v w (refusal.BadImage part) = (slot ≡ true) × (image_loads Sv39 image ≡ Err part) × (w.tallies.looks ≡ v.tallies.looks)
-IsRefusedStart slot image v w refusal.SharersFull = (slot ≡ true) × (w.tallies.looks ≡ v.tallies.looks ++ 65535 ∷ [])
-IsRefusedStart slot image v w refusal.NoFrame = (slot ≡ true) × (w.tallies.looks ≡ v.tallies.looks)
-IsRefusedStart slot image v w r = ⊥
+-- why a start is refused. NoSlot: exactly if there is none. BadImage: the image fails this check. SharersFull: the kernel's
+-- seat is not alone and read a count of 65,535. NoFrame: the caller does not say that there are enough frames
+abbrev pub IsRefusedStart : Bool → Bool → Bool → Image → View → View → Refusal → Type 0
+IsRefusedStart slot alone enough image v w refusal.NoSlot = slot ≡ false
+IsRefusedStart slot alone enough image v w (refusal.BadImage part) = (slot ≡ true) × (image_loads Sv39 image ≡ Err part)
+IsRefusedStart slot alone enough image v w refusal.SharersFull = (slot ≡ true) × (alone ≡ false) × HasReadFull v w
+IsRefusedStart slot alone enough image v w refusal.NoFrame = (slot ≡ true) × (enough ≡ false)
+IsRefusedStart slot alone enough image v w r = ⊥
+
+-- a seat read the free count as 0 while fewer frames were reserved than `need`, and claimed none
+pub record IsStarved (need : ℕ) (v : View) : Type 0 where
+  pub zeros : 0 < v.tallies.zeros
+  pub short : v.tallies.short < need
+  pub claims : v.tallies.claims ≡ 0
+
+-- why the process of an accepted image, which needs so many frames, is not built; u is the view of the seat that is left
+abbrev pub IsRefusedTry : Bool → Bool → ℕ → View → View → View → Refusal → Type 0
+IsRefusedTry alone enough need v w u refusal.SharersFull = (alone ≡ false) × HasReadFull v w
+IsRefusedTry alone enough need v w u refusal.NoFrame = (enough ≡ false) × IsStarved need u
+IsRefusedTry alone enough need v w u r = ⊥
 
 -- a space whose seat is at this table, and the process that the space agrees with
 abbrev pub IsBegun : TableId → Space SharedSeat → ModelProcess → Type 0

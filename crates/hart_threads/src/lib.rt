@@ -28,5 +28,5 @@ mod start_result;
 pub use file_shelf::Shelf;
 pub use gate::{Gate, OpenGate};
 pub use hart_calls::{Finished, ForkSlot, Tracked, Turn};
-pub use run::run_harts;
+pub use run::{run_harts, run_harts_alone};
 pub use run_shelf::{RunFiles, RunShelf};

@@ -10,7 +10,8 @@ ghost use Rattle.vouchers.specs.IssuerSeats.{KeepsAt, HoldsAt, given_of, held_of
 ghost use Rattle.hart_threads.specs.Births.{began, births_of};
 ghost use Rattle.hart_threads.specs.RosterState.{ComesBack, IsAdmitted, IsEndedWithToken, IsBirth, IsEnded};
 ghost use Rattle.hart_threads.specs.RosterView.{Admits, one_less, one_made, one_more};
-ghost use Rattle.hart_threads.specs.Slots.{MatchesSlots, IsTaken};
+ghost use Rattle.hart_threads.specs.Settled.{MatchesSlots};
+ghost use Rattle.hart_threads.specs.Slots.{IsTaken};
 ghost use Rattle.process_model.specs.declared.call.Start.{Start};
 
 use crate::plan::Plan;
@@ -27,7 +28,8 @@ use vouchers::{Token, TokenIssuer, TokenTable};
 /// each child that one of these has named, with the list of its fork and the process that it began as, is unfinished or has
 /// ended, once, and there are no others. Each unfinished process has a voucher, and so has each slot that is kept for a fork
 /// under way (a voucher without a name); there is memory for the ends of all of them. No more slots are in use than the run
-/// has. An unfinished start took a slot that was free; all that ended keep the rule for slots and counts (`MatchesSlots`).
+/// has. An unfinished start took a slot that was free; all that ended keep the rule for slots, counts and frames
+/// (`MatchesSlots`).
 #[derive(Drop)]
 pub(crate) struct Roster<'a, B: Plan, F: StartOutcomes> {
     slots: usize,
@@ -49,7 +51,8 @@ impl<'a, B: Plan, F: StartOutcomes> Model for Roster<'a, B, F> {
     ghost use Rattle.vouchers.specs.IssuerSeats.{KeepsAt, given_of};
     ghost use Rattle.hart_threads.specs.RosterState.{Each, IsRostered};
     ghost use Rattle.hart_threads.specs.RosterView.{RosterView};
-    ghost use Rattle.hart_threads.specs.Slots.{AreTaken, MatchesSlots};
+    ghost use Rattle.hart_threads.specs.Settled.{MatchesSlots};
+    ghost use Rattle.hart_threads.specs.Slots.{AreTaken};
 
     ghost Value = { RosterView };
 
@@ -57,7 +60,7 @@ impl<'a, B: Plan, F: StartOutcomes> Model for Roster<'a, B, F> {
 
     ghost invariant = { λ r. KeepsAt B.token_table r.issuer
         × (length (given_of r.issuer) ≡ r.out)
-        × (r.handed ≡ false → (lives : List Life) × Each B.table B.files B.lists B.plan lives r.finished.items × IsRostered B.plan (length B.plan - r.left) (given_of r.issuer) lives × All (MatchesSlots F.slots F.taken F.full) r.finished.items)
+        × (r.handed ≡ false → (lives : List Life) × Each B.table B.files B.lists B.plan lives r.finished.items × IsRostered B.plan (length B.plan - r.left) (given_of r.issuer) lives × All (MatchesSlots B.plan F.slots F.taken F.full F.free) r.finished.items)
         × (vec_len r.finished + r.out + r.left ≤ vec_capacity r.finished)
         × (r.left ≤ length B.plan)
         × AreTaken F.slots F.taken (given_of r.issuer)
@@ -137,7 +140,7 @@ impl<'a, B: Plan, F: StartOutcomes> Roster<'a, B, F> {
         requires left { 0 < self.old.left }
         requires name { unstarted.name.items ≡ (length B.plan - self.old.left) ∷ [] }
         requires refused { (s : Start) × (opening : Gv) × (slice_get B.plan (length B.plan - self.old.left) ≡ Some s) × IsEnded B.table B.files B.lists B.plan (entry unstarted.name.items (birth s.list opening) []) unstarted }
-        requires settled { MatchesSlots F.slots F.taken F.full unstarted }
+        requires settled { MatchesSlots B.plan F.slots F.taken F.full F.free unstarted }
         ensures view { self.new ≡ one_made self.old }
     {
         self.left -= 1;
@@ -226,7 +229,7 @@ impl<'a, B: Plan, F: StartOutcomes> Roster<'a, B, F> {
     /// Returns all ended processes, once. `None` while a slot is in use or a start is left, and after the first `Some`.
     pub(crate) fn close(&mut self, alloc: Global) -> Option<Vec<Finished<'a>>>
         ensures back { IfSome result (λ all. ComesBack B.table B.files B.lists B.plan all.items) }
-        ensures settled { IfSome result (λ all. All (MatchesSlots F.slots F.taken F.full) all.items) }
+        ensures settled { IfSome result (λ all. All (MatchesSlots B.plan F.slots F.taken F.full F.free) all.items) }
     {
         if self.out > 0 || self.left > 0 || self.handed {
             return None;

@@ -1,12 +1,15 @@
-// `run_harts`: makes the starts in order, runs the harts on threads until no process is unfinished, and returns each process
-// as it ended. Steps: host memory and starts (`run_in`), roster and queue (`run_made`), threads (`run_all`, `run_hart`).
+// `run_harts`, and `run_harts_alone` for a caller whose seat is alone: makes the starts in order, runs the harts on threads
+// until no process is unfinished, and returns each process as it ended. Steps: host memory and starts (`run_in`), roster and
+// queue (`run_made`), threads (`run_all`, `run_hart`).
 
-ghost use Rattle.std.specs.Prelude.{◌≡◌, ◌+◌, ◌<◌, ◌≤◌, [], All, length, vec_len, vec_capacity, IfErr, IfOk};
+ghost use Rattle.std.specs.Prelude.{◌≡◌, ◌+◌, ◌<◌, ◌≤◌, [], All, length, true, vec_len, vec_capacity, IfErr, IfOk};
 ghost use Rattle.frame_store.specs.View.{IsHeld};
 ghost use Rattle.hart_calls.specs.Track.{NameLists};
 ghost use Rattle.hart_threads.specs.StartEffects.{any_full, AreStartResults, slots_of};
 ghost use Rattle.hart_threads.specs.RosterState.{ComesBack};
-ghost use Rattle.hart_threads.specs.Slots.{AreSlotted, HasReadFull, MatchesSlots, OnFull};
+ghost use Rattle.hart_threads.specs.Settled.{MatchesSlots};
+ghost use Rattle.hart_threads.specs.Slots.{AreSlotted, HasReadFull, OnFull};
+ghost use Rattle.hart_threads.specs.StartFrames.{AreFramed, ArePoolStarts};
 ghost use Rattle.hart_threads.specs.Starts.{Lends};
 ghost use Rattle.shared_frames.specs.SeatsOfTable.{FitsIn, view_of};
 ghost use Rattle.vouchers.specs.IssuerSeats.{KeepsAt, given_of};
@@ -136,9 +139,7 @@ fn run_made<
     R: Threads + Wait + Sync,
     G: Gate + Sync,
 >(
-    rt: &R,
-    alloc: Global,
-    frames: &SharedFrames,
+    starting: &StartContext<'_, R>,
     shelf: &Mutex<RunShelf<W>>,
     token_table: &TokenTable,
     issuer: TokenIssuer,
@@ -152,7 +153,7 @@ fn run_made<
     quantum: usize,
     gate: &G,
 ) -> Vec<Finished<'a>>
-    requires frames { frames.now.table ≡ B.table }
+    requires frames { starting.now.frames.now.table ≡ B.table }
     requires token_table { token_table.now ≡ B.token_table }
     requires of_files { W.files ≡ B.files }
     requires of_lists { lists.now ≡ B.lists }
@@ -168,10 +169,14 @@ fn run_made<
     requires all { length all.old.items ≡ length starts.now }
     requires taken { F.taken ≡ slots_of all.old.items }
     requires full { F.full ≡ any_full all.old.items }
+    requires free { F.free ≡ starting.now.free }
+    requires framed { AreFramed F.free starts.now F.taken 0 all.old.items }
     ensures back { ComesBack B.table B.files B.lists B.plan result.items }
-    ensures settled { All (MatchesSlots F.slots F.taken F.full) result.items }
+    ensures settled { All (MatchesSlots B.plan F.slots F.taken F.full F.free) result.items }
 {
     let mut roster = Roster::<B, F>::with_room(ends, issuer, slots, starts.len());
+    let rt = starting.rt;
+    let alloc = starting.alloc;
     let enlisting = Enlister {
         rt,
         alloc,
@@ -183,7 +188,7 @@ fn run_made<
     let roster = Mutex::new(roster);
     run_all(
         rt,
-        frames,
+        starting.frames,
         token_table,
         &roster,
         shelf,
@@ -202,7 +207,8 @@ fn run_made<
 }
 
 /// `run_harts` for the run `B`. All host memory for the starts is allocated before the first is made, except for their
-/// spaces. A process for whose space the host has no memory ends before its first call.
+/// spaces. A process for whose space the host has no memory ends before its first call. `free` frames are free for the starts,
+/// and if `alone`, no other seat is at the table, as the caller says.
 fn run_in<
     'a,
     B: Plan + Send + Sync,
@@ -223,6 +229,8 @@ fn run_in<
     harts: usize,
     quantum: usize,
     gate: &G,
+    alone: bool,
+    free: usize,
 ) -> Result<Vec<Finished<'a>>, AllocError>
     requires frames { frames.now.table ≡ B.table }
     requires token_table { token_table.now ≡ B.token_table }
@@ -238,6 +246,7 @@ fn run_in<
     ensures back { IfOk result (λ all. ComesBack B.table B.files B.lists B.plan all.items) }
     ensures slots { IfOk result (λ all. AreSlotted slots all.items) }
     ensures full { IfOk result (λ all. All (λ f. OnFull (HasReadFull (view_of kernel.old) (view_of kernel.new)) f.outcome) all.items) }
+    ensures starts { alone ≡ true → IfOk result (λ all. ArePoolStarts slots free starts.now all.items) }
     ensures memory { IfErr result (λ _. kernel.new ≡ kernel.old) }
     ensures fits { FitsIn B.table kernel.new }
     ensures lends { Lends (view_of kernel.old) (view_of kernel.new) }
@@ -247,13 +256,17 @@ fn run_in<
     let mut rooms = name_rooms(alloc, starts.len())?;
     let mut made = VecDeque::with_capacity(alloc, starts.len())?;
     let parts = parts_for::<B>(alloc, harts, slots)?;
-    let starting = StartContext { rt, alloc, frames };
-    starting.make_all(kernel, &mut rooms, &mut made, starts, slots);
-    let parts = parts.as_slice();
-    Ok(run_made::<B, Brand, W, R, G>(
+    let starting = StartContext {
         rt,
         alloc,
         frames,
+        alone,
+        free,
+    };
+    starting.make_all(kernel, &mut rooms, &mut made, starts, slots);
+    let parts = parts.as_slice();
+    Ok(run_made::<B, Brand, W, R, G>(
+        &starting,
         shelf,
         token_table,
         issuer,
@@ -334,5 +347,60 @@ pub fn run_harts<'a, W: RunFiles + Send + Sync, R: Threads + Wait + Sync, G: Gat
         harts,
         quantum,
         gate,
+        false,
+        0,
+    )
+}
+
+/// `run_harts` for a caller who says that no seat but `kernel` is at the table of `frames`, and that `free` frames are free. A
+/// start that is refused with `SharersFull`, or with `NoFrame` though enough frames should be free, is tried again: if the
+/// caller is wrong, the call may wait without end.
+///
+/// Returns what `run_harts` does. A start is refused with `NoFrame` only if the starts before it leave fewer of the `free`
+/// frames than it needs, and with `SharersFull` never.
+///
+/// # Errors
+/// `AllocError`: as of `run_harts`.
+pub fn run_harts_alone<'a, W: RunFiles + Send + Sync, R: Threads + Wait + Sync, G: Gate + Sync>(
+    rt: &R,
+    alloc: Global,
+    frames: &SharedFrames,
+    kernel: &mut SharedSeat,
+    shelf: &Mutex<RunShelf<W>>,
+    lists: &'a [Sequence<Call<'a>>],
+    starts: &[Start<'_>],
+    slots: usize,
+    harts: usize,
+    quantum: usize,
+    gate: &G,
+    free: usize,
+) -> Result<Vec<Finished<'a>>, AllocError>
+    requires lists { All (λ start. start.list < length lists.now) starts.now }
+    requires named { NameLists lists.now }
+    requires fits { FitsIn frames.now.table kernel.old }
+    requires anchored { IsHeld (view_of kernel.old) 0 }
+    ensures back { IfOk result (λ all. ComesBack frames.now.table W.files lists.entry.now starts.now all.items) }
+    ensures starts { IfOk result (λ all. ArePoolStarts slots free starts.now all.items) }
+    ensures memory { IfErr result (λ _. kernel.new ≡ kernel.old) }
+    ensures fits { FitsIn frames.now.table kernel.new }
+    ensures lends { Lends (view_of kernel.old) (view_of kernel.new) }
+{
+    let (token_table, issuer) = TokenTable::open(alloc)?;
+    run_in::<Brand, W, R, G>(
+        rt,
+        alloc,
+        frames,
+        kernel,
+        shelf,
+        &token_table,
+        issuer,
+        lists,
+        starts,
+        slots,
+        harts,
+        quantum,
+        gate,
+        true,
+        free,
     )
 }

@@ -1,15 +1,17 @@
 // `StartContext` (struct): what the starts of a run share; `make_all` makes or refuses each start, in order, before any hart
 // runs, and lists the results; a start is refused with NoSlot if no slot (place in the process table) is left.
 
-ghost use Rattle.std.specs.Prelude.{◌≡◌, ◌≤◌, ◌++◌, ◌∷◌, [], length, vec_len};
+ghost use Rattle.std.specs.Prelude.{◌≡◌, ◌≤◌, [], false, true, length, vec_len};
 ghost use Rattle.std.specs.VecDeque.{deque_capacity};
 ghost use Rattle.frame_store.specs.View.{IsHeld};
-ghost use Rattle.hart_threads.specs.StartEffects.{all_looks, AreStartResults, IsStartResult, looks_of};
+ghost use Rattle.hart_threads.specs.Slots.{HasRead, HasReadFull};
+ghost use Rattle.hart_threads.specs.StartEffects.{any_full, AreStartResults, IsStartResult, slots_of};
+ghost use Rattle.hart_threads.specs.StartFrames.{AreFramed, IfFull, IfNoFrame};
 ghost use Rattle.hart_threads.specs.Starts.{Lends};
 ghost use Rattle.shared_frames.specs.SeatsOfTable.{FitsIn, view_of};
 
 use crate::name_buffer::NameBuffer;
-use crate::seats::{end_unstarted, started};
+use crate::seats::{end_unstarted, frames_for, started};
 use crate::start_result::StartResult;
 use hart_calls::Finished;
 use process_model::{Outcome, Start};
@@ -24,11 +26,15 @@ pub(crate) struct StartContext<'r, R: Wait> {
     pub(crate) rt: &'r R,
     pub(crate) alloc: Global,
     pub(crate) frames: &'r SharedFrames,
+    /// Whether the caller says that no other seat is at the table of these frames.
+    pub(crate) alone: bool,
+    /// How many frames are free for the starts, as the caller says.
+    pub(crate) free: usize,
 }
 
 impl<'r, R: Wait> StartContext<'r, R> {
-    /// Makes a start while `taken` of `slots` slots are taken, or refuses it. If the host has no memory for its space, the
-    /// process ends before its first call.
+    /// Makes a start while `taken` of `slots` slots are taken, or refuses it; `enough` says that it finds its frames free. If
+    /// the host has no memory for its space, the process ends before its first call.
     fn make<'a>(
         &self,
         kernel: &mut SharedSeat,
@@ -36,16 +42,27 @@ impl<'r, R: Wait> StartContext<'r, R> {
         start: Start<'_>,
         slots: usize,
         taken: usize,
+        enough: bool,
     ) -> StartResult<'a>
         requires fits { FitsIn self.now.frames.now.table kernel.old }
         requires anchored { IsHeld (view_of kernel.old) 0 }
         ensures made { IsStartResult self.now.frames.now.table slots taken start.entry name.items result }
-        ensures looks { (view_of kernel.new).tallies.looks ≡ (view_of kernel.old).tallies.looks ++ looks_of result }
+        ensures full { IfFull ((self.now.alone ≡ false) × HasReadFull (view_of kernel.old) (view_of kernel.new)) result }
+        ensures frames { IfNoFrame (enough ≡ false) result }
+        ensures reads { HasRead (view_of kernel.old) (view_of kernel.new) }
         ensures fits { FitsIn self.now.frames.now.table kernel.new }
         ensures lends { Lends (view_of kernel.old) (view_of kernel.new) }
     {
         let mut store = self.frames.supply(self.rt);
-        match started(&mut store, kernel, start.image, taken < slots) {
+        match started(
+            self.rt,
+            &mut store,
+            kernel,
+            start.image,
+            taken < slots,
+            self.alone,
+            enough,
+        ) {
             Ok((space, opening)) => match Box::new(self.alloc, space) {
                 Ok(space) => StartResult::Begun {
                     name,
@@ -82,18 +99,23 @@ impl<'r, R: Wait> StartContext<'r, R> {
         requires room { length starts.now ≤ deque_capacity all.old }
         ensures made { AreStartResults self.now.frames.now.table slots starts.now 0 0 all.new.items }
         ensures all { length all.new.items ≡ length starts.now }
-        ensures looks { (view_of kernel.new).tallies.looks ≡ (view_of kernel.old).tallies.looks ++ all_looks all.new.items }
+        ensures full { any_full all.new.items ≡ true → (self.now.alone ≡ false) × HasReadFull (view_of kernel.old) (view_of kernel.new) }
+        ensures frames { AreFramed self.now.free starts.now (slots_of all.new.items) 0 all.new.items }
         ensures fits { FitsIn self.now.frames.now.table kernel.new }
         ensures lends { Lends (view_of kernel.old) (view_of kernel.new) }
     {
         let mut taken = 0;
+        let mut left = self.free;
         'starts: for number in 0..starts.len() {
             let Some(room) = rooms.pop() else {
                 unreachable!()
             };
             let name = room.fill(number as u64);
-            let made = self.make(kernel, name, starts[number], slots, taken);
+            let start = starts[number];
+            let need = frames_for(start.image);
+            let made = self.make(kernel, name, start, slots, taken, need <= left);
             taken += made.slots();
+            left = left.saturating_sub(made.frames(need));
             let Ok(()) = all.push_back(made) else {
                 unreachable!()
             };

@@ -1,11 +1,13 @@
 // `StartOutcomes` (trait): ghost constants of a run, carried in its types and known once its starts are made: the number of
-// its slots (places in the process table), which starts took one, and whether one was refused with SharersFull.
+// its slots (places in the process table), which starts took one, whether one was refused with SharersFull, and how many
+// frames were there for them.
 
 use std::marker::Brand;
 
-/// Ghost constants of a run: the number of its slots, which of its starts took one, and whether one was refused with
-/// `SharersFull`. A contract knows a value under a lock by its type alone, and these are known once all starts are made,
-/// before the roster is put under its lock: so they are in the roster's type. Each run picks its own.
+/// Ghost constants of a run: the number of its slots, which of its starts took one, whether one was refused with
+/// `SharersFull`, and how many frames the caller said were free for them. A contract knows a value under a lock by its type
+/// alone, and these are known once all starts are made, before the roster is put under its lock: so they are in the roster's
+/// type. Each run picks its own.
 pub trait StartOutcomes {
     ghost use Rattle.std.specs.Prelude.{Bool, List, ℕ};
 
@@ -14,6 +16,8 @@ pub trait StartOutcomes {
     ghost taken: { List Bool };
 
     ghost full: { Bool };
+
+    ghost free: { ℕ };
 }
 
 impl StartOutcomes for Brand {
@@ -25,4 +29,6 @@ impl StartOutcomes for Brand {
     ghost taken = { none_taken };
 
     ghost full = { false };
+
+    ghost free = { 0 };
 }

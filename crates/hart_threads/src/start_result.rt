@@ -1,5 +1,5 @@
 // `StartResult` (enum): the result of a start: a process that took a slot (place in the process table), with its name and
-// space, or a `Finished` without a process; `slots` is how many slots it took.
+// space, or a `Finished` without a process; `slots` and `frames`: how many of each it took.
 
 ghost use Rattle.std.specs.Prelude.{◌≡◌, cond};
 ghost use Rattle.hart_threads.specs.StartEffects.{takes_slot};
@@ -28,6 +28,16 @@ impl<'a> StartResult<'a> {
     {
         match self {
             StartResult::Begun { .. } => 1,
+            StartResult::Over(_) => 0,
+        }
+    }
+
+    /// Returns how many frames the start took, if its process takes `need`.
+    pub(crate) fn frames(&self, need: usize) -> usize
+        ensures { result ≡ cond (takes_slot self.now) need 0 }
+    {
+        match self {
+            StartResult::Begun { .. } => need,
             StartResult::Over(_) => 0,
         }
     }

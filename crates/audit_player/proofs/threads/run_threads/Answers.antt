@@ -8,7 +8,7 @@ returns-then-write_text-clause-plays g c =
     let s = c.args.script.now in
     let frames = c.pool-pool.result.frames - c.kernel_frames.result in (
       threads_text c.as_slice-3.result.now c.in-Ok-run_pool.free frames,
-      is_text s c.in-Ok-lend_lists.lists.items c.as_slice.result.now c.in-Ok-lend_starts.starts.items c.as_slice-2.result.now c.in-Ok-run_pool.ended.items c.sort_by_name.new.all.items c.as_slice-3.result.now c.in-Ok-run_pool.free frames c.in-Ok-lend_lists.ensures.are c.as_slice.ensures.value c.in-Ok-lend_starts.ensures.are c.as_slice-2.ensures.value c.in-Ok-run_pool.ensures.ended c.in-Ok-run_pool.ensures.slots c.sort_by_name.ensures.same
+      is_text s c.in-Ok-lend_lists.lists.items c.as_slice.result.now c.in-Ok-lend_starts.starts.items c.as_slice-2.result.now c.in-Ok-run_pool.ended.items c.sort_by_name.new.all.items c.as_slice-3.result.now c.in-Ok-run_pool.free frames c.in-Ok-lend_lists.ensures.are c.as_slice.ensures.value c.in-Ok-lend_starts.ensures.are c.as_slice-2.ensures.value c.in-Ok-run_pool.ensures.ended c.in-Ok-run_pool.ensures.refusals c.sort_by_name.ensures.same
           c.sort_by_name.ensures.order c.as_slice-3.ensures.value c.in-Ok-run_pool.ensures.free (users_are s.pool c.pool-pool.result c.kernel_frames.result c.pool-pool.ensures c.kernel_frames.ensures),
       c.if-write_text.ensures.whole refl,
     )
@@ -19,7 +19,7 @@ returns-clause-plays g c =
     let frames = c.pool-pool.result.frames - c.kernel_frames.result in
     inr (
       threads_text c.as_slice-3.result.now c.in-Ok-run_pool.free frames,
-      is_text s c.in-Ok-lend_lists.lists.items c.as_slice.result.now c.in-Ok-lend_starts.starts.items c.as_slice-2.result.now c.in-Ok-run_pool.ended.items c.sort_by_name.new.all.items c.as_slice-3.result.now c.in-Ok-run_pool.free frames c.in-Ok-lend_lists.ensures.are c.as_slice.ensures.value c.in-Ok-lend_starts.ensures.are c.as_slice-2.ensures.value c.in-Ok-run_pool.ensures.ended c.in-Ok-run_pool.ensures.slots c.sort_by_name.ensures.same
+      is_text s c.in-Ok-lend_lists.lists.items c.as_slice.result.now c.in-Ok-lend_starts.starts.items c.as_slice-2.result.now c.in-Ok-run_pool.ended.items c.sort_by_name.new.all.items c.as_slice-3.result.now c.in-Ok-run_pool.free frames c.in-Ok-lend_lists.ensures.are c.as_slice.ensures.value c.in-Ok-lend_starts.ensures.are c.as_slice-2.ensures.value c.in-Ok-run_pool.ensures.ended c.in-Ok-run_pool.ensures.refusals c.sort_by_name.ensures.same
           c.sort_by_name.ensures.order c.as_slice-3.ensures.value c.in-Ok-run_pool.ensures.free (users_are s.pool c.pool-pool.result c.kernel_frames.result c.pool-pool.ensures c.kernel_frames.ensures),
       c.write_text.ensures.part,
     )

@@ -3,4 +3,4 @@ use Rattle.hart_threads.specs.StartEffects.{any_full, slots_of}
 use Rattle.hart_threads.proofs.run.run_in.Given as goal
 
 abbrev pub ghosts-run_made : goal.ghosts-run_made
-ghosts-run_made g a = record { slots = a.slots; taken = slots_of a.all.now.items; full = any_full a.all.now.items }
+ghosts-run_made g a = record { slots = a.slots; taken = slots_of a.all.now.items; full = any_full a.all.now.items; free = a.starting.now.free }

@@ -39,4 +39,7 @@ returns-in-Err-clause-dry g c =
     let n = c.requires.seat.credits in
     let more = d.zeros in
     let less = d.short in
-    (omega (arith, more, z), omega (arith, less, s, n))
+    let claims = ap (λ (t : Tallies). t.claims) c.release_seat.ensures.tallies in
+    let same = d.claims in
+    let none = c.requires.fresh in
+    record { zeros = omega (arith, more, z); short = omega (arith, less, s, n); claims = omega (arith, claims, same, none) }

@@ -1,9 +1,12 @@
 -- What the search left open of `opened`.
-use Rattle.hart_threads.proofs.Lending.{opens_fits, opens_lends, opens_looks, opens_seat, opens_store}
+use Rattle.hart_threads.proofs.Lending.{opens_fits, opens_fresh, opens_lends, opens_looks, opens_seat, opens_store}
 use Rattle.hart_threads.proofs.seats.opened.Goals as goal
 
 pub returns-clause-opened : goal.returns-clause-opened
 returns-clause-opened g c = let e = c.opened_seat.ensures in opens_seat _ _ c.args.kernel.now c.opened_seat.new.seat c.requires.fits c.opened_seat.result (e.opener, e.opened, e.full, e.keeps, e.keeps_full)
+
+pub returns-clause-fresh : goal.returns-clause-fresh
+returns-clause-fresh g c = let e = c.opened_seat.ensures in opens_fresh _ _ c.args.kernel.now c.opened_seat.new.seat c.requires.fits c.opened_seat.result (e.opener, e.opened, e.full, e.keeps, e.keeps_full)
 
 pub returns-clause-lends : goal.returns-clause-lends
 returns-clause-lends g c = let e = c.opened_seat.ensures in opens_lends _ _ c.args.kernel.now c.opened_seat.new.seat c.requires.fits c.opened_seat.result (e.opener, e.opened, e.full, e.keeps, e.keeps_full)

@@ -38,4 +38,5 @@ refuse-requires-clause-settled g c =
     let made = rw c.in-Over.is at c.requires.made in
     let taken = rw c.in-Over.is at c.requires.taken in
     let full = rw c.in-Over.is at c.requires.full in
-    unbegun_settled g.B.RunBrand.table g.F.StartOutcomes.slots g.F.StartOutcomes.taken g.F.StartOutcomes.full (length g.B.Plan.plan - c.args.roster.now.left) c.args.start c.in-Over.finished made taken full
+    let framed = rw c.in-Over.is at c.requires.framed in
+    unbegun_settled g.B.RunBrand.table g.B.Plan.plan g.F.StartOutcomes.slots g.F.StartOutcomes.taken g.F.StartOutcomes.full g.F.StartOutcomes.free (length g.B.Plan.plan - c.args.roster.now.left) c.args.start c.in-Over.finished made taken full framed

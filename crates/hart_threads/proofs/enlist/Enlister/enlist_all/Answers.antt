@@ -5,6 +5,7 @@ use Rattle.hart_threads.specs.StartEffects.{any_full}
 use Rattle.hart_threads.specs.Slots.{count}
 use Rattle.hart_threads.specs.declared.start_result.StartResult.{StartResult}
 use Rattle.hart_threads.proofs.Beginning.{next_number, next_start}
+use Rattle.hart_threads.proofs.Framing.{framed_first, framed_rest}
 use Rattle.hart_threads.proofs.Making.{enlists_made, enlists_out, enlists_rest, enlists_taken}
 use Rattle.hart_threads.proofs.Slotting.{full_first, full_rest}
 use Rattle.hart_threads.proofs.enlist.Enlister.enlist_all.Goals as goal
@@ -15,6 +16,7 @@ starts-init g c = record {
   slots = c.requires.slots;
   out = c.requires.none_out;
   rest = omega (arith, c.requires.all);
+  framed = c.requires.framed;
   full = λ is. c.requires.full ∙ is;
   made = ([], c.requires.taken, refl, c.requires.made);
 }
@@ -34,6 +36,12 @@ enlist-requires-clause-taken g c =
 pub enlist-requires-clause-full : goal.enlist-requires-clause-full
 enlist-requires-clause-full g c = full_first g.F.StartOutcomes.full c.in-Some.made c.pop_front.new.self.items (subst (λ (ms : List StartResult). any_full ms ≡ true → g.F.StartOutcomes.full ≡ true) c.in-Some.ensures.items c.starts.invariant.full)
 
+pub enlist-requires-clause-framed : goal.enlist-requires-clause-framed
+enlist-requires-clause-framed g c =
+    let i = c.starts.invariant in
+    let number = next_number c.args.starts.now g.B.Plan.plan c.requires.of_starts c.starts.roster.left c.starts.number i.left c.starts-test.true in
+    framed_first g.F.StartOutcomes.free c.args.starts.now g.B.Plan.plan c.requires.of_starts g.F.StartOutcomes.taken c.starts.number _ c.starts.all.items c.pop_front.new.self.items c.in-Some.made c.in-Some.ensures.items number i.framed
+
 pub enlist-requires-clause-start : goal.enlist-requires-clause-start
 enlist-requires-clause-start g c =
     let start = c.index-starts-number.result in
@@ -52,6 +60,7 @@ starts-preserved g c =
       slots = e.slots ∙ i.slots;
       out = enlists_out g.B.RunBrand.table g.F.StartOutcomes.slots c.args.starts.now g.B.Plan.plan c.requires.of_starts g.F.StartOutcomes.taken c.starts.roster.left c.starts.number left lt c.starts.all.items c.pop_front.new.self.items c.in-Some.made c.in-Some.ensures.items i.made c.starts.roster.out c.enlist.new.roster.out i.out e.out;
       rest = omega (arith, popped, rest);
+      framed = framed_rest g.F.StartOutcomes.free c.args.starts.now g.F.StartOutcomes.taken c.starts.number c.starts.all.items c.pop_front.new.self.items c.in-Some.made c.in-Some.ensures.items i.framed;
       full = full_rest g.F.StartOutcomes.full c.in-Some.made c.pop_front.new.self.items (subst (λ (ms : List StartResult). any_full ms ≡ true → g.F.StartOutcomes.full ≡ true) c.in-Some.ensures.items i.full);
       made = enlists_rest g.B.RunBrand.table g.F.StartOutcomes.slots c.args.starts.now g.B.Plan.plan c.requires.of_starts g.F.StartOutcomes.taken c.starts.roster.left c.starts.number left lt c.starts.all.items c.pop_front.new.self.items c.in-Some.made c.in-Some.ensures.items i.made;
     }

@@ -2,6 +2,7 @@
 use Rattle.std.proofs.Common.{◌≡◌, ◌+◌, ◌++◌, Bool, List, length, take, true}
 use Rattle.hart_threads.specs.StartEffects.{any_full, AreStartResults, slots_of}
 use Rattle.hart_threads.specs.Slots.{count}
+use Rattle.hart_threads.specs.StartFrames.{AreFramed}
 use Rattle.hart_threads.proofs.enlist.Enlister.enlist_all.Given as goal
 
 abbrev pub invariant-starts : goal.invariant-starts
@@ -10,6 +11,7 @@ invariant-starts g l = record {
   slots : l.roster.slots ≡ g.F.StartOutcomes.slots;
   out : l.roster.out ≡ count (take l.number g.F.StartOutcomes.taken);
   rest : length l.all.items + l.number ≡ length l.starts;
+  framed : AreFramed g.F.StartOutcomes.free l.starts g.F.StartOutcomes.taken l.number l.all.items;
   full : any_full l.all.items ≡ true → g.F.StartOutcomes.full ≡ true;
   made : (before : List Bool) × (g.F.StartOutcomes.taken ≡ before ++ slots_of l.all.items) × (length before ≡ l.number) × AreStartResults g.B.RunBrand.table g.F.StartOutcomes.slots l.starts l.number (count before) l.all.items;
 }

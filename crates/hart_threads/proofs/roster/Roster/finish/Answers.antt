@@ -6,7 +6,7 @@ use Rattle.vouchers.specs.Lists.{length-without}
 use Rattle.vouchers.specs.IssuerSeats.{given_of}
 use Rattle.hart_threads.proofs.Rosters.{each_push, rostered_finish}
 use Rattle.hart_threads.proofs.Slotting.{began_settled, taken_less}
-use Rattle.hart_threads.specs.Slots.{MatchesSlots}
+use Rattle.hart_threads.specs.Settled.{MatchesSlots}
 use Rattle.hart_threads.proofs.roster.Roster.finish.Goals as goal
 
 pub invariant_of-self : goal.invariant_of-self
@@ -16,6 +16,7 @@ invariant_of-self g c =
     let slots = g.F.StartOutcomes.slots in
     let taken = g.F.StartOutcomes.taken in
     let full = g.F.StartOutcomes.full in
+    let free = g.F.StartOutcomes.free in
     let life = c.requires.back.0 in
     let holds = c.requires.back.1 in
     let e = c.redeem.ensures.given life holds in
@@ -32,7 +33,7 @@ invariant_of-self g c =
             was.0 ++ life ∷ [],
             each_push g.B.RunBrand.table g.B.Plan.files g.B.Plan.lists g.B.Plan.plan was.0 _ life f was.1 c.requires.back.3,
             rw e (rostered_finish _ was.0 life g.B.Plan.plan _ mine c.requires.back.2 was.2),
-            All-push (MatchesSlots slots taken full) _ f was.3 (began_settled slots taken full f c.requires.back.4 (λ j is. i.5 life j mine (sym c.requires.back.3.name ∙ is))),
+            All-push (MatchesSlots g.B.Plan.plan slots taken full free) _ f was.3 (began_settled g.B.Plan.plan slots taken full free f c.requires.back.4 (λ j is. i.5 life j mine (sym c.requires.back.3.name ∙ is))),
           )),
       omega (arith, i.3, i.1, n, l, v, w),
       i.4,

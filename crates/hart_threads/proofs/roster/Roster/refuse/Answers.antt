@@ -5,7 +5,7 @@ use Rattle.std.specs.Prelude.{slice_get}
 use Rattle.vouchers.specs.Entries.{birth, entry}
 use Rattle.hart_threads.proofs.Rosters.{each_push, rostered_refuse}
 use Rattle.hart_threads.specs.RosterView.{RosterView}
-use Rattle.hart_threads.specs.Slots.{MatchesSlots}
+use Rattle.hart_threads.specs.Settled.{MatchesSlots}
 use Rattle.hart_threads.proofs.roster.Roster.refuse.Goals as goal
 
 pub invariant_of-self : goal.invariant_of-self
@@ -29,7 +29,7 @@ invariant_of-self g c =
             was.0 ++ entry f.name.items (birth s.list o) [] ∷ [],
             each_push g.B.RunBrand.table g.B.Plan.files g.B.Plan.lists starts was.0 _ _ f was.1 c.requires.refused.3,
             rostered_refuse starts _ _ s (omega (arith, l, i.4)) at o f.name.items named _ was.0 was.2,
-            All-push (MatchesSlots g.F.StartOutcomes.slots g.F.StartOutcomes.taken g.F.StartOutcomes.full) _ f was.3 c.requires.settled,
+            All-push (MatchesSlots g.B.Plan.plan g.F.StartOutcomes.slots g.F.StartOutcomes.taken g.F.StartOutcomes.full g.F.StartOutcomes.free) _ f was.3 c.requires.settled,
           )),
       omega (arith, i.3, l, v, w),
       omega (arith, i.4),

@@ -2,7 +2,7 @@
 use Rattle.std.proofs.Common.{◌≡◌, ◌-◌, [], ap, length, arith}
 use Rattle.std.proofs.lemmas.List.Elements.{All-nil}
 use Rattle.hart_threads.proofs.Rosters.{rostered_none}
-use Rattle.hart_threads.specs.Slots.{MatchesSlots}
+use Rattle.hart_threads.specs.Settled.{MatchesSlots}
 use Rattle.hart_threads.proofs.roster.Roster.with_room.Goals as goal
 
 pub invariant_of-result : goal.invariant_of-result
@@ -13,7 +13,7 @@ invariant_of-result g c =
     let none : length starts - c.args.starts ≡ 0 = omega (arith, count) in (
       c.requires.at,
       ap length c.requires.none,
-      (λ here. ([], rw c.requires.none_ended tt, rostered_none starts _ _ none c.requires.none, rw c.requires.none_ended (All-nil (MatchesSlots g.F.StartOutcomes.slots g.F.StartOutcomes.taken g.F.StartOutcomes.full)))),
+      (λ here. ([], rw c.requires.none_ended tt, rostered_none starts _ _ none c.requires.none, rw c.requires.none_ended (All-nil (MatchesSlots g.B.Plan.plan g.F.StartOutcomes.slots g.F.StartOutcomes.taken g.F.StartOutcomes.full g.F.StartOutcomes.free)))),
       omega (arith, room),
       omega (arith, count),
       rw c.requires.none (λ l i h is. absurd h),
