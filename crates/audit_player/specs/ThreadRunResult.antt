@@ -39,8 +39,8 @@ pub record LeavesFree (pool : Pool) (free : ℕ) : Type 0 where
   pub totals : AreLastTotals pool.frames view free 1
   pub all : free ≡ user_frames pool
 
--- A text that playing the file may write: how processes ended, a line for each start and each child, sorted by their
--- names, and last that all user frames are free, which they are (`LeavesFree`). The processes are those of a run of the
+-- A text that playing the file may write: how processes ended, a line for each start and each child, sorted by their names, and
+-- last that all user frames are free, as in a pool that was left so (`LeavesFree`). The processes are those of a run of the
 -- file's lists and starts over its declared files (`ComesBack`), in its slots and frames (`ArePoolStarts`); their seats are at
 -- one table of frames.
 pub record IsTextOf (s : ThreadScript) (whole : List ℕ) : Type 0 where

@@ -1,6 +1,6 @@
-// `Shelf`, a struct: files (a `Cabinet`) with the history of their page reads and writes, for threads to share; it has
-// `new`, `cabinet`, `history`, a law (`replays`) and the calls of the trait `Files` (promise, read and write a page, length, writable). A
-// promise, so that page reads and writes cannot fail, may be refused. `MOST_USES`: the most entries of a history.
+// `Shelf`, a struct: files (a `Cabinet`) with the history of their page reads and writes, for threads to share; it has `new`,
+// `cabinet`, `history`, a law (`replays`) and the calls of the trait `Files` (promise, read and write a page, length,
+// writable). A promise, so that page reads and writes cannot fail, may be refused. `MOST_USES`: the most entries of a history.
 
 ghost use Rattle.std.specs.Prelude.{[], ◌≡◌};
 ghost use Rattle.file_shelf.specs.Histories.{HistoryReplays};

@@ -49,8 +49,8 @@ abbrev pub forks : List JournalEntry → ℕ
 forks [] = 0
 forks (e ∷ es) = forked e.reply + forks es
 
--- Entry e leads from process p, of which n children were named before, to process q: for these files and some shortage that
--- is possible, reply and process are the model's. The entry has p, the pages that the call reads from the files, and for an mmap
+-- Entry e leads from process p, of which n children were named before, to process q: for these files and some shortage that is
+-- possible, reply and process are the model's. The entry has p, the pages that the call reads from the files, and for an mmap
 -- whether its file may be written.
 pub record IsReplayStep (files : List File) (n : ℕ) (p : Process) (e : JournalEntry) (q : Process) : Type 0 where
   pub before : e.before.state ≡ p

@@ -19,7 +19,7 @@ use Rattle.process_model.specs.Stale.{is_changed}
 use Rattle.table_walk.specs.Tables.{Tables, leaf_node}
 use Rattle.hart_machine.specs.Calls.{Follows}
 use Rattle.hart_machine.specs.SlotProcesses.{body_in, IsSlotProcess}
-use Rattle.hart_machine.specs.Worlds.{HaveSameLeaves, KeepsFrames, KeepsTables}
+use Rattle.hart_machine.specs.Worlds.{HaveSameLeaves, StaysOnFrames, KeepsTables}
 use Rattle.hart_machine.specs.declared.machine.Machine.{Machine}
 use Rattle.hart_machine.specs.declared.slot_process.SlotProcess.{SlotProcess}
 use Rattle.hart_machine.proofs.ChangedSlots.{pages_are_same, sign, sign_of}
@@ -94,15 +94,15 @@ module _ (x y : SlotProcess) (t u : Tables) (p q : Process) (before : IsSlotProc
       subst (λ (g : ℕ). IsFrameOfPage t (trapframe_page p.scheme) g) (one_frame u (trapframe_page p.scheme) x.space.trapframe.0 f here at) (was.0, was.1, was.2.names)
 
   -- so frames are kept where each page that was there is on the frame that it was on
-  pub staying_frames : ((n f : ℕ) (a : Page) → pages.get p.settled n ≡ Some a → IsFrameOfPage u n f → IsFrameOfPage t n f) → KeepsFrames t u p q
+  pub staying_frames : ((n f : ℕ) (a : Page) → pages.get p.settled n ≡ Some a → IsFrameOfPage u n f → IsFrameOfPage t n f) → StaysOnFrames t u p q
   staying_frames on = record { trapframe = stays_saved; pages = λ n f a b at_p at_q copy. on n f a at_p }
 
   -- and where each with an old copy number is
-  pub followed_frames : (low : ℕ) → ((n : ℕ) (a : Page) → pages.get p.settled n ≡ Some a → a.copy < low) → ((n f : ℕ) (z : Page) → pages.get q.settled n ≡ Some z → z.copy < low → IsFrameOfPage u n f → IsFrameOfPage t n f) → KeepsFrames t u p q
+  pub followed_frames : (low : ℕ) → ((n : ℕ) (a : Page) → pages.get p.settled n ≡ Some a → a.copy < low) → ((n f : ℕ) (z : Page) → pages.get q.settled n ≡ Some z → z.copy < low → IsFrameOfPage u n f → IsFrameOfPage t n f) → StaysOnFrames t u p q
   followed_frames low counted on = record { trapframe = stays_saved; pages = λ n f a b at_p at_q copy. let below = counted n a at_p in on n f b at_q (omega (arith, below, copy)) }
 
 -- and where a run of pages was dropped
-pub dropped_frames : (t u : Tables) (p q : Process) (first end : ℕ) → Drops t u first end → KeepsFrames t u p q
+pub dropped_frames : (t u : Tables) (p q : Process) (first end : ℕ) → Drops t u first end → StaysOnFrames t u p q
 dropped_frames t u p q first end drops = record { trapframe = λ f. dropped_on t u first end drops (trapframe_page p.scheme) f; pages = λ n f a b was is copy. dropped_on t u first end drops n f }
 
 -- a page that follows one is on its frame, where its copy number is an old one
@@ -116,7 +116,7 @@ old_on v t u p q low high follows n f z there below on = elim (follows.each n z 
 module _ (m n : Machine) (before after : List (Option Process)) (s : ℕ) (x y : SlotProcess) (p q : Process) (place : slice_get m.slots.items s ≡ Some (Some x)) (at : slice_get before s ≡ Some (Some p))
     (slots : n.slots.items ≡ slice_set m.slots.items s (Some y)) (model : after ≡ slice_set before s (Some q)) (kernel : n.kernel ≡ m.kernel)
     (here : (t u : Tables) → is_changed (Some p) (Some q) ≡ false → IsSlotProcess x t p → IsSlotProcess y u q → HaveSameLeaves t u)
-    (framed : (t u : Tables) → IsSlotProcess x t p → IsSlotProcess y u q → KeepsFrames t u p q) where
+    (framed : (t u : Tables) → IsSlotProcess x t p → IsSlotProcess y u q → StaysOnFrames t u p q) where
   now_here : slice_get n.slots.items s ≡ Some (Some y)
   now_here = ap (λ xs. slice_get xs s) slots ∙ place_set_same m.slots.items s (Some y) (slice_get_within m.slots.items s (Some x) place)
 
@@ -144,7 +144,7 @@ module _ (m n : Machine) (before after : List (Option Process)) (s : ℕ) (x y :
           let b_is : b ≡ y = same_Some b y (same_Some _ _ (sym at_n ∙ ap (slice_get n.slots.items) same ∙ now_here)) in
           let c_is : c ≡ p = same_Some c p (same_Some _ _ (sym at_w ∙ ap (slice_get before) same ∙ at)) in
           let d_is : d ≡ q = same_Some d q (same_Some _ _ (sym at_v ∙ ap (slice_get after) same ∙ now_in)) in
-          subst (λ z. KeepsFrames t u c z) (sym d_is) (subst (λ z. KeepsFrames t u z q) (sym c_is)
+          subst (λ z. StaysOnFrames t u c z) (sym d_is) (subst (λ z. StaysOnFrames t u z q) (sym c_is)
           (framed t u (subst (λ z. IsSlotProcess z t p) a_is (subst (λ z. IsSlotProcess a t z) c_is of_a)) (subst (λ z. IsSlotProcess z u q) b_is (subst (λ z. IsSlotProcess b u z) d_is of_b))))
       | inr apart ↦
           frames_of_leaves t u c d (same_tenant a b c d t u (same_Some a b (same_Some _ _ (sym at_m ∙ sym (place_set_other m.slots.items s r (Some y) apart) ∙ ap (λ xs. slice_get xs r) (sym slots) ∙ at_n))) of_a of_b)
@@ -153,7 +153,7 @@ module _ (m n : Machine) (before after : List (Option Process)) (s : ℕ) (x y :
 
 -- it is told by one pair of tables
 pub slot_keeps_by : (m n : Machine) (before after : List (Option Process)) (s : ℕ) (x y : SlotProcess) (p q : Process) (t u : Tables) → IsSlotProcess x t p → IsSlotProcess y u q → slice_get m.slots.items s ≡ Some (Some x) → slice_get before s ≡ Some (Some p)
-    → n.slots.items ≡ slice_set m.slots.items s (Some y) → after ≡ slice_set before s (Some q) → n.kernel ≡ m.kernel → (is_changed (Some p) (Some q) ≡ false → HaveSameLeaves t u) → KeepsFrames t u p q
+    → n.slots.items ≡ slice_set m.slots.items s (Some y) → after ≡ slice_set before s (Some q) → n.kernel ≡ m.kernel → (is_changed (Some p) (Some q) ≡ false → HaveSameLeaves t u) → StaysOnFrames t u p q
     → KeepsTables m n before after
 slot_keeps_by m n before after s x y p q t u of_x of_y place at slots model kernel same framed = slot_keeps m n before after s x y p q place at slots model kernel
     (λ a b unchanged in_a in_b page. same_tenant y y q q u b refl of_y in_b page ∙ same unchanged page ∙ same_tenant x x p p a t refl in_a of_x page)
@@ -161,7 +161,7 @@ slot_keeps_by m n before after s x y p q t u of_x of_y place at slots model kern
       moved : (v o : Tables) → HaveSameLeaves v o → (k f : ℕ) → IsFrameOfPage v k f → IsFrameOfPage o k f
       moved v o same_leaves k f on = (on.0, same_leaves (leaf_node k) ∙ on.1, on.2)
 
-      frames_by : (a b : Tables) → HaveSameLeaves t a → HaveSameLeaves b u → KeepsFrames a b p q
+      frames_by : (a b : Tables) → HaveSameLeaves t a → HaveSameLeaves b u → StaysOnFrames a b p q
       frames_by a b of_a of_b = record {
         trapframe = λ f on. moved t a of_a (trapframe_page p.scheme) f (framed.trapframe f (moved b u of_b (trapframe_page p.scheme) f on));
         pages = λ k f was is at_p at_q copy on. moved t a of_a k f (framed.pages k f was is at_p at_q copy (moved b u of_b k f on));

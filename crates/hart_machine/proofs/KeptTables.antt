@@ -13,7 +13,7 @@ use Rattle.sv39_entry.specs.Schemes.{trapframe_page}
 use Rattle.table_walk.specs.Tables.{leaf_node, Tables}
 use Rattle.table_walk.specs.LowPages.{tables_of_scheme}
 use Rattle.hart_machine.specs.SlotProcesses.{IsSlotProcess, view_of}
-use Rattle.hart_machine.specs.Worlds.{HaveSameLeaves, KeepsFrames, KeepsOtherSlots, KeepsTables, SamePlaces, SameTables}
+use Rattle.hart_machine.specs.Worlds.{HaveSameLeaves, StaysOnFrames, KeepsOtherSlots, KeepsTables, SamePlaces, SameTables}
 use Rattle.hart_machine.specs.declared.machine.Machine.{Machine}
 use Rattle.hart_machine.specs.declared.slot_process.SlotProcess.{SlotProcess}
 use Rattle.hart_machine.proofs.OneTables.{one_tables}
@@ -25,7 +25,7 @@ same_tenant x y p q t u same a b =
     one_tables (view_of x) x.space.root.0 t u a.agrees.stands.tables (tables_of_scheme (other.agrees.lays.scheme ∙ sym a.agrees.lays.scheme) other.agrees.stands.tables)
 
 -- where leaves are the same, so are the frames that they name
-pub frames_of_leaves : (t u : Tables) (p q : Process) → HaveSameLeaves t u → KeepsFrames t u p q
+pub frames_of_leaves : (t u : Tables) (p q : Process) → HaveSameLeaves t u → StaysOnFrames t u p q
 frames_of_leaves t u p q same = record { trapframe = λ f. still_on (trapframe_page p.scheme) f; pages = λ n f a b was is copy. still_on n f } where
   still_on : (n f : ℕ) → IsFrameOfPage u n f → IsFrameOfPage t n f
   still_on n f on = (on.0, sym (same (leaf_node n)) ∙ on.1, on.2)

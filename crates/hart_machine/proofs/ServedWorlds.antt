@@ -37,7 +37,7 @@ use Rattle.hart_machine.specs.Harts.{hart_of}
 use Rattle.hart_machine.specs.Marks.{AreMarked, slot_if}
 use Rattle.hart_machine.specs.ServeEffect.{HasServed, IsEnding, MustEnd, rule_of, was_served, WhenShared}
 use Rattle.hart_machine.specs.SlotProcesses.{IsSlotProcess, view_of}
-use Rattle.hart_machine.specs.Worlds.{HaveSameLeaves, IsModelOutcome, IsWorld, KeepsFrames, KeepsTables}
+use Rattle.hart_machine.specs.Worlds.{HaveSameLeaves, IsModelOutcome, IsWorld, StaysOnFrames, KeepsTables}
 use Rattle.hart_machine.specs.declared.machine.Machine.{Machine}
 use Rattle.hart_machine.specs.declared.slot_process.SlotProcess.{SlotProcess}
 use Rattle.hart_machine.proofs.AccessingWorlds.{bytes_change}
@@ -305,7 +305,7 @@ module _ (m : Machine) (w : World) (is : IsWorld m w) (h s : ℕ) (waits : Bool)
         w.counter (λ n z there. is.counted s n p z k.in_slot there)
         (old_on (view_of y) t has.tables p (with_waiting fresh_page) w.counter (w.counter + 1) reached_follows)
 
-    pub frames_as_before : y.space.trapframe ≡ x.space.trapframe → KeepsFrames t has.tables p (with_waiting fresh_page)
+    pub frames_as_before : y.space.trapframe ≡ x.space.trapframe → StaysOnFrames t has.tables p (with_waiting fresh_page)
     frames_as_before trapframe = followed_frames x y t has.tables p (with_waiting fresh_page) slot_process (has.slot_process w.counter) (made_settles m.files w.counter from_count a.access page p).scheme trapframe
         w.counter (λ n z there. is.counted s n p z k.in_slot there) (old_on (view_of y) t has.tables p (with_waiting fresh_page) w.counter (w.counter + 1) reached_follows)
 

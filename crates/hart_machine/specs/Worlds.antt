@@ -1,6 +1,6 @@
 -- When a machine is in a world (state) of the model (`IsWorld`): its page tables and frames make the world's processes, its
 -- harts and files are the world's. What steps keep of a machine: its page tables and slots, the places in the process table
--- (`KeepsTables`, `KeepsFrames`, `KeepsOtherSlots`, `SameTables`, `SamePlaces`), and its world (`KeepsWorld`). When reply and machine are
+-- (`KeepsTables`, `StaysOnFrames`, `KeepsOtherSlots`, `SameTables`, `SamePlaces`), and its world (`KeepsWorld`). When reply and machine are
 -- those of the model's step (`IsModelOutcome`).
 use Rattle.std.specs.Prelude.{◌≡◌, ◌↔◌, ℕ, ◌<◌, ◌≤◌, false, Option, None, Some, List, ◌∷◌, length, map, slice_get, Contains}
 use Rattle.std.specs.FinMap.{get}
@@ -86,11 +86,11 @@ HaveSameLeaves t u = (n : ℕ) → get u.leaves n ≡ get t.leaves n
 
 -- by tables t and u, before and after a step, process p and the q that it becomes have TRAPFRAME's page, and each settled page
 -- whose copy number stays, on the same frame
-pub record KeepsFrames (t u : Tables) (p q : Process) : Type 0 where
+pub record StaysOnFrames (t u : Tables) (p q : Process) : Type 0 where
   pub trapframe : (f : ℕ) → IsFrameOfPage u (trapframe_page p.scheme) f → IsFrameOfPage t (trapframe_page p.scheme) f
   pub pages : (n f : ℕ) (a b : Page) → pages.get p.settled n ≡ Some a → pages.get q.settled n ≡ Some b → b.copy ≡ a.copy → IsFrameOfPage u n f → IsFrameOfPage t n f
 
--- the kernel keeps its table, each process its frames (`KeepsFrames`), and its leaves if the model changes none of its copy
+-- the kernel keeps its table, each process its frames (`StaysOnFrames`), and its leaves if the model changes none of its copy
 -- numbers and marks (`is_changed`)
 pub record KeepsTables (m n : Machine) (before after : List (Option Process)) : Type 0 where
   pub many : length n.slots.items ≡ length m.slots.items
@@ -98,7 +98,7 @@ pub record KeepsTables (m n : Machine) (before after : List (Option Process)) : 
   pub leaves : (s : ℕ) (x y : SlotProcess) (p q : Process) (t u : Tables) → slice_get m.slots.items s ≡ Some (Some x) → slice_get n.slots.items s ≡ Some (Some y) → slice_get before s ≡ Some (Some p)
       → slice_get after s ≡ Some (Some q) → is_changed (Some p) (Some q) ≡ false → IsSlotProcess x t p → IsSlotProcess y u q → HaveSameLeaves t u
   pub frames : (s : ℕ) (x y : SlotProcess) (p q : Process) (t u : Tables) → slice_get m.slots.items s ≡ Some (Some x) → slice_get n.slots.items s ≡ Some (Some y) → slice_get before s ≡ Some (Some p)
-      → slice_get after s ≡ Some (Some q) → IsSlotProcess x t p → IsSlotProcess y u q → KeepsFrames t u p q
+      → slice_get after s ≡ Some (Some q) → IsSlotProcess x t p → IsSlotProcess y u q → StaysOnFrames t u p q
 
 -- each slot but s is unchanged, and the kernel keeps its table
 pub record KeepsOtherSlots (m n : Machine) (s : ℕ) : Type 0 where

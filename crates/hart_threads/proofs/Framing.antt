@@ -7,7 +7,7 @@ use Rattle.std.proofs.lemmas.List.{take-append-le}
 use Rattle.std.proofs.lemmas.Option.{same_Some}
 use Rattle.hart_threads.proofs.Making.{slots_first, slots_push}
 use Rattle.hart_threads.specs.StartEffects.{slots_of, takes_slot}
-use Rattle.hart_threads.specs.StartFrames.{AreFramed, IfNoFrame, image_need, LacksFrames, needs, OnNoFrame}
+use Rattle.hart_threads.specs.StartFrames.{AreFramed, IfNoFrame, image_need, LeftTooFew, needs, OnNoFrame}
 use Rattle.hart_threads.specs.declared.start_result.StartResult.{StartResult}
 use Rattle.hart_threads.specs.declared.start_result.StartResult.TheVariants as made
 use Rattle.process_model.specs.declared.call.Outcome.{Outcome}
@@ -47,12 +47,12 @@ framed_longer : (free : ℕ) (starts : List Start) (bs cs : List Bool) (n : ℕ)
 framed_longer free starts bs cs n [] few was = tt
 framed_longer free starts bs cs n (m ∷ ms) few was =
     let same : take n bs ≡ take n (bs ++ cs) = sym (take-append-le n bs cs (omega (arith, few))) in (
-      if_weaker (LacksFrames free starts bs n) (LacksFrames free starts (bs ++ cs) n) (λ l. (l.0, l.1, subst (λ (ts : List Bool). free < needs starts ts + image_need l.0.image) same l.2)) m was.0,
+      if_weaker (LeftTooFew free starts bs n) (LeftTooFew free starts (bs ++ cs) n) (λ l. (l.0, l.1, subst (λ (ts : List Bool). free < needs starts ts + image_need l.0.image) same l.2)) m was.0,
       framed_longer free starts bs cs (n + 1) ms (omega (arith, few)) was.1,
     )
 
-framed_push : (free : ℕ) (starts : List Start) (bs : List Bool) (n k : ℕ) (ms : List StartResult) (m : StartResult) → k ≡ n + length ms → AreFramed free starts bs n ms → IfNoFrame (LacksFrames free starts bs k) m → AreFramed free starts bs n (ms ++ m ∷ [])
-framed_push free starts bs n k [] m is was on = let same : k ≡ n = omega (arith, is) in (subst (λ (j : ℕ). IfNoFrame (LacksFrames free starts bs j) m) same on, tt)
+framed_push : (free : ℕ) (starts : List Start) (bs : List Bool) (n k : ℕ) (ms : List StartResult) (m : StartResult) → k ≡ n + length ms → AreFramed free starts bs n ms → IfNoFrame (LeftTooFew free starts bs k) m → AreFramed free starts bs n (ms ++ m ∷ [])
+framed_push free starts bs n k [] m is was on = let same : k ≡ n = omega (arith, is) in (subst (λ (j : ℕ). IfNoFrame (LeftTooFew free starts bs j) m) same on, tt)
 framed_push free starts bs n k (x ∷ ms) m is was on = (was.0, framed_push free starts bs (n + 1) k ms m (omega (arith, is)) was.1 on)
 
 module _ (free : ℕ) (starts : List Start) (ms : List StartResult) (m : StartResult) (k left need : ℕ) (s : Start) (number : length ms ≡ k) (at : slice_get starts k ≡ Some s) (is : need ≡ image_need s.image) (sum : free ≤ left + needs starts (slots_of ms)) where
@@ -69,12 +69,12 @@ module _ (free : ℕ) (starts : List Start) (ms : List StartResult) (m : StartRe
       omega (arith, sum, now, push, took)
 
   pub framed_next : AreFramed free starts (slots_of ms) 0 ms → IfNoFrame (nat_le need left ≡ false) m → AreFramed free starts (slots_of (ms ++ m ∷ [])) 0 (ms ++ m ∷ [])
-  framed_next was on = subst (λ (bs : List Bool). AreFramed free starts bs 0 (ms ++ m ∷ [])) (sym (slots_push ms m)) (framed_push free starts whole 0 k ms m (omega (arith, number)) older (if_weaker (nat_le need left ≡ false) (LacksFrames free starts whole k) lacks m on))
+  framed_next was on = subst (λ (bs : List Bool). AreFramed free starts bs 0 (ms ++ m ∷ [])) (sym (slots_push ms m)) (framed_push free starts whole 0 k ms m (omega (arith, number)) older (if_weaker (nat_le need left ≡ false) (LeftTooFew free starts whole k) lacks m on))
     where
       older : AreFramed free starts whole 0 ms
       older = framed_longer free starts (slots_of ms) (takes_slot m ∷ []) 0 ms (let l = slots_length ms in omega (arith, l)) was
 
-      lacks : nat_le need left ≡ false → LacksFrames free starts whole k
+      lacks : nat_le need left ≡ false → LeftTooFew free starts whole k
       lacks dry =
           let less = leb-false need left dry in
           let before = ap (needs starts) (slots_first whole (slots_of ms) (takes_slot m ∷ []) refl k long) in
@@ -82,10 +82,10 @@ module _ (free : ℕ) (starts : List Start) (ms : List StartResult) (m : StartRe
 
 -- the first of those that are left
 
-pub framed_first : (free : ℕ) (starts plan : List Start) → starts ≡ plan → (taken : List Bool) (n k : ℕ) (items rest : List StartResult) (m : StartResult) → items ≡ m ∷ rest → n ≡ k → AreFramed free starts taken n items → IfNoFrame (LacksFrames free plan taken k) m
+pub framed_first : (free : ℕ) (starts plan : List Start) → starts ≡ plan → (taken : List Bool) (n k : ℕ) (items rest : List StartResult) (m : StartResult) → items ≡ m ∷ rest → n ≡ k → AreFramed free starts taken n items → IfNoFrame (LeftTooFew free plan taken k) m
 framed_first free starts plan same taken n k items rest m is number was =
     let here = subst (AreFramed free starts taken n) is was in
-    subst (λ (ss : List Start). IfNoFrame (LacksFrames free ss taken k) m) same (subst (λ (j : ℕ). IfNoFrame (LacksFrames free starts taken j) m) number here.0)
+    subst (λ (ss : List Start). IfNoFrame (LeftTooFew free ss taken k) m) same (subst (λ (j : ℕ). IfNoFrame (LeftTooFew free starts taken j) m) number here.0)
 
 pub framed_rest : (free : ℕ) (starts : List Start) (taken : List Bool) (n : ℕ) (items rest : List StartResult) (m : StartResult) → items ≡ m ∷ rest → AreFramed free starts taken n items → AreFramed free starts taken (n + 1) rest
 framed_rest free starts taken n items rest m is was = (subst (AreFramed free starts taken n) is was).1

@@ -1,5 +1,6 @@
 -- Lemmas on the results of starts, made one by one: one result more keeps `AreStartResults`, the slots taken and why one was
--- refused with SharersFull; the next result on the list is the one to enlist, with the rest left (`enlists_made`, `enlists_rest`).
+-- refused with SharersFull; the next result on the list is the one to enlist, with the rest left (`enlists_made`,
+-- `enlists_rest`).
 use Rattle.std.proofs.Common.{◌≡◌, ◌⊎◌, inl, inr, ℕ, ◌+◌, ◌-◌, ◌<◌, ◌≤◌, Bool, true, false, cond, List, [], ◌∷◌, ◌++◌, Some, length, length-append, lit≤, slice_get, take, refl, sym, ap, ◌∙◌, subst, arith}
 use Rattle.std.proofs.lemmas.List.{append-nil, append_assoc}
 use Rattle.std.proofs.lemmas.Option.{same_Some}

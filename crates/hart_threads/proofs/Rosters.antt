@@ -406,7 +406,8 @@ module _ (name : List ℕ) (began child : Birth) (before : List Birth) (out rest
         let older = apart_instead parent elder (without slot out) rest refl mine (apart_less slot out rest had once) in
         apart_swap young elder (others ++ rest) (apart_more young (elder ∷ others ++ rest) (λ _. new_beside) older)
 
--- the same, by the lists of who is out after each of the four steps: both vouchers come back, and the child's and the parent's go out
+-- the same, by the lists of who is out after each of the four steps: both vouchers come back, and the child's and the parent's
+-- go out
 module _ (name named : List ℕ) (began child : Birth) (before children none : List Birth) (g0 g1 g2 g3 g4 : List Life) (e1 : g1 ≡ without nameless g0) (had : Has nameless g0) (e2 : g2 ≡ without (entry name began before) g1) (mine : Has (entry name began before) g1) (is : named ≡ name ++ length before ∷ []) (more : children ≡ before ++ child ∷ []) (bare : none ≡ []) (e3 : g3 ≡ entry named child none ∷ g2) (e4 : g4 ≡ entry name began children ∷ g3) where
   is_born : g4 ≡ born name began child before g0 []
   is_born = e4 ∙ (ap (λ hs. entry name began hs ∷ g3) more ∙ ap (λ g. entry name began (before ++ child ∷ []) ∷ g) (e3 ∙ (ap (λ hs. entry named child hs ∷ g2) bare ∙ ap (λ m. entry m child [] ∷ g2) is ∙ ap (λ g. entry (name ++ length before ∷ []) child [] ∷ g) (e2 ∙ ap (without (entry name began before)) e1))))

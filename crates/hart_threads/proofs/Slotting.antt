@@ -11,7 +11,7 @@ use Rattle.hart_threads.proofs.Names.{first_of, no_start}
 use Rattle.hart_threads.specs.StartEffects.{all_looks, any_full, fulls, has_any, IsFullKnown, IsUnbegun, IsWhy, looks_of}
 use Rattle.hart_threads.specs.Settled.{MatchesSlots}
 use Rattle.hart_threads.specs.Slots.{AreSlotted, AreTaken, count, FindsSlot, IsTaken, KeepsSlots, OnFull, Takes, Unrefused}
-use Rattle.hart_threads.specs.StartFrames.{ArePoolStarts, IsPoolStart, LacksFrames, OnNoFrame}
+use Rattle.hart_threads.specs.StartFrames.{ArePoolStarts, IsPoolStart, LeftTooFew, OnNoFrame}
 use Rattle.hart_threads.specs.declared.start_result.StartResult.{StartResult}
 use Rattle.hart_threads.specs.declared.start_result.StartResult.TheVariants as made
 use Rattle.process_model.specs.declared.call.Outcome.{Outcome}
@@ -54,7 +54,7 @@ pub began_settled : (starts : List Start) (slots : ℕ) (taken : List Bool) (ful
 began_settled starts slots taken full free f began all = record {
   slot = λ i is. let t = all i is in record { finds = finds_free slots (count (take i taken)) f.outcome began t.0; takes = takes_one (slice_get taken i) f.outcome f.journal.items began t.1 };
   reads = not_full (full ≡ true) f.outcome began;
-  frames = λ i is. not_dry (LacksFrames free starts taken i) f.outcome began;
+  frames = λ i is. not_dry (LeftTooFew free starts taken i) f.outcome began;
 }
 
 -- a start without a process took none
@@ -67,8 +67,8 @@ takes_none slot s v (outcome.Exited status) journal why none is = absurd why
 takes_none slot s v (outcome.Ended rule) journal why none is = absurd why
 takes_none slot s v outcome.JournalFull journal why none is = absurd why
 
-pub unbegun_settled : (table : TableId) (starts : List Start) (slots : ℕ) (taken : List Bool) (full : Bool) (free : ℕ) (i : ℕ) (s : Start) (f : Finished) → IsUnbegun table slots (count (take i taken)) s (i ∷ []) f → slice_get taken i ≡ Some false → OnFull (full ≡ true) f.outcome → OnNoFrame (LacksFrames free starts taken i) f.outcome → MatchesSlots starts slots taken full free f
-unbegun_settled table starts slots taken full free i s f none is on dry = record { slot = here; reads = on; frames = λ j named. subst (λ (k : ℕ). OnNoFrame (LacksFrames free starts taken k) f.outcome) (same j named) dry }
+pub unbegun_settled : (table : TableId) (starts : List Start) (slots : ℕ) (taken : List Bool) (full : Bool) (free : ℕ) (i : ℕ) (s : Start) (f : Finished) → IsUnbegun table slots (count (take i taken)) s (i ∷ []) f → slice_get taken i ≡ Some false → OnFull (full ≡ true) f.outcome → OnNoFrame (LeftTooFew free starts taken i) f.outcome → MatchesSlots starts slots taken full free f
+unbegun_settled table starts slots taken full free i s f none is on dry = record { slot = here; reads = on; frames = λ j named. subst (λ (k : ℕ). OnNoFrame (LeftTooFew free starts taken k) f.outcome) (same j named) dry }
   where
     same : (j : ℕ) → f.name.items ≡ j ∷ [] → i ≡ j
     same j named = ap first_of (sym none.named ∙ named)

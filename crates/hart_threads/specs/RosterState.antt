@@ -1,7 +1,7 @@
--- Predicates on lives (a life is the roster's record of a process: its name, how it began, how its children began): the roster's
--- invariant (`IsRostered`), what `run_harts` returns (`ComesBack`), the end of a life (`IsEnded`: name, journal by outcome,
--- bare seat at the run's table), why a start is refused (`RefusesStart`), what a voucher proves (`IsOut`, `IsEndedWithToken`,
--- `IsBirth`).
+-- Predicates on lives (a life is the roster's record of a process: its name, how it began, how its children began): the
+-- roster's invariant (`IsRostered`), what `run_harts` returns (`ComesBack`), the end of a life (`IsEnded`: name, journal by
+-- outcome, bare seat at the run's table), why a start is refused (`RefusesStart`), what a voucher proves (`IsOut`,
+-- `IsEndedWithToken`, `IsBirth`).
 use base.Stored.{Gv}
 use Rattle.hart_calls.specs.ProcessCodes.{code_of}
 use Rattle.std.specs.Prelude.{◌≡◌, ◌⊎◌, ℕ, ◌+◌, ◌<◌, ◌≤◌, ◌∷◌, [], ◌++◌, cond, List, length, Some, Ok, Err, slice_get, Bool, true, false, ◌&&◌}

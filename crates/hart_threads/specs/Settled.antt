@@ -3,7 +3,7 @@
 use Rattle.std.specs.Prelude.{◌≡◌, ℕ, ◌∷◌, [], Bool, true, List}
 use Rattle.hart_calls.specs.declared.finished.Finished.{Finished}
 use Rattle.hart_threads.specs.Slots.{KeepsSlots, OnFull}
-use Rattle.hart_threads.specs.StartFrames.{LacksFrames, OnNoFrame}
+use Rattle.hart_threads.specs.StartFrames.{LeftTooFew, OnNoFrame}
 use Rattle.process_model.specs.declared.call.Start.{Start}
 
 -- f, an ended process of a run whose starts took the slots in `taken`: if it is start i, it is as `KeepsSlots` says, and its
@@ -11,4 +11,4 @@ use Rattle.process_model.specs.declared.call.Start.{Start}
 pub record MatchesSlots (starts : List Start) (slots : ℕ) (taken : List Bool) (full : Bool) (free : ℕ) (f : Finished) : Type 0 where
   pub slot : (i : ℕ) → f.name.items ≡ i ∷ [] → KeepsSlots slots taken i f
   pub reads : OnFull (full ≡ true) f.outcome
-  pub frames : (i : ℕ) → f.name.items ≡ i ∷ [] → OnNoFrame (LacksFrames free starts taken i) f.outcome
+  pub frames : (i : ℕ) → f.name.items ≡ i ∷ [] → OnNoFrame (LeftTooFew free starts taken i) f.outcome

@@ -1,6 +1,6 @@
 -- Frames for the starts of a run whose seats nobody else shares: how many a process takes at its start (`image_need`), those
 -- that took a slot (place in the process table) together (`needs`); a start is refused with NoFrame only if the starts
--- before it leave fewer frames than it needs (`LacksFrames`), and with SharersFull never (`ArePoolStarts`).
+-- before it leave fewer frames than it needs (`LeftTooFew`), and with SharersFull never (`ArePoolStarts`).
 use Rattle.std.specs.Prelude.{◌≡◌, ℕ, ◌+◌, ◌<◌, ◌∷◌, [], All, Bool, cond, List, Result, Ok, Err, Some, slice_get, take}
 use Rattle.hart_calls.specs.declared.finished.Finished.{Finished}
 use Rattle.hart_threads.specs.Slots.{KeepsSlots, OnFull}
@@ -31,8 +31,8 @@ needs (s ∷ ss) [] = 0
 needs (s ∷ ss) (b ∷ bs) = cond b (image_need s.image) 0 + needs ss bs
 
 -- of `free` frames, those before start i leave fewer than its image needs. `taken` has for each start whether it took a slot
-abbrev pub LacksFrames : ℕ → List Start → List Bool → ℕ → Type 0
-LacksFrames free starts taken i = (s : Start) × (slice_get starts i ≡ Some s) × (free < needs starts (take i taken) + image_need s.image)
+abbrev pub LeftTooFew : ℕ → List Start → List Bool → ℕ → Type 0
+LeftTooFew free starts taken i = (s : Start) × (slice_get starts i ≡ Some s) × (free < needs starts (take i taken) + image_need s.image)
 
 -- the outcome is NoFrame only if this holds
 abbrev pub OnNoFrame : Type 0 → Outcome → Type 0
@@ -42,7 +42,7 @@ OnNoFrame lacks o = Unit {0}
 -- start i of a pool of `slots` slots and `free` frames, which ended as f
 pub record IsPoolStart (slots free : ℕ) (starts : List Start) (taken : List Bool) (i : ℕ) (f : Finished) : Type 0 where
   pub slot : KeepsSlots slots taken i f
-  pub frames : OnNoFrame (LacksFrames free starts taken i) f.outcome
+  pub frames : OnNoFrame (LeftTooFew free starts taken i) f.outcome
   pub sharers : OnFull ⊥ f.outcome
 
 -- A start is refused with NoSlot exactly when at least `slots` of the starts before it took a slot; with NoFrame only if these
@@ -65,4 +65,4 @@ IfFull full (made.Over f) = OnFull full f.outcome
 -- the results of the starts from number n on: NoFrame only if frames lack
 abbrev pub AreFramed : ℕ → List Start → List Bool → ℕ → List StartResult → Type 0
 AreFramed free starts taken n [] = Unit {0}
-AreFramed free starts taken n (m ∷ ms) = IfNoFrame (LacksFrames free starts taken n) m × AreFramed free starts taken (n + 1) ms
+AreFramed free starts taken n (m ∷ ms) = IfNoFrame (LeftTooFew free starts taken n) m × AreFramed free starts taken (n + 1) ms

@@ -4,7 +4,7 @@
 ghost use Rattle.std.specs.Prelude.{◌≡◌, ◌+◌, ◌-◌, ◌<◌, ◌∷◌, [], All, cond, Some, length, slice_get, take};
 ghost use Rattle.hart_calls.specs.Track.{NameLists};
 ghost use Rattle.hart_threads.specs.StartEffects.{any_full, AreStartResults, IsFullKnown, IsStartResult, slots_of, takes_slot};
-ghost use Rattle.hart_threads.specs.StartFrames.{AreFramed, IfNoFrame, LacksFrames};
+ghost use Rattle.hart_threads.specs.StartFrames.{AreFramed, IfNoFrame, LeftTooFew};
 ghost use Rattle.hart_threads.specs.Slots.{count};
 
 use crate::job::Job;
@@ -44,7 +44,7 @@ impl<'r, 'a, B: Plan, R: Wait> Enlister<'r, 'a, B, R> {
         requires made { IsStartResult B.table F.slots (count (take (length B.plan - roster.old.left) F.taken)) start ((length B.plan - roster.old.left) ∷ []) made }
         requires taken { slice_get F.taken (length B.plan - roster.old.left) ≡ Some (takes_slot made) }
         requires full { IsFullKnown F.full made }
-        requires framed { IfNoFrame (LacksFrames F.free B.plan F.taken (length B.plan - roster.old.left)) made }
+        requires framed { IfNoFrame (LeftTooFew F.free B.plan F.taken (length B.plan - roster.old.left)) made }
         requires list { start.list < length self.now.lists.now }
         requires start { slice_get B.plan (length B.plan - roster.old.left) ≡ Some start }
         requires named { NameLists self.now.lists.now }

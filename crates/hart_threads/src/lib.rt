@@ -5,7 +5,8 @@
 //! proves that the roster still lists the process, so none is lost between queue, hart and roster. A hart holds no lock
 //! during a call, except that of the shelf if the call needs files.
 //!
-//! A client finds here what it names in a call of `run_harts`: the shelf, and the processes with their calls, of the crates below.
+//! A client finds here what it names in a call of `run_harts`: the shelf, and the processes with their calls, of the crates
+//! below.
 #![tactic(auto)]
 
 mod enlist;

@@ -297,7 +297,8 @@ fn run_in<
 /// except after `Memory` and `JournalFull`. After `Memory` there are fewer than 10,000 entries; after `JournalFull` there are
 /// 10,000, or the process has a mapping and its next call asks a promise for which a history of files has no room. Its seat
 /// is still at the table of `frames`, and holds nothing. A start that was refused is returned too, with an empty journal.
-/// Each call is answered over files that right page reads and writes give from those of `W`, if it needs any.
+/// Each call that needs files is answered over files that some page reads and writes give from those of `W`, each read with the
+/// bytes that the writes before it left.
 ///
 /// A start is refused with `NoSlot` exactly when at least `slots` of the starts before it took a slot. A start whose process
 /// made a call took one, and one that was refused took none; nothing is said of a process that ended with `Memory` before
@@ -354,7 +355,7 @@ pub fn run_harts<'a, W: RunFiles + Send + Sync, R: Threads + Wait + Sync, G: Gat
 
 /// `run_harts` for a caller who says that no seat but `kernel` is at the table of `frames`, and that `free` frames are free. A
 /// start that is refused with `SharersFull`, or with `NoFrame` though enough frames should be free, is tried again: if the
-/// caller is wrong, the call may wait without end.
+/// caller is wrong, or `slots` is above 65,534, the call may wait without end.
 ///
 /// Returns what `run_harts` does. A start is refused with `NoFrame` only if the starts before it leave fewer of the `free`
 /// frames than it needs, and with `SharersFull` never.
