@@ -9,10 +9,10 @@ use Rattle.hart_calls.specs.declared.finished.Finished.{Finished}
 use Rattle.hart_threads.specs.RosterState.{ComesBack}
 use Rattle.hart_threads.specs.StartFrames.{ArePoolStarts}
 use Rattle.hart_threads.specs.Starts.{Lends}
-use Rattle.process_model.specs.Script.{file_of}
-use Rattle.process_model.specs.ThreadScript.{ThreadScript}
+use Rattle.process_model.specs.Files.{file_of}
+use Rattle.script_language.specs.ThreadScript.{ThreadScript}
 use Rattle.process_model.specs.declared.call.Call.{Call}
-use Rattle.process_model.specs.declared.call.Pool.{Pool}
+use Rattle.script_language.specs.declared.declarations.Pool.{Pool}
 use Rattle.process_model.specs.declared.call.Start.{Start}
 use Rattle.shared_frames.specs.SeatsOfTable.{FitsIn, view_of}
 use Rattle.shared_frames.specs.Totals.{AreLastTotals, held_frames}

@@ -4,7 +4,8 @@
 use Rattle.std.proofs.Common.{◌≡◌, ℕ, Bool, true, false, refl, sym, ap, subst, ◌∙◌}
 use Rattle.process_model.specs.ScalarReplies.{reply_of_scalar, same_scalar}
 use Rattle.process_model.specs.Steps.{step}
-use Rattle.process_model.specs.Text.{after_service, back_if, fixed, fixed_after, is_ready, is_refused, series_of, three_next}
+use Rattle.process_model.specs.Steps.{is_refused}
+use Rattle.script_language.specs.Text.{after_service, back_if, fixed, fixed_after, is_ready, series_of, three_next}
 use Rattle.process_model.specs.World.{World, Outcome}
 use Rattle.process_model.specs.declared.scalar_reply.ScalarReply.{ScalarReply}
 use Rattle.process_model.specs.declared.scalar_reply.ScalarReply.TheVariants as scalar

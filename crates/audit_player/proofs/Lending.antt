@@ -10,13 +10,13 @@ use Rattle.process_model.specs.Process.{without_pending}
 use Rattle.process_model.specs.Service.{environment_of, initial_progress}
 use Rattle.process_model.specs.Stale.{with_stale_slots}
 use Rattle.process_model.specs.Steps.{step}
-use Rattle.process_model.specs.Text.{lent, or_no_image, image_at, line_result, line_result_of}
-use Rattle.process_model.specs.Words.{reply_text}
+use Rattle.script_language.specs.Text.{lent, or_no_image, image_at, line_result, line_result_of}
+use Rattle.script_language.specs.Words.{reply_text}
 use Rattle.process_model.specs.World.{Outcome, World, free_slot, kernel_call}
 use Rattle.process_model.specs.declared.image.BadImage.{BadImage}
 use Rattle.process_model.specs.declared.image.Image.{Image}
-use Rattle.process_model.specs.declared.image.OwnedImage.{OwnedImage}
-use Rattle.process_model.specs.declared.script.Command.{Command}
+use Rattle.script_language.specs.declared.declarations.OwnedImage.{OwnedImage}
+use Rattle.script_language.specs.declared.script.Command.{Command}
 use Rattle.process_model.specs.declared.step.Reply.{Reply}
 use Rattle.process_model.specs.declared.step.Step.{Step}
 use Rattle.process_model.specs.declared.step.Step.TheVariants.{CopyOut, Exec, Start}

@@ -7,18 +7,18 @@ use Rattle.std.proofs.lemmas.Bool.Decides.{eqb_tells}
 use Rattle.std.proofs.lemmas.List.{take_more}
 use Rattle.std.proofs.lemmas.List.Elements.{All-get_or, All-head, All-tail, All-weaker}
 use Rattle.hart_calls.specs.Track.{NamesList}
-use Rattle.process_model.specs.ThreadScript.{calls_of, most_lists}
+use Rattle.script_language.specs.ThreadScript.{calls_of, most_lists}
 use Rattle.process_model.specs.declared.call.Call.{Call}
 use Rattle.process_model.specs.declared.call.Call.TheVariants as call
-use Rattle.process_model.specs.declared.call.CallList.{CallList}
-use Rattle.process_model.specs.declared.call.ListedCall.{ListedCall}
-use Rattle.process_model.specs.declared.call.ListedCall.TheVariants as listed
-use Rattle.process_model.specs.declared.call.ListedStart.{ListedStart}
-use Rattle.process_model.specs.declared.image.OwnedImage.{OwnedImage}
+use Rattle.script_language.specs.declared.declarations.CallList.{CallList}
+use Rattle.script_language.specs.declared.declarations.ListedCall.{ListedCall}
+use Rattle.script_language.specs.declared.declarations.ListedCall.TheVariants as listed
+use Rattle.script_language.specs.declared.declarations.ListedStart.{ListedStart}
+use Rattle.script_language.specs.declared.declarations.OwnedImage.{OwnedImage}
 use Rattle.script_reader.specs.ThreadsPlayable.{HasList, IsDeclaredCall, IsDeclaredLine, IsList, IsStart}
 use Rattle.hart_calls.specs.Replay.{list_at}
 use Rattle.process_model.specs.Images.{image_loads}
-use Rattle.process_model.specs.Text.{image_at, lent}
+use Rattle.script_language.specs.Text.{image_at, lent}
 use Rattle.process_model.specs.declared.call.Start.{Start}
 use Rattle.process_model.specs.declared.image.Image.{Image}
 use Rattle.audit_player.proofs.Lending.{named}

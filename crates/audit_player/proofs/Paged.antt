@@ -5,8 +5,8 @@ use Rattle.std.specs.Io.KnownBytes.{Appends}
 use Rattle.std.specs.Prelude.{codes}
 use Rattle.std.proofs.lemmas.List.{append-nil, at_drop_more, length-drop}
 use Rattle.std.proofs.Math.Seq.{take-length}
-use Rattle.process_model.specs.Text.{line_text}
-use Rattle.process_model.specs.Threads.{dotted_text, end_text, name_text}
+use Rattle.script_language.specs.Text.{line_text}
+use Rattle.script_language.specs.Threads.{dotted_text, end_text, name_text}
 use Rattle.process_model.specs.declared.call.Outcome.{Outcome}
 use Rattle.audit_player.specs.ThreadText.{ended_line, ended_lines}
 use Rattle.hart_calls.specs.declared.finished.Finished.{Finished}

@@ -6,7 +6,7 @@ use Rattle.std.specs.Io.KnownBytes.{Appends, Consumes}
 use Rattle.std.proofs.lemmas.List.{append-nil, length-take-le, take-append-drop}
 use Rattle.std.specs.Prelude.{nat_lt}
 use Rattle.std.proofs.lemmas.Bool.{ltb-false}
-use Rattle.process_model.specs.Script.{longest_script}
+use Rattle.script_language.specs.Script.{longest_script}
 use Rattle.script_reader.specs.Reading.{HasRead, PieceReader}
 use Rattle.audit_player.specs.InputOutput.{WroteUpTo}
 

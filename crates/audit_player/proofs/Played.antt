@@ -2,14 +2,14 @@
 -- the reader's bytes (`played`); a failed read writes nothing (`read_failed`), nor does a refused script (`refused`).
 use Rattle.std.proofs.Common.{◌≡◌, ℕ, ◌<◌, false, List, [], ◌++◌, length, length-append, Option, None, Some, Result, Err, inl, inr, refl, sym, ap, subst, ◌∙◌, arith}
 use Rattle.std.specs.Prelude.{nat_le}
-use Rattle.process_model.specs.declared.script.Cause.TheVariants as cause
-use Rattle.process_model.specs.Script.{Script, script_of, longest_script}
+use Rattle.script_language.specs.declared.script.Cause.TheVariants as cause
+use Rattle.script_language.specs.Script.{Script, script_of, longest_script}
 use Rattle.audit_player.proofs.Parts.{appends_nothing}
 use Rattle.audit_player.specs.declared.fault.PlayError.{PlayError}
 use Rattle.audit_player.specs.declared.fault.PlayError.TheVariants as error
 use Rattle.audit_player.specs.PlayResult.{Plays, PlaysScript, text_or_none, play_error_of}
 use Rattle.std.specs.Io.KnownBytes.{Keeps}
-use Rattle.process_model.specs.declared.script.Cause.{Cause}
+use Rattle.script_language.specs.declared.script.Cause.{Cause}
 use Rattle.script_reader.specs.ReadResults.{GivesError}
 use Rattle.script_reader.specs.declared.fault.ScriptError.{ScriptError}
 use Rattle.script_reader.specs.declared.fault.ScriptError.TheVariants as script

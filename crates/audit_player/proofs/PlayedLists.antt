@@ -2,10 +2,10 @@
 -- holds of them holds of the reader's bytes (`played_lists`); a failed read writes nothing (`lists_unread`), nor does a
 -- refused file.
 use Rattle.std.proofs.Common.{◌≡◌, ℕ, ◌<◌, List, [], length, Option, None, Some, Result, Ok, Err, inl, inr, refl, sym, ap, subst, ◌∙◌}
-use Rattle.process_model.specs.Script.{longest_script}
-use Rattle.process_model.specs.ThreadScript.{ThreadScript, thread_script_of}
-use Rattle.process_model.specs.declared.script.Cause.{Cause}
-use Rattle.process_model.specs.declared.script.Cause.TheVariants as cause
+use Rattle.script_language.specs.Script.{longest_script}
+use Rattle.script_language.specs.ThreadScript.{ThreadScript, thread_script_of}
+use Rattle.script_language.specs.declared.script.Cause.{Cause}
+use Rattle.script_language.specs.declared.script.Cause.TheVariants as cause
 use Rattle.script_reader.specs.ReadResults.{GivesError}
 use Rattle.script_reader.specs.declared.fault.ScriptError.{ScriptError}
 use Rattle.script_reader.specs.declared.fault.ScriptError.TheVariants as script

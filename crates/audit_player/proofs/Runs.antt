@@ -6,7 +6,8 @@ use Rattle.std.proofs.lemmas.List.{at_drop_more, at_drop_all}
 use Rattle.std.specs.Prelude.{◌≤◌}
 use Rattle.process_model.specs.ScalarReplies.{reply_of_scalar, same_scalar}
 use Rattle.process_model.specs.Steps.{step}
-use Rattle.process_model.specs.Text.{is_refused, series_of, three_next}
+use Rattle.process_model.specs.Steps.{is_refused}
+use Rattle.script_language.specs.Text.{series_of, three_next}
 use Rattle.process_model.specs.World.{World, Outcome}
 use Rattle.process_model.specs.declared.scalar_reply.ScalarReply.{ScalarReply}
 use Rattle.process_model.specs.declared.scalar_reply.ScalarReply.TheVariants as scalar

@@ -5,11 +5,11 @@ use Rattle.std.proofs.Common.{◌≡◌, ℕ, ◌+◌, ◌<◌, ◌≤◌, List,
 use Rattle.std.specs.Prelude.{All}
 use Rattle.std.specs.Io.KnownBytes.{Appends}
 use Rattle.std.proofs.lemmas.List.{append-nil, at_drop_more, at_drop_all}
-use Rattle.process_model.specs.Text.{line_text, commands_text, line_result}
+use Rattle.script_language.specs.Text.{line_text, commands_text, line_result}
 use Rattle.process_model.specs.World.{World}
 use Rattle.process_model.specs.declared.file.FileText.{FileText}
-use Rattle.process_model.specs.declared.image.OwnedImage.{OwnedImage}
-use Rattle.process_model.specs.declared.script.Command.{Command}
+use Rattle.script_language.specs.declared.declarations.OwnedImage.{OwnedImage}
+use Rattle.script_language.specs.declared.script.Command.{Command}
 use Rattle.hart_machine.specs.BufferEntries.{IsInWorld}
 use Rattle.hart_machine.specs.declared.machine.Machine.{Machine}
 use Rattle.script_reader.specs.Playable.{IsDeclared}

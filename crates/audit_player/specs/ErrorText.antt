@@ -2,7 +2,7 @@
 -- fault, the line's number and the cause.
 use Rattle.std.specs.Prelude.{ℕ, List, ◌++◌, codes}
 use Rattle.std.specs.Fmt.{decimal}
-use Rattle.process_model.specs.Words.{cause_text}
+use Rattle.script_language.specs.Words.{cause_text}
 use Rattle.audit_player.specs.declared.fault.PlayError.{PlayError}
 use Rattle.audit_player.specs.declared.fault.PlayError.TheVariants as error
 

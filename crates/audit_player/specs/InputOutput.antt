@@ -2,7 +2,7 @@
 -- script (`IsInput`, `HasReadAll`); a prefix of a text was written (`WroteSome`; `WroteUpTo` names the rest).
 use Rattle.std.specs.Prelude.{◌≡◌, ℕ, ◌<◌, ◌⊎◌, List, ◌++◌, length, Option, None, Some}
 use Rattle.std.specs.Io.KnownBytes.{Appends}
-use Rattle.process_model.specs.Script.{longest_script}
+use Rattle.script_language.specs.Script.{longest_script}
 use Rattle.script_reader.specs.Reading.{HasRead, PieceReader}
 
 -- all of the known bytes, or a prefix of them that is longer than the limit; if they are not known, any bytes

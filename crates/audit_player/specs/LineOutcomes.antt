@@ -1,7 +1,7 @@
 -- Relations for playing on a machine: reply and machine are those of a model's outcome (`GivesOutcome`); for a line after
 -- `boot`, the model's answer was appended to the text, and the machine is in the world after that line (`AppendsLine`).
 use Rattle.std.specs.Prelude.{◌≡◌, ℕ, List, ◌++◌}
-use Rattle.process_model.specs.Text.{LineResult}
+use Rattle.script_language.specs.Text.{LineResult}
 use Rattle.process_model.specs.World.{Outcome}
 use Rattle.process_model.specs.declared.step.Reply.{Reply}
 use Rattle.hart_machine.specs.BufferEntries.{IsInWorld}

@@ -3,9 +3,9 @@
 -- reader's.
 use Rattle.std.specs.Prelude.{◌≡◌, ℕ, List, [], Option, None, Some, Result, Ok, Err}
 use Rattle.std.specs.Io.KnownBytes.{Appends, Keeps}
-use Rattle.process_model.specs.Script.{Script, script_of}
-use Rattle.process_model.specs.Text.{text_of}
-use Rattle.process_model.specs.declared.script.Cause.{Cause}
+use Rattle.script_language.specs.Script.{Script, script_of}
+use Rattle.script_language.specs.Text.{text_of}
+use Rattle.script_language.specs.declared.script.Cause.{Cause}
 use Rattle.script_reader.specs.declared.fault.ScriptError.{ScriptError}
 use Rattle.script_reader.specs.declared.fault.ScriptError.TheVariants as script
 use Rattle.audit_player.specs.InputOutput.{WroteSome}

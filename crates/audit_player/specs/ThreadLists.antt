@@ -3,16 +3,16 @@
 use Rattle.std.specs.Prelude.{◌≡◌, ℕ, ◌<◌, List, [], ◌∷◌, All, Option, None, Some}
 use Rattle.hart_calls.specs.Replay.{list_at}
 use Rattle.process_model.specs.Images.{image_loads}
-use Rattle.process_model.specs.Text.{image_at}
-use Rattle.process_model.specs.ThreadScript.{calls_of, most_lists}
+use Rattle.script_language.specs.Text.{image_at}
+use Rattle.script_language.specs.ThreadScript.{calls_of, most_lists}
 use Rattle.process_model.specs.declared.call.Call.{Call}
 use Rattle.process_model.specs.declared.call.Call.TheVariants as call
-use Rattle.process_model.specs.declared.call.CallList.{CallList}
-use Rattle.process_model.specs.declared.call.ListedCall.{ListedCall}
-use Rattle.process_model.specs.declared.call.ListedCall.TheVariants as listed
-use Rattle.process_model.specs.declared.call.ListedStart.{ListedStart}
+use Rattle.script_language.specs.declared.declarations.CallList.{CallList}
+use Rattle.script_language.specs.declared.declarations.ListedCall.{ListedCall}
+use Rattle.script_language.specs.declared.declarations.ListedCall.TheVariants as listed
+use Rattle.script_language.specs.declared.declarations.ListedStart.{ListedStart}
 use Rattle.process_model.specs.declared.call.Start.{Start}
-use Rattle.process_model.specs.declared.image.OwnedImage.{OwnedImage}
+use Rattle.script_language.specs.declared.declarations.OwnedImage.{OwnedImage}
 use Rattle.sv39_entry.specs.declared.scheme.Scheme.{Scheme}
 
 -- each list has a number below `most_lists`

@@ -10,12 +10,12 @@ use Rattle.hart_calls.specs.declared.finished.Finished.{Finished}
 use Rattle.hart_threads.specs.RosterState.{ComesBack}
 use Rattle.hart_threads.specs.StartFrames.{ArePoolStarts}
 use Rattle.process_model.specs.Frames.{kernel_frames}
-use Rattle.process_model.specs.Script.{file_of}
-use Rattle.process_model.specs.ThreadScript.{ThreadScript, thread_script_of}
+use Rattle.process_model.specs.Files.{file_of}
+use Rattle.script_language.specs.ThreadScript.{ThreadScript, thread_script_of}
 use Rattle.process_model.specs.declared.call.Call.{Call}
-use Rattle.process_model.specs.declared.call.Pool.{Pool}
+use Rattle.script_language.specs.declared.declarations.Pool.{Pool}
 use Rattle.process_model.specs.declared.call.Start.{Start}
-use Rattle.process_model.specs.declared.script.Cause.{Cause}
+use Rattle.script_language.specs.declared.script.Cause.{Cause}
 use Rattle.shared_frames.specs.Totals.{AreLastTotals, held_frames}
 use Rattle.audit_player.specs.InputOutput.{WroteSome}
 use Rattle.audit_player.specs.ThreadLists.{AreListsOf, AreStartsOf}

@@ -4,8 +4,8 @@ use Rattle.std.specs.Prelude.{ℕ, List, [], ◌∷◌, ◌++◌, length}
 use Rattle.std.specs.List.Sorted.{IsSortedByKey}
 use Rattle.std.specs.Cmp.Lexicographic.{slice_cmp}
 use Rattle.std.specs.Ordering.{nat_cmp}
-use Rattle.process_model.specs.Text.{line_text}
-use Rattle.process_model.specs.Threads.{process_text, free_text}
+use Rattle.script_language.specs.Text.{line_text}
+use Rattle.script_language.specs.Threads.{process_text, free_text}
 use Rattle.hart_calls.specs.declared.finished.Finished.{Finished}
 
 abbrev pub ended_line : Finished → List ℕ

@@ -7,13 +7,14 @@ ghost use Rattle.std.specs.Fmt.{decimal};
 ghost use Rattle.hart_machine.specs.BufferEntries.{IsInWorld};
 ghost use Rattle.process_model.specs.Copies.{longest_copy};
 ghost use Rattle.process_model.specs.Files.{bytes_of};
-ghost use Rattle.process_model.specs.Text.{show_text};
-ghost use Rattle.process_model.specs.Words.{bytes_text};
+ghost use Rattle.script_language.specs.Text.{show_text};
+ghost use Rattle.script_language.specs.Words.{bytes_text};
 ghost use Rattle.process_model.specs.World.{World, report};
 
 use file_cabinet::Cabinet;
 use hart_machine::Machine;
-use process_model::{LONGEST_TEXT, Report, put, put_bytes, put_decimal};
+use process_model::Report;
+use script_language::{LONGEST_TEXT, put, put_bytes, put_decimal};
 
 /// Appends the length of a file, and the bytes of it that are shown.
 fn put_file(text: &mut Vec<u8>, length: usize, shown: &[u8])

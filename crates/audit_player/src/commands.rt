@@ -8,7 +8,7 @@ ghost use Rattle.process_model.specs.ScalarReplies.{is_scalar, reply_of_scalar};
 ghost use Rattle.process_model.specs.Images.{image_loads};
 ghost use Rattle.sv39_entry.specs.declared.scheme.Scheme.{Scheme};
 ghost use Rattle.process_model.specs.Steps as model;
-ghost use Rattle.process_model.specs.Text as words;
+ghost use Rattle.script_language.specs.Text as words;
 ghost use Rattle.process_model.specs.World.{World};
 ghost use Rattle.process_model.specs.declared.file.FileText.{FileText};
 ghost use Rattle.process_model.specs.declared.step.Reply.TheVariants.{Done};
@@ -19,10 +19,8 @@ ghost use Rattle.audit_player.specs.LineOutcomes.{GivesOutcome, AppendsLine};
 
 use crate::answer::{audit, put_shown};
 use hart_machine::Machine;
-use process_model::{
-    Command, Image, LONGEST_TEXT, OwnedImage, ScalarReply, Step, put_reply, put_report,
-    put_scalar_reply,
-};
+use process_model::{Image, ScalarReply, Step};
+use script_language::{Command, LONGEST_TEXT, OwnedImage, put_reply, put_report, put_scalar_reply};
 use script_reader::CommandView;
 
 /// Borrows an image of a script for a step or a call. It loads as the script's image does.

@@ -1,7 +1,7 @@
 // `PlayError` (enum): why a script, or a file for threads, was not played to its end: host memory refused, a fault in a
 // line, or a failed reader or writer; and the line that is printed for it (`Display`).
 
-use process_model::Cause;
+use script_language::Cause;
 use std::error::Error;
 use std::fmt;
 

@@ -4,13 +4,14 @@
 
 ghost use Rattle.std.specs.Prelude.{◌≡◌, ◌<◌, ◌≤◌, ◌++◌, [], codes, false, not, length, IfOk, vec_len, vec_capacity};
 ghost use Rattle.std.specs.Fmt.{decimal};
-ghost use Rattle.process_model.specs.Text.{line_text};
-ghost use Rattle.process_model.specs.Threads.{end_text, free_text};
+ghost use Rattle.script_language.specs.Text.{line_text};
+ghost use Rattle.script_language.specs.Threads.{end_text, free_text};
 ghost use Rattle.audit_player.specs.Pages.{AppendsPiece, Turns};
 
 use crate::sink::Sink;
 use crate::transfer::write_all;
-use process_model::{LONGEST_END, Outcome, put, put_decimal, put_end, put_free};
+use process_model::Outcome;
+use script_language::{LONGEST_END, put, put_decimal, put_end, put_free};
 use std::alloc::{AllocError, Global};
 use std::marker::Model;
 

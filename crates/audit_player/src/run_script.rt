@@ -3,7 +3,7 @@
 
 ghost use Rattle.std.specs.Prelude.{◌≡◌, ◌↔◌, ◌≤◌, ◌+◌, false, [], map, IfOk, IsTrue, IsErrOf, vec_capacity};
 ghost use Rattle.hart_machine.specs.BufferEntries.{IsInWorld};
-ghost use Rattle.process_model.specs.Script.{file_of};
+ghost use Rattle.process_model.specs.Files.{file_of};
 ghost use Rattle.process_model.specs.World.{booted};
 ghost use Rattle.script_reader.specs.Playable.{CanBoot, IsPlayable};
 ghost use Rattle.audit_player.specs.PlayResult.{PlaysScript};
@@ -15,7 +15,8 @@ use crate::sink::Sink;
 use crate::transfer::write_all;
 use file_cabinet::Cabinet;
 use hart_machine::{BootError, Machine};
-use process_model::{Config, LONGEST_TEXT, put};
+use process_model::Config;
+use script_language::{LONGEST_TEXT, put};
 use script_reader::Script;
 use std::alloc::{AllocError, Global};
 

@@ -3,13 +3,14 @@
 
 ghost use Rattle.std.specs.Prelude.{◌≡◌, ◌<◌, All, IfOk, List, length};
 ghost use Rattle.hart_calls.specs.Track.{NameLists, NamesList};
-ghost use Rattle.process_model.specs.ThreadScript.{most_lists};
-ghost use Rattle.process_model.specs.declared.call.CallList.{CallList};
+ghost use Rattle.script_language.specs.ThreadScript.{most_lists};
+ghost use Rattle.script_language.specs.declared.declarations.CallList.{CallList};
 ghost use Rattle.script_reader.specs.ThreadsPlayable.{IsDeclaredLine, IsThreadPlayable};
 ghost use Rattle.audit_player.specs.ThreadLists.{AreCallsOf, AreFew, AreListsOf, AreStartsOf, IsCallOf, lines_of};
 
 use crate::commands::lend;
-use process_model::{Call, ListedCall, OwnedImage, Sequence, Start};
+use process_model::{Call, Sequence, Start};
+use script_language::{ListedCall, OwnedImage};
 use script_reader::ThreadScript;
 use std::alloc::{AllocError, Global};
 

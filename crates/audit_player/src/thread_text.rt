@@ -3,7 +3,7 @@
 
 ghost use Rattle.std.specs.Prelude.{◌≡◌, [], false, true, not};
 ghost use Rattle.std.specs.Io.KnownBytes.{Appends};
-ghost use Rattle.process_model.specs.Threads.{dotted_text, name_text};
+ghost use Rattle.script_language.specs.Threads.{dotted_text, name_text};
 ghost use Rattle.audit_player.specs.Pages.{AppendsPiece};
 ghost use Rattle.audit_player.specs.InputOutput.{WroteSome};
 ghost use Rattle.std.specs.List.Sorted.{IsPermutation};

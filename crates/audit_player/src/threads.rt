@@ -6,8 +6,8 @@ ghost use Rattle.atomic_table.specs.Seated.{TableId};
 ghost use Rattle.hart_calls.specs.Track.{NameLists};
 ghost use Rattle.hart_threads.specs.RosterState.{ComesBack};
 ghost use Rattle.hart_threads.specs.StartFrames.{ArePoolStarts};
-ghost use Rattle.process_model.specs.Script.{file_of};
-ghost use Rattle.process_model.specs.ThreadScript.{most_lists};
+ghost use Rattle.process_model.specs.Files.{file_of};
+ghost use Rattle.script_language.specs.ThreadScript.{most_lists};
 ghost use Rattle.script_reader.specs.ThreadsPlayable.{IsThreadPlayable};
 ghost use Rattle.audit_player.specs.ThreadRunResult.{LeavesFree, PlaysLists, PlaysThreads, user_frames};
 

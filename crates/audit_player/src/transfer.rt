@@ -4,7 +4,7 @@
 
 ghost use Rattle.std.specs.Prelude.{◌≡◌, ◌↔◌, false, true, not, IsTrue, IfOk, IsErrOf};
 ghost use Rattle.std.specs.Io.KnownBytes.{Appends};
-ghost use Rattle.process_model.specs.Script.{longest_script};
+ghost use Rattle.script_language.specs.Script.{longest_script};
 ghost use Rattle.audit_player.specs.InputOutput.{HasReadAll, IsInput, WroteSome};
 ghost use Rattle.audit_player.specs.declared.transfer.ReadError.TheVariants as errors;
 

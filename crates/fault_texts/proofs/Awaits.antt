@@ -2,11 +2,11 @@
 use Rattle.std.proofs.Common.{◌≡◌, ◌≢◌, ℕ, zero, suc, ◌+◌, ◌<◌, Bool, true, false, eqb, List, [], ◌∷◌, length, drop, Some, None, Result, Ok, Err, refl, ap, sym, subst, ◌∙◌, arith}
 use Rattle.std.specs.Prelude.{slice_get, if◌then◌else◌}
 use Rattle.std.proofs.lemmas.Bool.{eqb-true}
-use Rattle.process_model.specs.Fields.{Row, and_then, kinds_for, value_of, values_from, values_of}
-use Rattle.process_model.specs.declared.script.Cause.{Cause}
-use Rattle.process_model.specs.declared.script.Cause.TheVariants as cause
-use Rattle.process_model.specs.declared.script.FieldKind.{FieldKind}
-use Rattle.process_model.specs.declared.script.FieldValue.{FieldValue}
+use Rattle.script_language.specs.Fields.{Row, and_then, kinds_for, value_of, values_from, values_of}
+use Rattle.script_language.specs.declared.script.Cause.{Cause}
+use Rattle.script_language.specs.declared.script.Cause.TheVariants as cause
+use Rattle.script_language.specs.declared.script.FieldKind.{FieldKind}
+use Rattle.script_language.specs.declared.script.FieldValue.{FieldValue}
 use Rattle.script_reader.specs.Rows.{kind_at}
 use Rattle.fault_texts.specs.Causes.{OfField}
 use Rattle.fault_texts.proofs.PlacesOfKinds.{kinds_at}

@@ -4,16 +4,16 @@ use Rattle.std.specs.Prelude.{◌==◌, IfErr, codes, if◌then◌else◌}
 use Rattle.std.specs.Str.{bytes_eq}
 use Rattle.sv39_entry.specs.declared.scheme.Scheme.TheVariants.{Sv39, Sv48}
 use Rattle.process_model.specs.declared.config.Policy.TheVariants as policy
-use Rattle.process_model.specs.Fields.{Row, said_or, slot_value, is_dash, entry_number, segment_in, value_of, and_then, kinds_for, values_from, values_of}
-use Rattle.process_model.specs.Lines.{pieces_of}
-use Rattle.process_model.specs.Numbers.{number_of, signed_of, hex_of}
-use Rattle.process_model.specs.declared.script.Cause.{Cause}
-use Rattle.process_model.specs.declared.script.Cause.TheVariants as cause
-use Rattle.process_model.specs.declared.script.FieldKind.{FieldKind}
+use Rattle.script_language.specs.Fields.{Row, said_or, slot_value, is_dash, entry_number, segment_in, value_of, and_then, kinds_for, values_from, values_of}
+use Rattle.script_language.specs.Lines.{pieces_of}
+use Rattle.script_language.specs.Numbers.{number_of, signed_of, hex_of}
+use Rattle.script_language.specs.declared.script.Cause.{Cause}
+use Rattle.script_language.specs.declared.script.Cause.TheVariants as cause
+use Rattle.script_language.specs.declared.script.FieldKind.{FieldKind}
 use Rattle.fault_texts.specs.Causes.{OfField}
-use Rattle.process_model.specs.declared.script.FieldKind.TheVariants as kind
-use Rattle.process_model.specs.declared.script.FieldValue.{FieldValue}
-use Rattle.process_model.specs.declared.script.FieldValue.TheVariants as value
+use Rattle.script_language.specs.declared.script.FieldKind.TheVariants as kind
+use Rattle.script_language.specs.declared.script.FieldValue.{FieldValue}
+use Rattle.script_language.specs.declared.script.FieldValue.TheVariants as value
 
 said_cause : {A : Type 0} (c : Cause) (make : A → FieldValue) (o : Option A) → OfField c → IfErr (said_or c make o) OfField
 said_cause c make None h = h

@@ -1,9 +1,9 @@
 -- Lemmas: a value that is not there is no value that is there; and limits.
 use Rattle.std.proofs.Common.{◌≡◌, Bool, true, false, Option, Some, None, Result, Ok, Err, refl, ◌∙◌}
 use Rattle.std.specs.Prelude.{IfOk, IsSome, is_none, is_some}
-use Rattle.process_model.specs.ReadLines.{in_limits}
-use Rattle.process_model.specs.declared.script.Cause.TheVariants as cause
-use Rattle.process_model.specs.declared.script.Item.{Item}
+use Rattle.script_language.specs.ReadLines.{in_limits}
+use Rattle.script_language.specs.declared.script.Cause.TheVariants as cause
+use Rattle.script_language.specs.declared.script.Item.{Item}
 
 pub some_there_is : {X : Type 0} (o : Option X) → is_none o ≡ false → IsSome o
 some_there_is None e = absurd cc

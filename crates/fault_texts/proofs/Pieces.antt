@@ -4,7 +4,7 @@ use Rattle.std.specs.Prelude.{MatchOption}
 use Rattle.std.specs.Borrow.{Bor}
 use Rattle.std.specs.List.{onto_first}
 use Rattle.std.proofs.lemmas.Bool.{cases_Bool}
-use Rattle.process_model.specs.Lines.{is_colon, pieces_of}
+use Rattle.script_language.specs.Lines.{is_colon, pieces_of}
 
 -- the bytes of these pieces, and one more for each
 abbrev spread : List (List ℕ) → ℕ

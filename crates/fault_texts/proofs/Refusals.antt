@@ -1,16 +1,16 @@
 -- Lemmas: what is wrong with a line that is refused for a cause.
 use Rattle.std.proofs.Common.{◌≡◌, ℕ, Bool, true, false, List, ◌∷◌, Some, Result, Ok, Err, refl, sym, ap, subst, ◌∙◌, inl, inr}
 use Rattle.std.specs.Prelude.{◌⊎◌, IfErr}
-use Rattle.process_model.specs.Fields.{Row, command_table, row_among, values_of}
-use Rattle.process_model.specs.Lines.{fields_of}
-use Rattle.process_model.specs.ReadLines.{◌>>=◌, test, in_limits}
-use Rattle.process_model.specs.Script.{Draft, in_order, item_of, has_room}
-use Rattle.process_model.specs.declared.script.Cause.{Cause}
-use Rattle.process_model.specs.declared.script.Cause.TheVariants as cause
-use Rattle.process_model.specs.declared.script.FieldValue.{FieldValue}
-use Rattle.process_model.specs.declared.script.Item.{Item}
-use Rattle.process_model.specs.declared.script.Keyword.{Keyword}
-use Rattle.process_model.specs.declared.script.Keyword.TheVariants as word
+use Rattle.script_language.specs.Fields.{Row, command_table, row_among, values_of}
+use Rattle.script_language.specs.Lines.{fields_of}
+use Rattle.script_language.specs.ReadLines.{◌>>=◌, test, in_limits}
+use Rattle.script_language.specs.Script.{Draft, in_order, item_of, has_room}
+use Rattle.script_language.specs.declared.script.Cause.{Cause}
+use Rattle.script_language.specs.declared.script.Cause.TheVariants as cause
+use Rattle.script_language.specs.declared.script.FieldValue.{FieldValue}
+use Rattle.script_language.specs.declared.script.Item.{Item}
+use Rattle.script_language.specs.declared.script.Keyword.{Keyword}
+use Rattle.script_language.specs.declared.script.Keyword.TheVariants as word
 use Rattle.fault_texts.specs.Refused.{after_word}
 use Rattle.fault_texts.proofs.Causes.{OfFields, fields_cause}
 

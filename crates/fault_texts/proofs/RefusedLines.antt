@@ -2,16 +2,16 @@
 use Rattle.std.proofs.Common.{◌≡◌, ◌≢◌, ℕ, Bool, true, false, List, [], ◌∷◌, length, Option, Some, None, Result, Ok, Err, refl, sym, ap, ◌∙◌, inl, inr}
 use Rattle.std.specs.Prelude.{nat_le, if◌then◌else◌}
 use Rattle.std.specs.List.{list_all}
-use Rattle.process_model.specs.Fields.{Row, command_table, row_among}
-use Rattle.process_model.specs.Lines.{fields_of}
-use Rattle.process_model.specs.ReadLines.{◌>>=◌, test, row_named, in_limits, is_ascii, is_comment, longest_line, some_item, fields_by}
-use Rattle.process_model.specs.Script.{Draft, item_of, item_line, line_of}
-use Rattle.process_model.specs.declared.script.Cause.{Cause}
-use Rattle.process_model.specs.declared.script.Cause.TheVariants as cause
-use Rattle.process_model.specs.declared.script.FieldValue.{FieldValue}
-use Rattle.process_model.specs.declared.script.Item.{Item}
-use Rattle.process_model.specs.declared.script.Keyword.{Keyword}
-use Rattle.process_model.specs.declared.script.Keyword.TheVariants as word
+use Rattle.script_language.specs.Fields.{Row, command_table, row_among}
+use Rattle.script_language.specs.Lines.{fields_of}
+use Rattle.script_language.specs.ReadLines.{◌>>=◌, test, row_named, in_limits, is_ascii, is_comment, longest_line, some_item, fields_by}
+use Rattle.script_language.specs.Script.{Draft, item_of, item_line, line_of}
+use Rattle.script_language.specs.declared.script.Cause.{Cause}
+use Rattle.script_language.specs.declared.script.Cause.TheVariants as cause
+use Rattle.script_language.specs.declared.script.FieldValue.{FieldValue}
+use Rattle.script_language.specs.declared.script.Item.{Item}
+use Rattle.script_language.specs.declared.script.Keyword.{Keyword}
+use Rattle.script_language.specs.declared.script.Keyword.TheVariants as word
 use Rattle.fault_texts.specs.Causes.{AfterWord}
 use Rattle.fault_texts.specs.Refused.{after_word}
 use Rattle.fault_texts.proofs.Refusals.{Wrong, order, field, limits, room, bind_err, test_err, what_is_wrong}

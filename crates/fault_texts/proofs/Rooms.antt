@@ -1,12 +1,12 @@
 -- Lemma: which list an item takes room in is said by the word of its line.
 use Rattle.std.proofs.Common.{◌≡◌, Bool, true, false, List, Result, Ok, refl, ap, sym, ◌∙◌}
-use Rattle.process_model.specs.ReadLines.{in_limits}
-use Rattle.process_model.specs.Script.{Draft, has_room, item_of}
-use Rattle.process_model.specs.declared.script.Cause.{Cause}
-use Rattle.process_model.specs.declared.script.FieldValue.{FieldValue}
-use Rattle.process_model.specs.declared.script.Item.{Item}
-use Rattle.process_model.specs.declared.script.Keyword.{Keyword}
-use Rattle.process_model.specs.declared.script.Keyword.TheVariants as word
+use Rattle.script_language.specs.ReadLines.{in_limits}
+use Rattle.script_language.specs.Script.{Draft, has_room, item_of}
+use Rattle.script_language.specs.declared.script.Cause.{Cause}
+use Rattle.script_language.specs.declared.script.FieldValue.{FieldValue}
+use Rattle.script_language.specs.declared.script.Item.{Item}
+use Rattle.script_language.specs.declared.script.Keyword.{Keyword}
+use Rattle.script_language.specs.declared.script.Keyword.TheVariants as word
 use Rattle.fault_texts.specs.Limits.{has_room_for}
 
 made : (d : Draft) (room : Bool) (x i : Item) → has_room d x ≡ room → ◌≡◌ {A = Result Item Cause} (Ok x) (Ok i) → has_room d i ≡ room

@@ -6,7 +6,7 @@ use Rattle.std.specs.List.{list_all}
 use Rattle.std.proofs.lemmas.Bool.{cases_Bool}
 use Rattle.std.proofs.lemmas.List.Folds.{list_all_at}
 use Rattle.std.proofs.lemmas.List.{length-map, get_or-map}
-use Rattle.process_model.specs.Fields.{Row, command_table, row_among}
+use Rattle.script_language.specs.Fields.{Row, command_table, row_among}
 use Rattle.script_reader.specs.Rows.{seen}
 use Rattle.script_reader.specs.declared.table.Row as table
 

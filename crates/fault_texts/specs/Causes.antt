@@ -1,6 +1,6 @@
 -- The causes that come from one field of a line (`OfField`), and those that come after its word was found (`AfterWord`).
-use Rattle.process_model.specs.declared.script.Cause.{Cause}
-use Rattle.process_model.specs.declared.script.Cause.TheVariants as cause
+use Rattle.script_language.specs.declared.script.Cause.{Cause}
+use Rattle.script_language.specs.declared.script.Cause.TheVariants as cause
 
 abbrev pub OfField : Cause → Type 0
 OfField cause.Number = Unit {0}

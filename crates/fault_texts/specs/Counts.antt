@@ -1,6 +1,6 @@
 -- Whether a word may have a number of fields (`is_right`).
 use Rattle.std.specs.Prelude.{ℕ, Bool, ◌==◌, length}
-use Rattle.process_model.specs.Fields.{Row, kinds_for}
+use Rattle.script_language.specs.Fields.{Row, kinds_for}
 
 abbrev pub is_right : Row → ℕ → Bool
 is_right r count = count == length (kinds_for r.kinds r.tail count)

@@ -2,10 +2,11 @@
 -- (`has_room_for`).
 use Rattle.std.specs.Prelude.{Bool, true, List, length, nat_lt, slice_get}
 use Rattle.process_model.specs.Frames.{can_boot}
-use Rattle.process_model.specs.Script.{Draft, as_scheme, most_commands, most_files, most_images, number_at}
-use Rattle.process_model.specs.declared.script.FieldValue.{FieldValue}
-use Rattle.process_model.specs.declared.script.Keyword.{Keyword}
-use Rattle.process_model.specs.declared.script.Keyword.TheVariants as word
+use Rattle.process_model.specs.Files.{most_files}
+use Rattle.script_language.specs.Script.{Draft, as_scheme, most_commands, most_images, number_at}
+use Rattle.script_language.specs.declared.script.FieldValue.{FieldValue}
+use Rattle.script_language.specs.declared.script.Keyword.{Keyword}
+use Rattle.script_language.specs.declared.script.Keyword.TheVariants as word
 
 abbrev pub boots : List FieldValue → Bool
 boots vs = can_boot (as_scheme (slice_get vs 4)) (number_at vs 0) (number_at vs 1) (number_at vs 2)

@@ -1,7 +1,7 @@
 // `wrong_count`: what is wrong with a line that has too few fields for its word, or too many; with the names of those that it takes.
 
 ghost use Rattle.std.specs.Prelude.{◌≡◌, IfOk, IfSome, is_none, length};
-ghost use Rattle.process_model.specs.Lines.{fields_of};
+ghost use Rattle.script_language.specs.Lines.{fields_of};
 ghost use Rattle.script_reader.specs.Rows.{seen};
 ghost use Rattle.fault_texts.specs.Counts.{is_right};
 ghost use Rattle.fault_texts.specs.Mistakes.{IsOfLine};
@@ -9,7 +9,7 @@ ghost use Rattle.fault_texts.specs.Mistakes.{IsOfLine};
 use crate::mistake::Mistake;
 use crate::places::{field_at, field_count};
 use crate::quoting::quoted;
-use process_model::{Keyword, Tail};
+use script_language::{Keyword, Tail};
 use script_reader::Row;
 use std::alloc::{AllocError, Global};
 

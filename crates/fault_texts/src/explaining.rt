@@ -2,11 +2,11 @@
 // `explain_length`, what is wrong with a script as a whole.
 
 ghost use Rattle.std.specs.Prelude.{◌≡◌, ◌∷◌, Err, IfOk, IfSome, IsSome, List, Some, is_none, length, nat_le, ℕ};
-ghost use Rattle.process_model.specs.Fields as words_of;
-ghost use Rattle.process_model.specs.Fields.{command_table, row_among};
-ghost use Rattle.process_model.specs.Lines.{fields_of};
-ghost use Rattle.process_model.specs.ReadLines.{is_ascii, longest_line};
-ghost use Rattle.process_model.specs.Script as words;
+ghost use Rattle.script_language.specs.Fields as words_of;
+ghost use Rattle.script_language.specs.Fields.{command_table, row_among};
+ghost use Rattle.script_language.specs.Lines.{fields_of};
+ghost use Rattle.script_language.specs.ReadLines.{is_ascii, longest_line};
+ghost use Rattle.script_language.specs.Script as words;
 ghost use Rattle.fault_texts.specs.Causes.{AfterWord};
 ghost use Rattle.fault_texts.specs.Mistakes.{IsOfLine};
 ghost use Rattle.fault_texts.specs.Refused.{after_word};
@@ -18,7 +18,7 @@ use crate::mistake::Mistake;
 use crate::near_words::unknown_word;
 use crate::places::Place;
 use crate::quoting::quoted;
-use process_model::{Cause, Keyword};
+use script_language::{Cause, Keyword};
 use script_reader::{Draft, LONGEST_LINE, LONGEST_SCRIPT, Row, first_field};
 use std::alloc::{AllocError, Global};
 

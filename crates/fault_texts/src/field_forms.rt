@@ -2,8 +2,8 @@
 // mode, a policy, a scheme, a buffer entry, bytes. Segments are in `segment_forms`.
 
 ghost use Rattle.std.specs.Prelude.{◌≡◌, ◌≢◌, ◌<◌, Err, false, IfOk, IfSome, IsSome, length};
-ghost use Rattle.process_model.specs.Fields.{value_of, values_of};
-ghost use Rattle.process_model.specs.Lines.{fields_of};
+ghost use Rattle.script_language.specs.Fields.{value_of, values_of};
+ghost use Rattle.script_language.specs.Lines.{fields_of};
 ghost use Rattle.script_reader.specs.Rows.{seen};
 ghost use Rattle.fault_texts.specs.Causes.{OfField};
 ghost use Rattle.fault_texts.specs.Columns.{IsEndOf, StandsAt};
@@ -13,7 +13,7 @@ use crate::mistake::Mistake;
 use crate::places::Place;
 use crate::quoting::quoted;
 use crate::segment_forms::wrong_segment;
-use process_model::{Cause, FieldKind};
+use script_language::{Cause, FieldKind};
 use script_reader::{Row, decimal_value, first_field, hexadecimal_value, read_value};
 use std::alloc::{AllocError, Global};
 

@@ -4,18 +4,18 @@ ghost use Rattle.std.specs.Prelude.{◌≡◌, ◌≤◌, ◌&&◌, Err, IfOk, I
 ghost use Rattle.process_model.specs.Bytes.{is_width};
 ghost use Rattle.process_model.specs.Copies.{longest_copy};
 ghost use Rattle.process_model.specs.Frames.{kernel_frames};
-ghost use Rattle.process_model.specs.Fields.{values_of};
-ghost use Rattle.process_model.specs.Lines.{fields_of};
-ghost use Rattle.process_model.specs.Script as words;
+ghost use Rattle.script_language.specs.Fields.{values_of};
+ghost use Rattle.script_language.specs.Lines.{fields_of};
+ghost use Rattle.process_model.specs.Files.{fits_file};
+ghost use Rattle.script_language.specs.Script as words;
 ghost use Rattle.script_reader.specs.Rows.{seen};
 ghost use Rattle.fault_texts.specs.Limits.{boots, has_room_for};
 ghost use Rattle.fault_texts.specs.Mistakes.{IsOfLine};
 
 use crate::mistake::Mistake;
 use crate::places::field_at;
-use process_model::{
-    Cause, Command, Config, FieldValue, Item, Keyword, LONGEST_COPY, is_width, kernel_frames,
-};
+use process_model::{Config, LONGEST_COPY, is_width, kernel_frames};
+use script_language::{Cause, Command, FieldValue, Item, Keyword};
 use script_reader::{
     Draft, LONGEST_FILE, MOST_COMMANDS, MOST_FILES, MOST_IMAGES, Row, index_at, number_at,
     policy_at, read_values, scheme_at, signed_at,
@@ -65,7 +65,7 @@ fn byte_count(values: &[FieldValue], place: usize) -> usize
 
 /// The limits of `file LEN MODE HEX`.
 fn file_limits(alloc: Global, values: &[FieldValue]) -> Result<Option<Outside>, AllocError>
-    ensures { IfOk result (λ found. is_none found ≡ words.fits_file (words.file_of_values values.now)) }
+    ensures { IfOk result (λ found. is_none found ≡ fits_file (words.file_of_values values.now)) }
 {
     let length = index_at(values, 0);
     if length > LONGEST_FILE {

@@ -1,8 +1,8 @@
 // `unknown_word`: what is wrong with a line whose first field is no word of scripts, and which word it may be meant for.
 
 ghost use Rattle.std.specs.Prelude.{◌≡◌, IfOk, IfSome, IsSome, is_some, slice_get};
-ghost use Rattle.process_model.specs.Fields.{command_table, row_among};
-ghost use Rattle.process_model.specs.Lines.{fields_of};
+ghost use Rattle.script_language.specs.Fields.{command_table, row_among};
+ghost use Rattle.script_language.specs.Lines.{fields_of};
 ghost use Rattle.fault_texts.specs.Mistakes.{IsOfLine};
 ghost use Rattle.fault_texts.specs.Unknown.{is_unknown};
 

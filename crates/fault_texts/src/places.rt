@@ -2,7 +2,7 @@
 // `field_count`: how many fields there are.
 
 ghost use Rattle.std.specs.Prelude.{◌≡◌, ◌++◌, length, slice_get, MatchOption, Some, None};
-ghost use Rattle.process_model.specs.Lines.{fields_of};
+ghost use Rattle.script_language.specs.Lines.{fields_of};
 ghost use Rattle.fault_texts.specs.Columns.{IsEndOf, StandsAt};
 
 use script_reader::first_field;

@@ -3,7 +3,7 @@
 // is never refused.
 
 ghost use Rattle.std.specs.Prelude.{◌≡◌, ◌≤◌, All, IfOk, IsTrue, length, map, option_copied, option_map, slice_get};
-ghost use Rattle.process_model.specs.Script.{file_of, fits_file, most_files};
+ghost use Rattle.process_model.specs.Files.{file_of, fits_file, most_files};
 
 use crate::files::Files;
 use crate::held_file::HeldFile;

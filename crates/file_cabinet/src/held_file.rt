@@ -4,7 +4,7 @@
 ghost use Rattle.std.specs.Prelude.{◌≡◌, ◌≤◌, drop, IfOk, length, take};
 ghost use Rattle.process_model.specs.Bytes.{padded};
 ghost use Rattle.process_model.specs.Files.{written_over};
-ghost use Rattle.process_model.specs.Script.{file_of};
+ghost use Rattle.process_model.specs.Files.{file_of};
 
 use process_model::FileText;
 use std::alloc::{AllocError, Global};

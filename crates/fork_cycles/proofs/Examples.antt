@@ -3,9 +3,9 @@
 use Rattle.std.proofs.Common.{◌≡◌, ℕ, List, [], ◌∷◌, ◌++◌, inl, refl}
 use Rattle.std.specs.Prelude.{pos}
 use Rattle.process_model.specs.declared.call.Call.TheVariants as call
-use Rattle.process_model.specs.declared.call.CallList.{CallList}
-use Rattle.process_model.specs.declared.call.ListedCall.{ListedCall}
-use Rattle.process_model.specs.declared.call.ListedCall.TheVariants as listed
+use Rattle.script_language.specs.declared.declarations.CallList.{CallList}
+use Rattle.script_language.specs.declared.declarations.ListedCall.{ListedCall}
+use Rattle.script_language.specs.declared.declarations.ListedCall.TheVariants as listed
 use Rattle.fork_cycles.specs.Forks.{calls_in, Ends, forked_by, IsChain, IsForkCycle}
 use Rattle.fork_cycles.specs.Forks.Ends.{ends}
 use Rattle.fork_cycles.specs.Forks.Reaches.{here}

@@ -2,7 +2,7 @@
 use Rattle.std.proofs.Common.{◌≡◌, ◌⊎◌, ℕ, List, [], ◌∷◌, ◌++◌, inl, inr, refl, sym, ap, subst, ◌∙◌}
 use Rattle.std.specs.Prelude.{take}
 use Rattle.std.proofs.lemmas.Bool.{cases_eq, eq-eqb, ne_eqb}
-use Rattle.process_model.specs.declared.call.CallList.{CallList}
+use Rattle.script_language.specs.declared.declarations.CallList.{CallList}
 use Rattle.fork_cycles.specs.Forks.{Forks, IsChain, IsIn}
 use Rattle.fork_cycles.specs.Search.{Every, from_here, part_from}
 

@@ -2,8 +2,8 @@
 use Rattle.std.proofs.Common.{false, ◌≡◌, ◌≢◌, ℕ, suc, ◌<◌, ◌≤◌, ◌==◌, List, [], ◌∷◌, ◌++◌, Some, None, get_or, length, replicate, set, inl, inr, refl, sym, ap, subst, ◌∙◌, arith}
 use Rattle.std.proofs.lemmas.Bool.{cases_eq, cases_lt, ne_eqb}
 use Rattle.std.proofs.lemmas.List.{get_or_past, length_push, length-replicate}
-use Rattle.process_model.specs.ThreadScript.{calls_of}
-use Rattle.process_model.specs.declared.call.CallList.{CallList}
+use Rattle.script_language.specs.ThreadScript.{calls_of}
+use Rattle.script_language.specs.declared.declarations.CallList.{CallList}
 use Rattle.fork_cycles.specs.Forks.{Ends, IsForkCycle, IsIn, Reaches, Forks, calls_in, forked_by, or_none}
 use Rattle.fork_cycles.specs.Forks.Ends.{ends}
 use Rattle.fork_cycles.specs.Forks.Reaches.{here, further}

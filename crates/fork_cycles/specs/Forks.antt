@@ -1,12 +1,12 @@
 -- Forks of the lists of a file for threads: which lists a list forks (`Forks`), which it reaches (`Reaches`), that no endless chain of
 -- forks goes out from it (`Ends`), and lists each of which forks the next, and the last the first (`IsForkCycle`).
 use Rattle.std.specs.Prelude.{◌≡◌, ◌⊎◌, ℕ, List, [], ◌∷◌, ◌++◌, Option, Some, None, Contains, take}
-use Rattle.process_model.specs.ThreadScript.{calls_of}
+use Rattle.script_language.specs.ThreadScript.{calls_of}
 use Rattle.process_model.specs.declared.call.Call.TheVariants as call
-use Rattle.process_model.specs.declared.call.CallList.{CallList}
-use Rattle.process_model.specs.declared.call.ListedCall.{ListedCall}
-use Rattle.process_model.specs.declared.call.ListedCall.TheVariants as listed
-use Rattle.process_model.specs.declared.call.ListedStart.{ListedStart}
+use Rattle.script_language.specs.declared.declarations.CallList.{CallList}
+use Rattle.script_language.specs.declared.declarations.ListedCall.{ListedCall}
+use Rattle.script_language.specs.declared.declarations.ListedCall.TheVariants as listed
+use Rattle.script_language.specs.declared.declarations.ListedStart.{ListedStart}
 
 -- the lists that calls fork, in order; calls after an exit are not made
 abbrev pub forked_by : List ListedCall → List ℕ

@@ -1,6 +1,6 @@
 -- What the search for a cycle of forks keeps: the marks of the lists (`IsMarked`), and the path that it is on (`IsSearch`).
 use Rattle.std.specs.Prelude.{◌≡◌, ◌≢◌, ℕ, suc, ◌+◌, ◌*◌, ◌==◌, Bool, true, false, List, [], ◌∷◌, ◌++◌, Option, Some, None, get_or, length}
-use Rattle.process_model.specs.declared.call.CallList.{CallList}
+use Rattle.script_language.specs.declared.declarations.CallList.{CallList}
 use Rattle.fork_cycles.specs.Forks.{Ends, IsChain, IsIn, Reaches}
 use Rattle.fork_cycles.specs.declared.marks.Mark.{Mark}
 use Rattle.fork_cycles.specs.declared.marks.Mark.TheVariants as mark

@@ -6,7 +6,8 @@ ghost use Rattle.fork_cycles.specs.Forks.{calls_in, forked_by};
 ghost use Rattle.fork_cycles.specs.Search.{first_unended, part_from};
 
 use crate::marks::{MOST_LISTS, Mark, mark_of};
-use process_model::{Call, CallList, ListedCall};
+use process_model::Call;
+use script_language::{CallList, ListedCall};
 
 /// Returns the calls of the list of this number, none if there is no such list.
 pub fn calls_of(lists: &[CallList], number: usize) -> &[ListedCall]

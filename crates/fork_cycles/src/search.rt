@@ -1,15 +1,15 @@
 // `fork_cycle`: looks from each start along the forks, depth first, for a list that is on its own path.
 
 ghost use Rattle.std.specs.Prelude.{◌≡◌, ◌<◌, ◌∷◌, ◌++◌, ℕ, List, [], All, IfOk, IfSome, None};
-ghost use Rattle.process_model.specs.ThreadScript.{most_lists};
-ghost use Rattle.process_model.specs.declared.call.CallList.{CallList};
+ghost use Rattle.script_language.specs.ThreadScript.{most_lists};
+ghost use Rattle.script_language.specs.declared.declarations.CallList.{CallList};
 ghost use Rattle.script_reader.specs.ThreadsPlayable.{IsThreadPlayable};
 ghost use Rattle.fork_cycles.specs.Forks.{Ends, IsCycleFrom, IsForkCycle};
 ghost use Rattle.fork_cycles.specs.Search.{IsSearch, IsMarked, Closes, work};
 
 use crate::forks::{calls_of, next_fork, part_from};
 use crate::marks::{MOST_LISTS, Mark, mark_of, set_mark};
-use process_model::{CallList, ListedStart};
+use script_language::{CallList, ListedStart};
 use script_reader::ThreadScript;
 use std::alloc::{AllocError, Global};
 

@@ -8,7 +8,7 @@ use Rattle.std.proofs.lemmas.Bool.Decides.{nat_tests}
 use Rattle.std.proofs.lemmas.Option.{same_Some}
 use Rattle.hart_tlb.specs.declared.entry.TlbEntry.{TlbEntry}
 use Rattle.process_model.specs.Harts.{present_asid}
-use Rattle.process_model.specs.Text.{is_refused}
+use Rattle.process_model.specs.Steps.{is_refused}
 use Rattle.process_model.specs.declared.step.Reply.{Reply}
 use Rattle.process_model.specs.declared.step.Reply.TheVariants.{Done, Filled}
 use Rattle.process_model.specs.declared.step.Step.{Step}

@@ -29,7 +29,7 @@ use Rattle.table_walk.specs.Tables.{Tables, walk_leaf}
 use Rattle.table_walk.specs.LowPages.{tables_of_scheme}
 use Rattle.hart_machine.specs.Buffers.{buffer_after, BuffersAre, is_about}
 use Rattle.hart_machine.specs.Harts.{cleaned_for, cleaned_if, emptied, fenced, hart_of, is_before_user}
-use Rattle.process_model.specs.Text.{is_refused}
+use Rattle.process_model.specs.Steps.{is_refused}
 use Rattle.hart_machine.specs.BufferEntries.{AreEntriesCurrent, HasNoStaleMark, IsEntryByPhase, IsInWorld, IsProcessEntry, IsCurrentEntry, IsEntryByAsid, may_have_kernel, may_have_process, IsTrampolineLeaf}
 use Rattle.hart_machine.specs.Slots.{marks_of}
 use Rattle.hart_machine.specs.SlotProcesses.{IsSlotProcess, view_of}

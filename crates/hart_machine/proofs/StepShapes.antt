@@ -29,7 +29,7 @@ use Rattle.process_model.specs.declared.step.Refusal.{Refusal}
 use Rattle.process_model.specs.declared.step.Refusal.TheVariants.{BadArgument, Impossible, NoEntry}
 use Rattle.process_model.specs.declared.step.Reply.{Reply}
 use Rattle.process_model.specs.declared.step.Reply.TheVariants.{Done, Ended, Exited, InFrame, Ready}
-use Rattle.process_model.specs.Text.{is_refused}
+use Rattle.process_model.specs.Steps.{is_refused}
 use Rattle.process_model.specs.declared.step.Step.{Step}
 use Rattle.process_model.specs.declared.step.Step.TheVariants as step
 use Rattle.sv39_entry.specs.declared.access.Access.{Access}

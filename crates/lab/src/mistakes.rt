@@ -7,7 +7,7 @@ use crate::fault::Fault;
 use crate::screen::Screen;
 use fault_texts::{Mistake, explain, explain_end};
 use line_player::LinePlayer;
-use process_model::Cause;
+use script_language::Cause;
 use script_reader::trim_return;
 use std::alloc::{AllocError, Global};
 use std::fmt;

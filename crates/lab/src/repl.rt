@@ -13,7 +13,7 @@ use crate::screen::Screen;
 use fault_texts::{explain, field_names};
 use line_player::{LinePlayer, LineReply};
 use line_traces::image_note;
-use process_model::Cause;
+use script_language::Cause;
 use script_reader::{Row, trim_return};
 use std::alloc::{AllocError, Global};
 

@@ -4,17 +4,17 @@ use Rattle.std.proofs.Common.{◌≡◌, refl, sym, ap, ◌∙◌, ℕ, List, []
 use Rattle.std.specs.Prelude.{if◌then◌else◌, is_some, length, nat_le}
 use Rattle.std.specs.Result.{result_ok}
 use Rattle.std.proofs.lemmas.Option.{same_Some}
-use Rattle.process_model.specs.Fields.{Row, command_table, row_among, values_of}
-use Rattle.process_model.specs.Lines.{fields_of}
-use Rattle.process_model.specs.ReadLines.{◌>>=◌, row_named, test, in_limits, item_by, is_comment, is_ascii, some_item, fields_by, longest_line, line_by}
-use Rattle.process_model.specs.Script.{Draft, comes_first, has_room, in_order, item_line, item_of, line_of}
-use Rattle.process_model.specs.declared.script.Cause.{Cause}
-use Rattle.process_model.specs.declared.script.Cause.TheVariants as cause
-use Rattle.process_model.specs.declared.script.FieldValue.{FieldValue}
-use Rattle.process_model.specs.declared.script.Item.{Item}
-use Rattle.process_model.specs.declared.script.Item.TheVariants as item
-use Rattle.process_model.specs.declared.script.Keyword.{Keyword}
-use Rattle.process_model.specs.declared.script.Keyword.TheVariants as word
+use Rattle.script_language.specs.Fields.{Row, command_table, row_among, values_of}
+use Rattle.script_language.specs.Lines.{fields_of}
+use Rattle.script_language.specs.ReadLines.{◌>>=◌, row_named, test, in_limits, item_by, is_comment, is_ascii, some_item, fields_by, longest_line, line_by}
+use Rattle.script_language.specs.Script.{Draft, comes_first, has_room, in_order, item_line, item_of, line_of}
+use Rattle.script_language.specs.declared.script.Cause.{Cause}
+use Rattle.script_language.specs.declared.script.Cause.TheVariants as cause
+use Rattle.script_language.specs.declared.script.FieldValue.{FieldValue}
+use Rattle.script_language.specs.declared.script.Item.{Item}
+use Rattle.script_language.specs.declared.script.Item.TheVariants as item
+use Rattle.script_language.specs.declared.script.Keyword.{Keyword}
+use Rattle.script_language.specs.declared.script.Keyword.TheVariants as word
 
 -- what was declared, without the commands
 abbrev pub bare : Draft → Draft

@@ -4,17 +4,18 @@ use Rattle.std.proofs.Common.{◌≡◌, refl, sym, ap, ◌∙◌, ℕ, ◌+◌,
 use Rattle.std.specs.Prelude.{codes, if◌then◌else◌, is_some, length, nat_le}
 use Rattle.std.proofs.lemmas.List.{append-nil, append_assoc}
 use Rattle.std.proofs.lemmas.Option.{same_Some}
-use Rattle.process_model.specs.Lines.{raw_lines, without_return}
-use Rattle.process_model.specs.ReadLines.{longest_script}
-use Rattle.process_model.specs.Script.{Draft, Script, file_of, line_of, no_lines, read_lines, script_of, whole, whole_with, with_item, with_line}
-use Rattle.process_model.specs.Text.{commands_text, line_result, line_text, text_of}
+use Rattle.script_language.specs.Lines.{raw_lines, without_return}
+use Rattle.script_language.specs.ReadLines.{longest_script}
+use Rattle.process_model.specs.Files.{file_of}
+use Rattle.script_language.specs.Script.{Draft, Script, line_of, no_lines, read_lines, script_of, whole, whole_with, with_item, with_line}
+use Rattle.script_language.specs.Text.{commands_text, line_result, line_text, text_of}
 use Rattle.process_model.specs.World.{World, booted}
 use Rattle.process_model.specs.declared.config.Config.{Config}
-use Rattle.process_model.specs.declared.script.Cause.{Cause}
-use Rattle.process_model.specs.declared.script.Cause.TheVariants as cause
-use Rattle.process_model.specs.declared.script.Command.{Command}
-use Rattle.process_model.specs.declared.script.Item.{Item}
-use Rattle.process_model.specs.declared.script.Item.TheVariants as item
+use Rattle.script_language.specs.declared.script.Cause.{Cause}
+use Rattle.script_language.specs.declared.script.Cause.TheVariants as cause
+use Rattle.script_language.specs.declared.script.Command.{Command}
+use Rattle.script_language.specs.declared.script.Item.{Item}
+use Rattle.script_language.specs.declared.script.Item.TheVariants as item
 use Rattle.line_player.specs.PlayedLines.{Played, answer_of, nothing_played, reply_line, played_text}
 use Rattle.line_player.proofs.Items.{bare, line_kept, line_order, same_ok}
 

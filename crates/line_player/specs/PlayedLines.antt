@@ -1,14 +1,15 @@
 -- A script that is played line by line: what the lines so far declared and the world of the machine (`Played`), what one more line
 -- makes of that and how it is answered (`next_answer`), what many lines make of it (`played_lines`), and their answers (`played_text`).
 use Rattle.std.specs.Prelude.{ℕ, List, [], ◌∷◌, ◌++◌, Option, None, Some, Result, Ok, Err, map, codes}
-use Rattle.process_model.specs.Lines.{without_return}
-use Rattle.process_model.specs.Script.{Draft, file_of, line_of, no_lines, with_item}
-use Rattle.process_model.specs.Text.{LineResult, line_result, line_text}
+use Rattle.script_language.specs.Lines.{without_return}
+use Rattle.process_model.specs.Files.{file_of}
+use Rattle.script_language.specs.Script.{Draft, line_of, no_lines, with_item}
+use Rattle.script_language.specs.Text.{LineResult, line_result, line_text}
 use Rattle.process_model.specs.World.{World, booted}
-use Rattle.process_model.specs.declared.script.Cause.{Cause}
-use Rattle.process_model.specs.declared.script.Command.{Command}
-use Rattle.process_model.specs.declared.script.Item.{Item}
-use Rattle.process_model.specs.declared.script.Item.TheVariants as item
+use Rattle.script_language.specs.declared.script.Cause.{Cause}
+use Rattle.script_language.specs.declared.script.Command.{Command}
+use Rattle.script_language.specs.declared.script.Item.{Item}
+use Rattle.script_language.specs.declared.script.Item.TheVariants as item
 
 -- the lines so far: what they declare, of which no command is kept; and the world after them, once a machine was booted
 pub record Played : Type 0 where

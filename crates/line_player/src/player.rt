@@ -4,7 +4,7 @@
 ghost use Rattle.std.specs.Prelude.{◌≡◌, [], IfOk, IfSome, OnErr, Some};
 ghost use Rattle.hart_machine.specs.BufferEntries.{IsInWorld};
 ghost use Rattle.process_model.specs.World.{World};
-ghost use Rattle.process_model.specs.declared.script.Item.TheVariants as item;
+ghost use Rattle.script_language.specs.declared.script.Item.TheVariants as item;
 ghost use Rattle.script_reader.specs.Playable.{CanBoot, IsDeclared};
 ghost use Rattle.line_player.specs.PlayedLines as played;
 ghost use Rattle.line_player.specs.Answers.{Answers, HasPlayed};
@@ -12,7 +12,8 @@ ghost use Rattle.line_player.specs.Answers.{Answers, HasPlayed};
 use audit_player::put_answer;
 use file_cabinet::Cabinet;
 use hart_machine::{BootError, Machine};
-use process_model::{Cause, Command, Config, Item, LONGEST_TEXT, put};
+use process_model::Config;
+use script_language::{Cause, Command, Item, LONGEST_TEXT, put};
 use script_reader::{Draft, LineFault, line_item, lines_fit, trim_return};
 use std::alloc::{AllocError, Global};
 

@@ -6,7 +6,7 @@ ghost use Rattle.line_player.specs.PlayedLines.{Played};
 use audit_player::lend;
 use fault_texts::explain_image;
 use line_player::LinePlayer;
-use process_model::{Command, Item};
+use script_language::{Command, Item};
 use script_reader::{line_item, trim_return};
 use std::alloc::{AllocError, Global};
 

@@ -5,7 +5,7 @@ ghost use Rattle.hart_machine.specs.BufferEntries.{IsInWorld};
 ghost use Rattle.process_model.specs.World.{World};
 
 use hart_machine::Machine;
-use process_model::phase_name;
+use script_language::phase_name;
 use serde::Serialize;
 use std::fmt;
 use sv39_entry::Scheme;

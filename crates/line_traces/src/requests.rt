@@ -2,7 +2,8 @@
 // (`Request`).
 
 use hart_machine::Machine;
-use process_model::{Command, Step};
+use process_model::Step;
+use script_language::Command;
 use sv39_entry::{Access, Mode, Scheme, Va};
 
 /// An access that a line makes, or a fill.

@@ -13,7 +13,7 @@ use crate::request_traces::RequestTrace;
 use crate::requests::{hart_of, request_of};
 use hart_machine::Machine;
 use line_player::{LinePlayer, LineReply};
-use process_model::{Command, Item};
+use script_language::{Command, Item};
 use script_reader::{LineFault, line_item, trim_return};
 use serde::Serialize;
 use std::alloc::{AllocError, Global};

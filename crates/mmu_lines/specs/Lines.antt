@@ -1,6 +1,6 @@
 -- Which request the fields of a line make (`IsRequest`), and which fields make none (`IsNothing`, `MakesNone`).
 use Rattle.std.specs.Prelude.{◌≡◌, ◌⊎◌, ⊤, ℕ, ◌+◌, ◌<◌, ◌≤◌, ◌%◌, ◌^◌, codes, Option, None, Some, List, ◌++◌, length, slice_get}
-use Rattle.process_model.specs.Numbers.{number_of}
+use Rattle.script_language.specs.Numbers.{number_of}
 use Rattle.sv39_entry.specs.Satp.{mode}
 use Rattle.sv39_entry.specs.declared.access.Access.{Access}
 use Rattle.sv39_entry.specs.declared.access.Access.TheVariants as access

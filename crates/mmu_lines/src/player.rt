@@ -4,7 +4,7 @@ ghost use Rattle.std.specs.Prelude.{◌≡◌, IfOk, MatchOption, map};
 ghost use Rattle.mmu_lines.specs.Lines.{IsNothing};
 ghost use Rattle.mmu_lines.specs.Outcomes.{outcome_line};
 ghost use Rattle.mmu_lines.specs.Requests.{IsAnswer, IsDone, numbered_line};
-ghost use Rattle.process_model.specs.Lines.{fields_of};
+ghost use Rattle.script_language.specs.Lines.{fields_of};
 
 use crate::answers::Answer;
 use crate::outcomes::OutcomeLine;

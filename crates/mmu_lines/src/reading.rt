@@ -6,7 +6,7 @@ ghost use Rattle.mmu.specs.declared.outcome.Width.{Width};
 ghost use Rattle.mmu_lines.specs.Lines.{HasFields, IsNothing, IsPlace, IsRequest, IsWidthOf, MakesNone, NumberAt, PerhapsAt, access_word, mode_text, word_of};
 ghost use Rattle.mmu_lines.specs.Mistakes.{IfMistake, Refuses, RefusesAccess};
 ghost use Rattle.mmu_lines.specs.declared.words.Word.TheVariants as words;
-ghost use Rattle.process_model.specs.Lines.{fields_of};
+ghost use Rattle.script_language.specs.Lines.{fields_of};
 ghost use Rattle.sv39_entry.specs.declared.access.Mode.{Mode};
 
 use crate::requests::Request;

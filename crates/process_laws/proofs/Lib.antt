@@ -47,7 +47,6 @@ pub mod CallReplies
 pub mod HartReplies
 pub mod HeadlineProof
 pub mod WrongModels
-pub mod ScriptLines
 pub mod LookUps
 pub mod EveryChange
 pub mod SameScheme

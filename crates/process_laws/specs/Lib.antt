@@ -3,7 +3,6 @@ pub mod DisjointRegions
 pub mod CopyNumbers
 pub mod Headline
 pub mod MadeSteps
-pub mod ScriptRuns
 pub mod Moments
 pub mod Pages
 pub mod Latest

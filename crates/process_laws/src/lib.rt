@@ -19,7 +19,7 @@ pub use files::{
     later_mapping_reads_what_was_written, loaded_page_is_never_written_back,
     one_service_sets_every_mark,
 };
-pub use headline::{headline_holds, script_text_is_a_run};
+pub use headline::headline_holds;
 pub use places::{no_room_means_none, place_is_the_greatest, unmapping_leaves_one_run};
 pub use refusals::wrong_models_are_refused;
 pub use regions::{first_rule_is_first, regions_never_meet, regions_stay_in_order};

@@ -1,7 +1,8 @@
 -- `File`: a file of fixed length, its bytes and whether it may be written; reading a page of 4,096 bytes from an offset on,
 -- and writing one without changing the file's length.
-use Rattle.std.specs.Prelude.{ℕ, Bool, false, Option, None, Some, slice_get, slice_set, List, [], length, take, drop}
+use Rattle.std.specs.Prelude.{ℕ, Bool, false, ◌&&◌, nat_le, Option, None, Some, slice_get, slice_set, List, [], length, take, drop}
 use Rattle.process_model.specs.Bytes.{padded, write_bytes}
+use Rattle.process_model.specs.declared.file.FileText.{FileText}
 
 pub record File : Type 0 where
   pub bytes : List ℕ
@@ -30,3 +31,20 @@ with_file_at files n (Some f) offset page = slice_set files n (record f { bytes 
 -- the files after a page is written to file n, from an offset on; unchanged if there is no file n
 abbrev pub with_page_written : List File → ℕ → ℕ → List ℕ → List File
 with_page_written files n offset page = with_file_at files n (slice_get files n) offset page
+
+-- declared files
+
+-- the most bytes of a file
+abbrev pub longest_file : ℕ
+longest_file = 65536
+
+abbrev pub fits_file : FileText → Bool
+fits_file f = nat_le f.length longest_file && nat_le (length f.bytes) f.length
+
+-- how many files there may be
+abbrev pub most_files : ℕ
+most_files = 16
+
+-- a declared file: its first bytes, and zeros up to its length
+abbrev pub file_of : FileText → File
+file_of f = record { bytes = padded f.length f.bytes; writable = f.writable }

@@ -33,13 +33,4 @@ pub mod CopySplits
 pub mod Calls
 pub mod Stale
 pub mod Steps
-pub mod Lines
-pub mod Numbers
-pub mod Words
 pub mod ScalarReplies
-pub mod Fields
-pub mod ReadLines
-pub mod Script
-pub mod ThreadScript
-pub mod Text
-pub mod Threads

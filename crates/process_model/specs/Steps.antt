@@ -1,6 +1,6 @@
 -- The steps of the machine: `step` gives the reply to a step and the world (the model's whole state) after it, `run` the
 -- replies to a list of steps and the world after it.
-use Rattle.std.specs.Prelude.{ℕ, true, ◌+◌, ◌-◌, ◌*◌, ◌%◌, nat_le, nat_lt, ◌==◌, ◌&&◌, unwrap_or, List, [], ◌∷◌, length, remove}
+use Rattle.std.specs.Prelude.{ℕ, Bool, true, false, ◌+◌, ◌-◌, ◌*◌, ◌%◌, nat_le, nat_lt, ◌==◌, ◌&&◌, unwrap_or, List, [], ◌∷◌, length, remove}
 use Rattle.process_model.specs.Process.{without_pending}
 use Rattle.process_model.specs.Heap.{sbrk_result}
 use Rattle.process_model.specs.Mappings.{mapped, unmapped}
@@ -16,7 +16,7 @@ use Rattle.sv39_entry.specs.Schemes.{trampoline_page}
 use Rattle.sv39_entry.specs.declared.access.Access.TheVariants as access
 use Rattle.process_model.specs.declared.phase.Phase.TheVariants.{Enter0}
 use Rattle.process_model.specs.declared.step.Reply.{Reply}
-use Rattle.process_model.specs.declared.step.Reply.TheVariants.{Done, Filled, InFrame, Exited}
+use Rattle.process_model.specs.declared.step.Reply.TheVariants.{Done, Filled, InFrame, Exited, Refused}
 use Rattle.process_model.specs.declared.step.Step.{Step}
 use Rattle.process_model.specs.declared.step.Step.TheVariants.{Start, Switch, Trap, Next, Fill, Evict, Fetch, Load, Store, TrampolineFetch, Serve, Fork, Exec, Sbrk, Mmap, Munmap, CopyIn, CopyOut, Exit}
 
@@ -76,3 +76,7 @@ replied reply r = record r { replies = reply ∷ r.replies }
 abbrev pub run : World → List Step → Run
 run w [] = record { replies = []; world = w }
 run w (s ∷ ss) = let o = step w s in replied o.reply (run o.world ss)
+
+abbrev pub is_refused : Reply → Bool
+is_refused (Refused r) = true
+is_refused _ = false

@@ -1,13 +1,9 @@
-// Processes on threads. Enums `Call` (an access, a system call or a kernel copy), `Outcome` (how a process ended) and
-// `ListedCall`; structs `Start` (a process to start), `CallList` and `ListedStart` (calls and starts as a file for threads
-// declares them), and `Pool`, the numbers of frames and slots (places in the process table) that the threads share, and
-// whether they can.
+// Processes on threads. Enums `Call` (an access, a system call or a kernel copy) and `Outcome` (how a process ended); struct
+// `Start` (a process to start).
 
-use crate::config::kernel_frames;
 use crate::image::Image;
-use crate::sequence::{Bytes, Sequence};
 use crate::step::Refusal;
-use sv39_entry::{Rule, Scheme};
+use sv39_entry::Rule;
 
 /// One call of a process on threads: an access, a system call or a kernel copy. An access to a page that is not resident (in
 /// memory and ready for the access) is served within the call.
@@ -94,52 +90,4 @@ pub enum Outcome {
     /// Its journal (the list of its calls with their replies) had no room for its next call, or the history of the files
     /// none for the pages that the call reads or writes.
     JournalFull,
-}
-
-/// A call as a file for threads declares it: it names an image by its number, from 0, and owns the bytes of a copy.
-#[derive(Drop)]
-pub enum ListedCall {
-    /// A call that borrows nothing.
-    One(Call<'static>),
-    Exec { image: usize },
-    CopyOut { address: u64, bytes: Bytes },
-}
-
-/// A list of calls as a file for threads declares it.
-#[derive(Drop)]
-pub struct CallList {
-    /// The number by which starts and forks name the list.
-    pub number: usize,
-    pub calls: Sequence<ListedCall>,
-}
-
-/// A process to start as a file for threads declares it: it names its image by its number, from 0, and its list of calls by
-/// the list's own number.
-#[derive(Clone, Copy, PartialEq, Eq, Debug)]
-pub struct ListedStart {
-    pub image: usize,
-    pub list: usize,
-}
-
-/// The sizes of a pool: how many frames (of 4,096 bytes) the threads share, the kernel's included, and how many slots, the
-/// most processes at a time.
-#[derive(Clone, Copy, PartialEq, Eq, Debug)]
-pub struct Pool {
-    pub frames: usize,
-    pub slots: usize,
-}
-
-impl Pool {
-    ghost use Rattle.std.specs.Prelude.{◌≡◌};
-    ghost use Rattle.process_model.specs.Frames.{can_share};
-
-    /// Whether threads can share a pool of these sizes: 16 to 256 frames, 1 to 64 slots, and at least as many frames as the
-    /// kernel takes at boot under Sv39 (`kernel_frames`).
-    pub fn is_usable(&self) -> bool
-        ensures { result ≡ can_share self.now.frames self.now.slots }
-    {
-        (16..=256).contains(&self.frames)
-            && (1..=64).contains(&self.slots)
-            && kernel_frames(Scheme::Sv39, self.frames, self.slots) <= self.frames
-    }
 }

@@ -1,7 +1,7 @@
 // Program images to start or exec, each an ELF file or a list of segments: struct `Segment`; enums `Image` (as a step
-// borrows it), `OwnedImage` (as a script declares it) and `BadImage` (the checks that an image may fail).
+// borrows it) and `BadImage` (the checks that an image may fail).
 
-use crate::sequence::{Bytes, Sequence};
+use crate::sequence::Bytes;
 
 /// A segment of an image that is given as a list: a range of addresses, its rights and its first bytes. It may always be
 /// read.
@@ -25,13 +25,6 @@ pub enum Image<'a> {
     /// The bytes of an ELF file.
     Elf(&'a [u8]),
     Segments(&'a [Segment]),
-}
-
-/// An image as a script or a file for threads declares it, before any check.
-#[derive(Drop)]
-pub enum OwnedImage {
-    Elf(Bytes),
-    Segments(Sequence<Segment>),
 }
 
 /// The first check that an image failed. `TooLong`, `Header` and `Magic` are checks of an ELF file as a whole. Then

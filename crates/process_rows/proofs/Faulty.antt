@@ -8,11 +8,11 @@ use Rattle.process_model.specs.Bytes.{number, low_bytes}
 use Rattle.process_model.specs.Frames.{tables_needed}
 use Rattle.process_model.specs.Images.{segment_loads}
 use Rattle.process_model.specs.ImageProcess.{process_of}
-use Rattle.process_model.specs.Numbers.{number_of, signed_of, hex_of}
-use Rattle.process_model.specs.Script.{line_of, item_line}
+use Rattle.script_language.specs.Numbers.{number_of, signed_of, hex_of}
+use Rattle.script_language.specs.Script.{line_of, item_line}
 use Rattle.process_model.specs.Steps.{step}
 use Rattle.process_model.specs.World.{on_hart, with_its_process}
-use Rattle.process_model.specs.declared.script.Cause.TheVariants as cause
+use Rattle.script_language.specs.declared.script.Cause.TheVariants as cause
 use Rattle.process_rows.proofs.Playing.{Plays, IsRefused, silent, ◌⇒◌}
 
 -- numbers and bytes

@@ -2,9 +2,9 @@
 -- writes their answers; `IsRefused`: the script is refused, with the number of its faulty line and the cause.
 use Prim.Native.String.{String}
 use Rattle.std.specs.Prelude.{◌≡◌, ℕ, List, [], ◌∷◌, map, Result, Ok, Err, codes, flat_map}
-use Rattle.process_model.specs.Script.{script_of, Script}
-use Rattle.process_model.specs.Text.{text_of, line_text}
-use Rattle.process_model.specs.declared.script.Cause.{Cause}
+use Rattle.script_language.specs.Script.{script_of, Script}
+use Rattle.script_language.specs.Text.{text_of, line_text}
+use Rattle.script_language.specs.declared.script.Cause.{Cause}
 
 -- a line that is answered nothing, or a line with its answer
 infix 80 ◌⇒◌

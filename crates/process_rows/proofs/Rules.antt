@@ -9,7 +9,7 @@ use Rattle.process_model.specs.Heap.{sbrk_result}
 use Rattle.process_model.specs.Images.{elf_loads, segment_loads}
 use Rattle.process_model.specs.ImageProcess.{process_of}
 use Rattle.process_model.specs.Mappings.{mapped, unmapped}
-use Rattle.process_model.specs.Script.{item_line, line_of}
+use Rattle.script_language.specs.Script.{item_line, line_of}
 use Rattle.process_model.specs.Environment.{resident_at}
 use Rattle.process_model.specs.Steps.{step}
 use Rattle.process_model.specs.World.{on_hart, with_its_process}

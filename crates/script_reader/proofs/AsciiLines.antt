@@ -3,8 +3,8 @@ use Rattle.std.proofs.Common.{◌≡◌, ℕ, Bool, true, List, [], ◌∷◌, r
 use Rattle.std.specs.List.{onto_first}
 use Rattle.std.specs.Prelude.{◌&&◌, nat_lt}
 use Rattle.std.proofs.lemmas.Bool.{and_parts, cases_Bool}
-use Rattle.process_model.specs.Lines.{is_line_end, raw_lines}
-use Rattle.process_model.specs.Script.{is_ascii}
+use Rattle.script_language.specs.Lines.{is_line_end, raw_lines}
+use Rattle.script_language.specs.Script.{is_ascii}
 
 abbrev pub AreAscii : List (List ℕ) → Type 0
 AreAscii [] = Unit {0}

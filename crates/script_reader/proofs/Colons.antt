@@ -2,8 +2,8 @@
 -- pieces or more is no segment of an `image` line.
 use Rattle.std.proofs.Common.{◌≡◌, ℕ, suc, ◌+◌, Bool, true, false, not, cond, List, [], ◌∷◌, length, ◌≤◌, take, drop, refl, ap, arith, None}
 use Rattle.std.specs.List.{position_or_len, onto_first}
-use Rattle.process_model.specs.Fields.{segment_in}
-use Rattle.process_model.specs.Lines.{is_colon, pieces_of}
+use Rattle.script_language.specs.Fields.{segment_in}
+use Rattle.script_language.specs.Lines.{is_colon, pieces_of}
 
 -- the pieces after one that ends where this begins
 abbrev pub pieces_after : List ℕ → List (List ℕ)

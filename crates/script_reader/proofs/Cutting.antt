@@ -4,7 +4,7 @@ use Rattle.std.proofs.Common.{◌≡◌, ℕ, suc, ◌+◌, ◌<◌, ◌≤◌, 
 use Rattle.std.specs.List.{prefix_len, position_or_len, onto_first}
 use Rattle.std.proofs.lemmas.Bool.{cases_Bool}
 use Rattle.std.proofs.lemmas.List.Sums.{prefix_len-le-length}
-use Rattle.process_model.specs.Lines.{is_line_end, is_blank, raw_lines, ends_field, fields_of}
+use Rattle.script_language.specs.Lines.{is_line_end, is_blank, raw_lines, ends_field, fields_of}
 
 line_step : (b : ℕ) (text : List ℕ) (v : Bool) (n : ℕ) → onto_first b (raw_lines text) ≡ (b ∷ take n text) ∷ raw_lines (drop (n + 1) text)
     → cond v ([] ∷ raw_lines text) (onto_first b (raw_lines text)) ≡ take (cond (not v) (1 + n) 0) (b ∷ text) ∷ raw_lines (drop (cond (not v) (1 + n) 0 + 1) (b ∷ text))

@@ -5,7 +5,7 @@ use Rattle.std.proofs.lemmas.Bool.{and_parts, le-ltb, lt-ltb, ltb-true}
 use Rattle.std.proofs.lemmas.List.{at_drop_more, at_drop_all}
 use Rattle.std.proofs.Math.Nat.{mul-le-mul_left}
 use Rattle.std.specs.Prelude.{◌&&◌, nat_le, nat_lt}
-use Rattle.process_model.specs.Numbers.{digit_of, one_more, digits_from, if_below}
+use Rattle.script_language.specs.Numbers.{digit_of, one_more, digits_from, if_below}
 use Rattle.script_reader.specs.Digits.{value_or_255}
 
 pub from_none : (base : ℕ) (digits : List ℕ) → digits_from base None digits ≡ None

@@ -5,9 +5,9 @@ use Rattle.std.specs.Prelude.{Err, None, Option, Some, nat_le, nat_lt, slice_ind
 use Rattle.std.specs.List.{onto_first}
 use Rattle.std.proofs.lemmas.Bool.{cases_Bool, le-leb, ltb-false}
 use Rattle.std.proofs.lemmas.List.{take-append-drop}
-use Rattle.process_model.specs.Lines.{is_line_end, raw_lines}
-use Rattle.process_model.specs.Script.{Draft, Read, longest_script, next_line, no_lines, read_lines, script_of, whole, whole_with}
-use Rattle.process_model.specs.declared.script.Cause.{Cause}
+use Rattle.script_language.specs.Lines.{is_line_end, raw_lines}
+use Rattle.script_language.specs.Script.{Draft, Read, longest_script, next_line, no_lines, read_lines, script_of, whole, whole_with}
+use Rattle.script_language.specs.declared.script.Cause.{Cause}
 use Rattle.script_reader.specs.Reading.{CutsLines, EndsLines, HasRead, PieceReader, read_with}
 
 -- the first line goes on, and the others stay

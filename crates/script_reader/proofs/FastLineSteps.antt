@@ -7,22 +7,22 @@ use Rattle.std.proofs.lemmas.Bool.{and_parts, cases_Bool, eq-eqb, eqb-true, le-l
 use Rattle.std.proofs.lemmas.List.{append-nil}
 use Rattle.process_model.specs.Bytes.{is_width}
 use Rattle.process_model.specs.Copies.{longest_copy}
-use Rattle.process_model.specs.Fields.{Row, command_table, four_numbers, kinds_for, one_number, row, row_among, said_or, three_numbers, two_numbers, value_of, values_from, values_of}
-use Rattle.process_model.specs.Lines.{fields_of}
-use Rattle.process_model.specs.Numbers.{if_below, number_of, signed_of}
-use Rattle.process_model.specs.Script.{Draft, comes_first, in_order, is_ascii, is_comment, item_line, item_of, line_of, longest_line, most_commands, with_line}
-use Rattle.process_model.specs.declared.script.Cause.{Cause}
-use Rattle.process_model.specs.declared.script.Cause.TheVariants as cause
-use Rattle.process_model.specs.declared.script.Command.{Command}
-use Rattle.process_model.specs.declared.script.Command.TheVariants as command
-use Rattle.process_model.specs.declared.script.FieldKind.{FieldKind}
-use Rattle.process_model.specs.declared.script.FieldKind.TheVariants as kind
-use Rattle.process_model.specs.declared.script.FieldValue.{FieldValue}
-use Rattle.process_model.specs.declared.script.FieldValue.TheVariants as value
-use Rattle.process_model.specs.declared.script.Item.TheVariants as item
-use Rattle.process_model.specs.declared.script.Keyword.{Keyword}
-use Rattle.process_model.specs.declared.script.Keyword.TheVariants as word
-use Rattle.process_model.specs.declared.script.Tail.TheVariants as tail
+use Rattle.script_language.specs.Fields.{Row, command_table, four_numbers, kinds_for, one_number, row, row_among, said_or, three_numbers, two_numbers, value_of, values_from, values_of}
+use Rattle.script_language.specs.Lines.{fields_of}
+use Rattle.script_language.specs.Numbers.{if_below, number_of, signed_of}
+use Rattle.script_language.specs.Script.{Draft, comes_first, in_order, is_ascii, is_comment, item_line, item_of, line_of, longest_line, most_commands, with_line}
+use Rattle.script_language.specs.declared.script.Cause.{Cause}
+use Rattle.script_language.specs.declared.script.Cause.TheVariants as cause
+use Rattle.script_language.specs.declared.script.Command.{Command}
+use Rattle.script_language.specs.declared.script.Command.TheVariants as command
+use Rattle.script_language.specs.declared.script.FieldKind.{FieldKind}
+use Rattle.script_language.specs.declared.script.FieldKind.TheVariants as kind
+use Rattle.script_language.specs.declared.script.FieldValue.{FieldValue}
+use Rattle.script_language.specs.declared.script.FieldValue.TheVariants as value
+use Rattle.script_language.specs.declared.script.Item.TheVariants as item
+use Rattle.script_language.specs.declared.script.Keyword.{Keyword}
+use Rattle.script_language.specs.declared.script.Keyword.TheVariants as word
+use Rattle.script_language.specs.declared.script.Tail.TheVariants as tail
 use Rattle.process_model.specs.declared.step.Step.TheVariants as step
 use Rattle.script_reader.proofs.Digits.{from_none}
 use Rattle.script_reader.specs.FastLines.{AddsCommand}

@@ -1,9 +1,9 @@
 -- Lemmas: the first fault of a script or of a file for threads stays the result, whatever lines follow.
 use Rattle.std.proofs.Common.{◌≡◌, ℕ, List, [], ◌∷◌, Option, None, Some, true, Result, Err, refl, sym, ap, ◌∙◌}
 use Rattle.std.specs.Prelude.{is_some}
-use Rattle.process_model.specs.ReadLines.{ReadTo, lines_by, next_by}
-use Rattle.process_model.specs.Script.{Draft, Read, line_of, read_lines, with_item}
-use Rattle.process_model.specs.declared.script.Cause.{Cause}
+use Rattle.script_language.specs.ReadLines.{ReadTo, lines_by, next_by}
+use Rattle.script_language.specs.Script.{Draft, Read, line_of, read_lines, with_item}
+use Rattle.script_language.specs.declared.script.Cause.{Cause}
 use Rattle.script_reader.specs.ReadResults.{GivesError}
 use Rattle.script_reader.specs.Reading.{read_with}
 use Rattle.script_reader.specs.declared.fault.ScriptError.{ScriptError}

@@ -6,11 +6,11 @@ use Rattle.std.proofs.Math.Seq.{get_or-append_seam}
 use Rattle.std.proofs.lemmas.Bool.{cases_Bool, cases_lt, eqb-true, eqb-false, ne_eqb, eq-eqb}
 use Rattle.std.proofs.lemmas.List.{get_or_append_left, get_or-append_right, get_or-replicate, length-replicate}
 use Rattle.std.proofs.lemmas.Option.{slice_get_past, slice_get-get_or}
-use Rattle.process_model.specs.Fields.{kinds_for}
-use Rattle.process_model.specs.declared.script.FieldKind.{FieldKind}
-use Rattle.process_model.specs.declared.script.FieldKind.TheVariants as kind
-use Rattle.process_model.specs.declared.script.Tail.{Tail}
-use Rattle.process_model.specs.declared.script.Tail.TheVariants as tail
+use Rattle.script_language.specs.Fields.{kinds_for}
+use Rattle.script_language.specs.declared.script.FieldKind.{FieldKind}
+use Rattle.script_language.specs.declared.script.FieldKind.TheVariants as kind
+use Rattle.script_language.specs.declared.script.Tail.{Tail}
+use Rattle.script_language.specs.declared.script.Tail.TheVariants as tail
 use Rattle.script_reader.specs.Rows.{tail_at, kind_or}
 
 -- a kind stands at this place

@@ -2,11 +2,11 @@
 -- wrong number of fields the result is `Count`.
 use Rattle.std.proofs.Common.{◌≡◌, ℕ, ◌+◌, true, false, eqb, arith, List, [], ◌∷◌, length, drop, Result, Ok, Err, refl, sym, ap, ◌∙◌}
 use Rattle.std.proofs.lemmas.List.{at_drop_more}
-use Rattle.process_model.specs.Fields.{Row, kinds_for, values_from, values_of, value_of, and_then}
-use Rattle.process_model.specs.declared.script.Cause.{Cause}
-use Rattle.process_model.specs.declared.script.Cause.TheVariants as cause
-use Rattle.process_model.specs.declared.script.FieldKind.{FieldKind}
-use Rattle.process_model.specs.declared.script.FieldValue.{FieldValue}
+use Rattle.script_language.specs.Fields.{Row, kinds_for, values_from, values_of, value_of, and_then}
+use Rattle.script_language.specs.declared.script.Cause.{Cause}
+use Rattle.script_language.specs.declared.script.Cause.TheVariants as cause
+use Rattle.script_language.specs.declared.script.FieldKind.{FieldKind}
+use Rattle.script_language.specs.declared.script.FieldValue.{FieldValue}
 use Rattle.script_reader.proofs.FieldKinds.{HasAt}
 
 -- the kinds for as many fields as there are

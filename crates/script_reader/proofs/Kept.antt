@@ -4,14 +4,14 @@
 use Rattle.std.proofs.Common.{◌≡◌, ℕ, ◌+◌, ◌<◌, ◌≤◌, Bool, true, false, List, [], ◌∷◌, ◌++◌, length, length-append, arith, Option, Some, None, Result, Ok, Err, refl}
 use Rattle.std.specs.Prelude.{IfOk, All, nat_lt, nat_le, if◌then◌else◌}
 use Rattle.std.proofs.lemmas.List.Elements.{All-nil, All-cons, All-append}
-use Rattle.process_model.specs.Fields.{Row, row_among, values_of}
-use Rattle.process_model.specs.Lines.{without_return, fields_of}
-use Rattle.process_model.specs.ReadLines.{◌>>=◌, row_named, test, in_limits, item_by, is_comment, is_ascii, some_item, fields_by, line_by, ReadTo, with_said, next_by, lines_by}
-use Rattle.process_model.specs.Script.{most_files}
+use Rattle.script_language.specs.Fields.{Row, row_among, values_of}
+use Rattle.script_language.specs.Lines.{without_return, fields_of}
+use Rattle.script_language.specs.ReadLines.{◌>>=◌, row_named, test, in_limits, item_by, is_comment, is_ascii, some_item, fields_by, line_by, ReadTo, with_said, next_by, lines_by}
+use Rattle.process_model.specs.Files.{most_files}
 use Rattle.process_model.specs.declared.file.FileText.{FileText}
-use Rattle.process_model.specs.declared.script.Cause.{Cause}
-use Rattle.process_model.specs.declared.script.FieldValue.{FieldValue}
-use Rattle.process_model.specs.declared.script.Keyword.{Keyword}
+use Rattle.script_language.specs.declared.script.Cause.{Cause}
+use Rattle.script_language.specs.declared.script.FieldValue.{FieldValue}
+use Rattle.script_language.specs.declared.script.Keyword.{Keyword}
 
 -- steps in a row
 

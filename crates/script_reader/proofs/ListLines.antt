@@ -5,9 +5,9 @@ use Rattle.std.specs.Prelude.{codes, slice_index}
 use Rattle.std.proofs.lemmas.Bool.{and_parts, cases_Bool}
 use Rattle.std.proofs.lemmas.List.{take-append-drop}
 use Rattle.std.proofs.lemmas.Slice.Eq.{bytes_eq-Decides}
-use Rattle.process_model.specs.Lines.{fields_of, is_blank}
-use Rattle.process_model.specs.Numbers.{number_of}
-use Rattle.process_model.specs.ThreadScript.{begins, is_number}
+use Rattle.script_language.specs.Lines.{fields_of, is_blank}
+use Rattle.script_language.specs.Numbers.{number_of}
+use Rattle.script_language.specs.ThreadScript.{begins, is_number}
 use Rattle.script_reader.specs.ThreadFastLines.{begins_with_list}
 use Rattle.script_reader.proofs.Cutting.{field_first}
 

@@ -2,9 +2,9 @@
 -- as the model adds it (`with_call`).
 use Rattle.std.proofs.Common.{◌≡◌, ℕ, zero, suc, ◌+◌, ◌-◌, List, [], ◌∷◌, ◌++◌, length, Some, None, Result, Ok, Err, get_or, set, sym, ap, ◌∙◌, arith}
 use Rattle.std.specs.Prelude.{slice_get, OnOk}
-use Rattle.process_model.specs.ThreadScript.{open_calls, with_call}
-use Rattle.process_model.specs.declared.call.CallList.{CallList}
-use Rattle.process_model.specs.declared.call.ListedCall.{ListedCall}
+use Rattle.script_language.specs.ThreadScript.{open_calls, with_call}
+use Rattle.script_language.specs.declared.declarations.CallList.{CallList}
+use Rattle.script_language.specs.declared.declarations.ListedCall.{ListedCall}
 
 same_list : (x y : CallList) → Some x ≡ Some y → x ≡ y
 same_list x y e = cc

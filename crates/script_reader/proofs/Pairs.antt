@@ -1,7 +1,7 @@
 -- Lemmas for the parser of HEX fields: bytes read so far and then the next one or the next four, against the model's reading
 -- of pairs of digits; and the first eight digits are read as four bytes.
 use Rattle.std.proofs.Common.{◌≡◌, ℕ, ◌+◌, ◌*◌, List, [], ◌∷◌, ◌++◌, Option, Some, None, refl, ap, ◌∙◌, append_assoc}
-use Rattle.process_model.specs.Numbers.{byte_of, digit_of, pairs_of, then_bytes}
+use Rattle.script_language.specs.Numbers.{byte_of, digit_of, pairs_of, then_bytes}
 
 -- bytes, and then those
 abbrev pub onto : List ℕ → Option (List ℕ) → Option (List ℕ)

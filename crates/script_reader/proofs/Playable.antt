@@ -3,21 +3,21 @@
 use Rattle.std.proofs.Common.{◌≡◌, ℕ, ◌<◌, ◌≤◌, true, false, List, [], ◌∷◌, ◌++◌, length, Option, Some, None, Result, Ok, Err, refl, sym, subst, arith, get_or, length-append}
 use Rattle.std.specs.Prelude.{IfOk, All, nat_le, ◌&&◌, if◌then◌else◌}
 use Rattle.std.proofs.lemmas.List.Elements.{All-nil}
-use Rattle.process_model.specs.Fields.{command_table}
-use Rattle.process_model.specs.Lines.{raw_lines}
-use Rattle.process_model.specs.Script.{Draft, Script, Read, with_item, in_order, item_of, has_room, has_file, item_line, line_of, read_lines, whole_with, whole, longest_script, script_of, no_lines}
+use Rattle.script_language.specs.Fields.{command_table}
+use Rattle.script_language.specs.Lines.{raw_lines}
+use Rattle.script_language.specs.Script.{Draft, Script, Read, with_item, in_order, item_of, has_room, has_file, item_line, line_of, read_lines, whole_with, whole, longest_script, script_of, no_lines}
 use Rattle.process_model.specs.declared.config.Config.{Config}
 use Rattle.process_model.specs.declared.file.FileText.{FileText}
-use Rattle.process_model.specs.declared.image.OwnedImage.{OwnedImage}
-use Rattle.process_model.specs.declared.script.Cause.{Cause}
-use Rattle.process_model.specs.declared.script.Cause.TheVariants as cause
-use Rattle.process_model.specs.declared.script.Command.{Command}
-use Rattle.process_model.specs.declared.script.Command.TheVariants as command
-use Rattle.process_model.specs.declared.script.FieldValue.{FieldValue}
-use Rattle.process_model.specs.declared.script.Item.{Item}
-use Rattle.process_model.specs.declared.script.Item.TheVariants as item
-use Rattle.process_model.specs.declared.script.Keyword.{Keyword}
-use Rattle.process_model.specs.declared.script.Keyword.TheVariants as word
+use Rattle.script_language.specs.declared.declarations.OwnedImage.{OwnedImage}
+use Rattle.script_language.specs.declared.script.Cause.{Cause}
+use Rattle.script_language.specs.declared.script.Cause.TheVariants as cause
+use Rattle.script_language.specs.declared.script.Command.{Command}
+use Rattle.script_language.specs.declared.script.Command.TheVariants as command
+use Rattle.script_language.specs.declared.script.FieldValue.{FieldValue}
+use Rattle.script_language.specs.declared.script.Item.{Item}
+use Rattle.script_language.specs.declared.script.Item.TheVariants as item
+use Rattle.script_language.specs.declared.script.Keyword.{Keyword}
+use Rattle.script_language.specs.declared.script.Keyword.TheVariants as word
 use Rattle.script_reader.specs.ReadResults.{GivesScript}
 use Rattle.script_reader.specs.Playable.{CanBootIf, FitsFile, FitsItem, IsDeclared, IsPlayable, IsSound}
 use Rattle.script_reader.specs.declared.fault.ScriptError.{ScriptError}

@@ -5,10 +5,10 @@ use Rattle.std.specs.Borrow.{Bor}
 use Rattle.std.specs.List.{onto_first}
 use Rattle.std.specs.Prelude.{IfSome}
 use Rattle.std.proofs.lemmas.Bool.{cases_Bool, eqb-true, lt-ltb}
-use Rattle.process_model.specs.Lines.{ends_field, fields_of, is_blank}
-use Rattle.process_model.specs.Numbers.{digit_of, digits_from, if_below, number_of, one_more}
-use Rattle.process_model.specs.declared.script.FieldKind.TheVariants as kind
-use Rattle.process_model.specs.declared.script.FieldValue.TheVariants as value
+use Rattle.script_language.specs.Lines.{ends_field, fields_of, is_blank}
+use Rattle.script_language.specs.Numbers.{digit_of, digits_from, if_below, number_of, one_more}
+use Rattle.script_language.specs.declared.script.FieldKind.TheVariants as kind
+use Rattle.script_language.specs.declared.script.FieldValue.TheVariants as value
 use Rattle.script_reader.proofs.Cutting.{field_alone, field_goes_on}
 use Rattle.script_reader.proofs.Digits.{from_none}
 use Rattle.script_reader.specs.NumberPrefixes.{IsEndedPrefix, IsNumberPrefix}

@@ -2,10 +2,10 @@
 -- no word, the fault of the word and its fields, their item (what the line declares or commands).
 use Rattle.std.proofs.Common.{◌≡◌, ℕ, true, false, List, [], ◌∷◌, length, Option, Some, None, Result, Ok, Err, refl, ap, ◌∙◌}
 use Rattle.std.specs.Prelude.{nat_le, if◌then◌else◌}
-use Rattle.process_model.specs.Lines.{fields_of}
-use Rattle.process_model.specs.ReadLines.{◌>>=◌, test, is_ascii, is_comment, longest_line, some_item, fields_by, line_by}
-use Rattle.process_model.specs.declared.script.Cause.{Cause}
-use Rattle.process_model.specs.declared.script.Cause.TheVariants as cause
+use Rattle.script_language.specs.Lines.{fields_of}
+use Rattle.script_language.specs.ReadLines.{◌>>=◌, test, is_ascii, is_comment, longest_line, some_item, fields_by, line_by}
+use Rattle.script_language.specs.declared.script.Cause.{Cause}
+use Rattle.script_language.specs.declared.script.Cause.TheVariants as cause
 use Rattle.script_reader.specs.ReadResults.{Fails}
 use Rattle.script_reader.specs.WordOf.{word_in, word_of, said_with}
 use Rattle.script_reader.specs.declared.fault.LineFault.{LineFault}

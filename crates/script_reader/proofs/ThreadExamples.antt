@@ -2,12 +2,12 @@
 -- declares.
 use Rattle.std.proofs.Common.{◌≡◌, ℕ, List, [], ◌∷◌, Ok, Err, refl}
 use Rattle.std.specs.Prelude.{codes, negsuc}
-use Rattle.process_model.specs.ThreadScript.{item_line, line_of, thread_script_of}
+use Rattle.script_language.specs.ThreadScript.{item_line, line_of, thread_script_of}
 use Rattle.process_model.specs.declared.call.Call.TheVariants as call
-use Rattle.process_model.specs.declared.call.ListedCall.TheVariants as listed
-use Rattle.process_model.specs.declared.image.OwnedImage.TheVariants as owned
-use Rattle.process_model.specs.declared.script.Cause.{Cause}
-use Rattle.process_model.specs.declared.script.Cause.TheVariants as cause
+use Rattle.script_language.specs.declared.declarations.ListedCall.TheVariants as listed
+use Rattle.script_language.specs.declared.declarations.OwnedImage.TheVariants as owned
+use Rattle.script_language.specs.declared.script.Cause.{Cause}
+use Rattle.script_language.specs.declared.script.Cause.TheVariants as cause
 
 abbrev Refused : List ℕ → ℕ → Cause → Type 0
 Refused text line c = thread_script_of text ≡ Err (line, c)

@@ -6,19 +6,19 @@ use Rattle.std.specs.Prelude.{Err, IfSome, OnOk, Result, codes, nat_le}
 use Rattle.std.proofs.lemmas.Bool.{and_parts, le-leb}
 use Rattle.process_model.specs.Bytes.{is_width}
 use Rattle.process_model.specs.Copies.{longest_copy}
-use Rattle.process_model.specs.Fields.{Row, kinds_for, one_number, row, row_among, three_numbers, two_numbers}
-use Rattle.process_model.specs.Lines.{fields_of}
-use Rattle.process_model.specs.ReadLines.{is_ascii, longest_line, with_said}
-use Rattle.process_model.specs.ThreadScript.{ThreadDraft, in_order, is_named, item_line, item_of, line_of, thread_table, with_item}
+use Rattle.script_language.specs.Fields.{Row, kinds_for, one_number, row, row_among, three_numbers, two_numbers}
+use Rattle.script_language.specs.Lines.{fields_of}
+use Rattle.script_language.specs.ReadLines.{is_ascii, longest_line, with_said}
+use Rattle.script_language.specs.ThreadScript.{ThreadDraft, in_order, is_named, item_line, item_of, line_of, thread_table, with_item}
 use Rattle.process_model.specs.declared.call.Call.TheVariants as call
-use Rattle.process_model.specs.declared.call.ListedCall.{ListedCall}
-use Rattle.process_model.specs.declared.call.ListedCall.TheVariants as listed
-use Rattle.process_model.specs.declared.script.FieldKind.TheVariants as kind
-use Rattle.process_model.specs.declared.script.FieldValue.{FieldValue}
-use Rattle.process_model.specs.declared.script.FieldValue.TheVariants as value
-use Rattle.process_model.specs.declared.script.Keyword.TheVariants as word
-use Rattle.process_model.specs.declared.script.Tail.TheVariants as tail
-use Rattle.process_model.specs.declared.script.ThreadItem.TheVariants as item
+use Rattle.script_language.specs.declared.declarations.ListedCall.{ListedCall}
+use Rattle.script_language.specs.declared.declarations.ListedCall.TheVariants as listed
+use Rattle.script_language.specs.declared.script.FieldKind.TheVariants as kind
+use Rattle.script_language.specs.declared.script.FieldValue.{FieldValue}
+use Rattle.script_language.specs.declared.script.FieldValue.TheVariants as value
+use Rattle.script_language.specs.declared.script.Keyword.TheVariants as word
+use Rattle.script_language.specs.declared.script.Tail.TheVariants as tail
+use Rattle.script_language.specs.declared.script.ThreadItem.TheVariants as item
 use Rattle.script_reader.specs.FastPath.{IsNext, ReadsFields}
 use Rattle.script_reader.specs.ThreadFastLines.{AddsCall, SaysCall, has_call_room, is_open, takes_calls}
 use Rattle.script_reader.proofs.FastLineSteps.{no_comment, said}

@@ -12,29 +12,29 @@ use Rattle.std.proofs.lemmas.List.FromFn.{get_or-map-range_with_len, length-map-
 use Rattle.std.proofs.lemmas.Map.Steps.{length-le_from_distinct_below}
 use Rattle.std.proofs.lemmas.Slice.Eq.{bytes_eq-Decides}
 use Rattle.process_model.specs.Copies.{longest_copy}
-use Rattle.process_model.specs.Fields.{one_number, row}
-use Rattle.process_model.specs.Lines.{raw_lines, without_return, fields_of}
-use Rattle.process_model.specs.Numbers.{number_of}
-use Rattle.process_model.specs.ReadLines.{test, is_ascii, fields_by, some_item, longest_script, with_said}
-use Rattle.process_model.specs.Script.{most_files}
-use Rattle.process_model.specs.ThreadScript.{ThreadDraft, ThreadScript, Read, begins, begins_list, has_image, has_list, has_room, in_order, is_named, is_number, item_line, item_of, line_of, lists_named, most_calls, most_lists, nothing_said, open_calls, read_lines, said_in, thread_script_of, thread_table, whole, whole_with, with_call, with_item}
+use Rattle.script_language.specs.Fields.{one_number, row}
+use Rattle.script_language.specs.Lines.{raw_lines, without_return, fields_of}
+use Rattle.script_language.specs.Numbers.{number_of}
+use Rattle.script_language.specs.ReadLines.{test, is_ascii, fields_by, some_item, longest_script, with_said}
+use Rattle.process_model.specs.Files.{most_files}
+use Rattle.script_language.specs.ThreadScript.{ThreadDraft, ThreadScript, Read, begins, begins_list, has_image, has_list, has_room, in_order, is_named, is_number, item_line, item_of, line_of, lists_named, most_calls, most_lists, nothing_said, open_calls, read_lines, said_in, thread_script_of, thread_table, whole, whole_with, with_call, with_item}
 use Rattle.process_model.specs.declared.call.Call.{Call}
 use Rattle.process_model.specs.declared.call.Call.TheVariants as call
-use Rattle.process_model.specs.declared.call.CallList.{CallList}
-use Rattle.process_model.specs.declared.call.ListedCall.{ListedCall}
-use Rattle.process_model.specs.declared.call.ListedCall.TheVariants as listed
-use Rattle.process_model.specs.declared.call.ListedStart.{ListedStart}
-use Rattle.process_model.specs.declared.call.Pool.{Pool}
-use Rattle.process_model.specs.declared.image.OwnedImage.{OwnedImage}
-use Rattle.process_model.specs.declared.script.Cause.{Cause}
-use Rattle.process_model.specs.declared.script.Cause.TheVariants as cause
-use Rattle.process_model.specs.declared.script.FieldValue.{FieldValue}
-use Rattle.process_model.specs.declared.script.FieldValue.TheVariants as value
-use Rattle.process_model.specs.declared.script.Keyword.{Keyword}
-use Rattle.process_model.specs.declared.script.Keyword.TheVariants as word
-use Rattle.process_model.specs.declared.script.Tail.TheVariants as tail
-use Rattle.process_model.specs.declared.script.ThreadItem.{ThreadItem}
-use Rattle.process_model.specs.declared.script.ThreadItem.TheVariants as item
+use Rattle.script_language.specs.declared.declarations.CallList.{CallList}
+use Rattle.script_language.specs.declared.declarations.ListedCall.{ListedCall}
+use Rattle.script_language.specs.declared.declarations.ListedCall.TheVariants as listed
+use Rattle.script_language.specs.declared.declarations.ListedStart.{ListedStart}
+use Rattle.script_language.specs.declared.declarations.Pool.{Pool}
+use Rattle.script_language.specs.declared.declarations.OwnedImage.{OwnedImage}
+use Rattle.script_language.specs.declared.script.Cause.{Cause}
+use Rattle.script_language.specs.declared.script.Cause.TheVariants as cause
+use Rattle.script_language.specs.declared.script.FieldValue.{FieldValue}
+use Rattle.script_language.specs.declared.script.FieldValue.TheVariants as value
+use Rattle.script_language.specs.declared.script.Keyword.{Keyword}
+use Rattle.script_language.specs.declared.script.Keyword.TheVariants as word
+use Rattle.script_language.specs.declared.script.Tail.TheVariants as tail
+use Rattle.script_language.specs.declared.script.ThreadItem.{ThreadItem}
+use Rattle.script_language.specs.declared.script.ThreadItem.TheVariants as item
 use Rattle.script_reader.specs.ReadResults.{GivesScript, GivesError}
 use Rattle.script_reader.specs.Playable.{FitsFile}
 use Rattle.script_reader.specs.ThreadsPlayable.{CanShare, IsDeclaredCall, IsDeclaredLine, IsList, IsThreadPlayable}

@@ -2,8 +2,8 @@
 use Rattle.std.proofs.Common.{◌≡◌, ℕ, List, [], ◌∷◌, ◌++◌, length, map, get_or, arith, refl, suc, sym, ap, ◌∙◌}
 use Rattle.std.specs.Prelude.{All}
 use Rattle.std.proofs.lemmas.List.{get_or_append_left, get_or_push, map_push}
-use Rattle.process_model.specs.declared.script.Command.{Command}
-use Rattle.process_model.specs.declared.script.Command.TheVariants.{Audit}
+use Rattle.script_language.specs.declared.script.Command.{Command}
+use Rattle.script_language.specs.declared.script.Command.TheVariants.{Audit}
 use Rattle.script_reader.specs.PackedLines.{unpacked, IsWithin}
 use Rattle.script_reader.specs.declared.commands.PackedCommand.{PackedCommand}
 use Rattle.script_reader.specs.declared.commands.PackedCommand.TheVariants as packed

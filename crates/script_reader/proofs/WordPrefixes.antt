@@ -4,7 +4,7 @@ use Rattle.std.proofs.Common.{◌≡◌, ℕ, Bool, true, false, not, ◌&&◌, 
 use Rattle.std.proofs.lemmas.Bool.{and_parts}
 use Rattle.std.specs.List.{onto_first}
 use Rattle.std.specs.Prelude.{codes}
-use Rattle.process_model.specs.Lines.{ends_field, fields_of, is_blank}
+use Rattle.script_language.specs.Lines.{ends_field, fields_of, is_blank}
 use Rattle.script_reader.proofs.Cutting.{field_alone, field_goes_on}
 use Rattle.script_reader.specs.FastWords.{letters}
 use Rattle.script_reader.specs.declared.fast_path.FastWord.{FastWord}

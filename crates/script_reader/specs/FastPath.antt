@@ -2,15 +2,15 @@
 -- its fields (`ReadsFields`), the command of a word and the fields after it (`SaysCommand`), a last field that is a buffer
 -- entry or none (`EndsWith`).
 use Rattle.std.specs.Prelude.{◌≡◌, ℕ, false, List, [], ◌∷◌, Option, None, Some, Ok}
-use Rattle.process_model.specs.Fields.{Row, command_table, row_among, value_of, values_of}
-use Rattle.process_model.specs.Lines.{fields_of}
-use Rattle.process_model.specs.Script.{Draft, comes_first, item_of}
-use Rattle.process_model.specs.declared.script.Command.{Command}
-use Rattle.process_model.specs.declared.script.FieldKind.{FieldKind}
-use Rattle.process_model.specs.declared.script.FieldKind.TheVariants as kind
-use Rattle.process_model.specs.declared.script.FieldValue.{FieldValue}
-use Rattle.process_model.specs.declared.script.FieldValue.TheVariants as value
-use Rattle.process_model.specs.declared.script.Item.TheVariants as item
+use Rattle.script_language.specs.Fields.{Row, command_table, row_among, value_of, values_of}
+use Rattle.script_language.specs.Lines.{fields_of}
+use Rattle.script_language.specs.Script.{Draft, comes_first, item_of}
+use Rattle.script_language.specs.declared.script.Command.{Command}
+use Rattle.script_language.specs.declared.script.FieldKind.{FieldKind}
+use Rattle.script_language.specs.declared.script.FieldKind.TheVariants as kind
+use Rattle.script_language.specs.declared.script.FieldValue.{FieldValue}
+use Rattle.script_language.specs.declared.script.FieldValue.TheVariants as value
+use Rattle.script_language.specs.declared.script.Item.TheVariants as item
 
 -- the first field of the line, read as this kind, has value v, and its other fields are those of `rest`
 pub record IsNext (line rest : List ℕ) (k : FieldKind) (v : FieldValue) : Type 0 where

@@ -1,8 +1,8 @@
 -- Predicates on a text that begins with a number: its digits, their value and what follows them (`IsNumberPrefix`); and,
 -- besides, that there is a digit, the field ends after the last one, and the number is below 2^64 (`IsEndedPrefix`).
 use Rattle.std.specs.Prelude.{◌≡◌, ◌<◌, ◌^◌, ℕ, ◌++◌, List, Some, length, true}
-use Rattle.process_model.specs.Lines.{ends_field}
-use Rattle.process_model.specs.Numbers.{digits_from}
+use Rattle.script_language.specs.Lines.{ends_field}
+use Rattle.script_language.specs.Numbers.{digits_from}
 
 -- the text is digits of the number n, maybe none (then n is 0), and then `rest`
 pub record IsNumberPrefix (base : ℕ) (text rest : List ℕ) (n : ℕ) : Type 0 where

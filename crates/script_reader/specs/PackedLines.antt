@@ -1,8 +1,8 @@
 -- The script line after `boot` that a packed line of `Commands` means (`unpacked`) and that a `CommandView` shows (`shown`);
 -- predicates on a packed line: its place is among the lines kept whole (`IsWithin`), it means a line by itself (`Says`).
 use Rattle.std.specs.Prelude.{◌≡◌, ◌<◌, ℕ, List, slice_index_or}
-use Rattle.process_model.specs.declared.script.Command.{Command}
-use Rattle.process_model.specs.declared.script.Command.TheVariants as command
+use Rattle.script_language.specs.declared.script.Command.{Command}
+use Rattle.script_language.specs.declared.script.Command.TheVariants as command
 use Rattle.process_model.specs.declared.step.Step.TheVariants as step
 use Rattle.script_reader.specs.declared.commands.PackedCommand.{PackedCommand}
 use Rattle.script_reader.specs.declared.commands.PackedCommand.TheVariants as packed

@@ -1,6 +1,6 @@
 -- Predicate `IsSegmentFields`: the pieces of a field are the four of a segment of an `image` line, or they are no segment.
 use Rattle.std.specs.Prelude.{◌≡◌, ℕ, List, [], ◌∷◌, Option, Some, None}
-use Rattle.process_model.specs.Fields.{segment_in}
+use Rattle.script_language.specs.Fields.{segment_in}
 use Rattle.script_reader.specs.declared.segments.SegmentFields.{SegmentFields}
 
 -- the pieces are exactly these four (`Some`), or they are no segment (`None`)

@@ -4,14 +4,15 @@
 use Rattle.std.specs.Prelude.{◌<◌, ◌≤◌, List, Option, None, Some, length, IsTrue, All}
 use Rattle.process_model.specs.Copies.{longest_copy}
 use Rattle.process_model.specs.Frames.{can_boot}
-use Rattle.process_model.specs.Script.{Draft, Script, fits_file, most_files}
+use Rattle.process_model.specs.Files.{fits_file, most_files}
+use Rattle.script_language.specs.Script.{Draft, Script}
 use Rattle.process_model.specs.declared.config.Config.{Config}
 use Rattle.process_model.specs.declared.file.FileText.{FileText}
-use Rattle.process_model.specs.declared.image.OwnedImage.{OwnedImage}
-use Rattle.process_model.specs.declared.script.Command.{Command}
-use Rattle.process_model.specs.declared.script.Command.TheVariants as command
-use Rattle.process_model.specs.declared.script.Item.{Item}
-use Rattle.process_model.specs.declared.script.Item.TheVariants as item
+use Rattle.script_language.specs.declared.declarations.OwnedImage.{OwnedImage}
+use Rattle.script_language.specs.declared.script.Command.{Command}
+use Rattle.script_language.specs.declared.script.Command.TheVariants as command
+use Rattle.script_language.specs.declared.script.Item.{Item}
+use Rattle.script_language.specs.declared.script.Item.TheVariants as item
 
 -- the image or the file that the line names was declared; a `copyout` has, and a `show` asks for, at
 -- most `longest_copy` bytes

@@ -2,7 +2,7 @@
 -- for a script, a file for threads, or lines of one (`GivesScript`, `GivesError`). Of a result that reports refused host
 -- memory, nothing is stated.
 use Rattle.std.specs.Prelude.{◌≡◌, ℕ, Result, Ok, Err}
-use Rattle.process_model.specs.declared.script.Cause.{Cause}
+use Rattle.script_language.specs.declared.script.Cause.{Cause}
 use Rattle.script_reader.specs.declared.fault.LineFault.{LineFault}
 use Rattle.script_reader.specs.declared.fault.LineFault.TheVariants as fault
 use Rattle.script_reader.specs.declared.fault.ScriptError.{ScriptError}

@@ -2,9 +2,9 @@
 -- reader does with an error (`KeepsFault`), and how a piece of a script is cut at the ends of lines (`EndsLines`,
 -- `CutsLines`).
 use Rattle.std.specs.Prelude.{◌≡◌, ℕ, ◌≤◌, ◌++◌, List, Option, None, Some, Result, Ok, Err, length}
-use Rattle.process_model.specs.Lines.{raw_lines}
-use Rattle.process_model.specs.Script.{Draft, Read, no_lines, read_lines}
-use Rattle.process_model.specs.declared.script.Cause.{Cause}
+use Rattle.script_language.specs.Lines.{raw_lines}
+use Rattle.script_language.specs.Script.{Draft, Read, no_lines, read_lines}
+use Rattle.script_language.specs.declared.script.Cause.{Cause}
 use Rattle.script_reader.specs.declared.fault.ScriptError.{ScriptError}
 use Rattle.script_reader.specs.declared.fault.ScriptError.TheVariants as script
 use Rattle.script_reader.specs.declared.line_reader.LineReader.{LineReader}

@@ -1,10 +1,10 @@
 -- A row of the reader's table of words as a row of the model (`seen`), and the kind of each field after a word by its place
 -- (`kind_at`).
 use Rattle.std.specs.Prelude.{ℕ, ◌==◌, if◌then◌else◌, Option, None, Some, length, slice_get}
-use Rattle.process_model.specs.Fields as words
-use Rattle.process_model.specs.declared.script.FieldKind.{FieldKind}
-use Rattle.process_model.specs.declared.script.Tail.{Tail}
-use Rattle.process_model.specs.declared.script.Tail.TheVariants as tail
+use Rattle.script_language.specs.Fields as words
+use Rattle.script_language.specs.declared.script.FieldKind.{FieldKind}
+use Rattle.script_language.specs.declared.script.Tail.{Tail}
+use Rattle.script_language.specs.declared.script.Tail.TheVariants as tail
 use Rattle.script_reader.specs.declared.table.Row.{Row}
 
 abbrev pub seen : Row → words.Row

@@ -3,13 +3,13 @@
 -- a word and the fields after it (`AddsCall`). And whether a text begins with the letters of `list` (`begins_with_list`), by
 -- which a pass over a file finds the lines that begin no list.
 use Rattle.std.specs.Prelude.{◌≡◌, ℕ, Bool, false, not, List, ◌∷◌, Some, Ok, length, nat_lt, ◌==◌, ◌&&◌}
-use Rattle.process_model.specs.Fields.{Row, row_among, values_of}
-use Rattle.process_model.specs.Lines.{fields_of}
-use Rattle.process_model.specs.Script.{most_commands}
-use Rattle.process_model.specs.ThreadScript.{ThreadDraft, has_started, in_order, item_of, most_calls, open_calls, thread_table, with_item}
-use Rattle.process_model.specs.declared.call.ListedCall.{ListedCall}
-use Rattle.process_model.specs.declared.script.FieldValue.{FieldValue}
-use Rattle.process_model.specs.declared.script.ThreadItem.TheVariants as item
+use Rattle.script_language.specs.Fields.{Row, row_among, values_of}
+use Rattle.script_language.specs.Lines.{fields_of}
+use Rattle.script_language.specs.Script.{most_commands}
+use Rattle.script_language.specs.ThreadScript.{ThreadDraft, has_started, in_order, item_of, most_calls, open_calls, thread_table, with_item}
+use Rattle.script_language.specs.declared.declarations.ListedCall.{ListedCall}
+use Rattle.script_language.specs.declared.script.FieldValue.{FieldValue}
+use Rattle.script_language.specs.declared.script.ThreadItem.TheVariants as item
 
 -- a list was begun, and no start was read: the next line may have the word of a call
 abbrev pub is_open : ThreadDraft → Bool

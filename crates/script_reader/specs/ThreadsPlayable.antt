@@ -4,16 +4,16 @@
 use Rattle.std.specs.Prelude.{ℕ, ◌<◌, ◌≤◌, List, length, IsTrue, All}
 use Rattle.process_model.specs.Copies.{longest_copy}
 use Rattle.process_model.specs.Frames.{can_share}
-use Rattle.process_model.specs.Script.{most_files}
-use Rattle.process_model.specs.ThreadScript.{ThreadScript, has_list, most_calls, most_lists}
+use Rattle.process_model.specs.Files.{most_files}
+use Rattle.script_language.specs.ThreadScript.{ThreadScript, has_list, most_calls, most_lists}
 use Rattle.process_model.specs.declared.call.Call.{Call}
 use Rattle.process_model.specs.declared.call.Call.TheVariants as call
-use Rattle.process_model.specs.declared.call.CallList.{CallList}
-use Rattle.process_model.specs.declared.call.ListedCall.{ListedCall}
-use Rattle.process_model.specs.declared.call.ListedCall.TheVariants as listed
-use Rattle.process_model.specs.declared.call.ListedStart.{ListedStart}
-use Rattle.process_model.specs.declared.call.Pool.{Pool}
-use Rattle.process_model.specs.declared.image.OwnedImage.{OwnedImage}
+use Rattle.script_language.specs.declared.declarations.CallList.{CallList}
+use Rattle.script_language.specs.declared.declarations.ListedCall.{ListedCall}
+use Rattle.script_language.specs.declared.declarations.ListedCall.TheVariants as listed
+use Rattle.script_language.specs.declared.declarations.ListedStart.{ListedStart}
+use Rattle.script_language.specs.declared.declarations.Pool.{Pool}
+use Rattle.script_language.specs.declared.declarations.OwnedImage.{OwnedImage}
 use Rattle.script_reader.specs.Playable.{FitsFile}
 
 abbrev pub CanShare : Pool → Type 0

@@ -2,10 +2,10 @@
 -- ASCII before (`word_of`), and the item (what the line declares or commands) that follows (`said_with`).
 use Rattle.std.specs.Prelude.{ℕ, List, [], ◌∷◌, Option, Some, None, Result, Ok, nat_le, length, if◌then◌else◌}
 use Rattle.std.specs.Borrow.{Bor}
-use Rattle.process_model.specs.Lines.{fields_of}
-use Rattle.process_model.specs.ReadLines.{◌>>=◌, test, is_ascii, is_comment, longest_line, some_item}
-use Rattle.process_model.specs.declared.script.Cause.{Cause}
-use Rattle.process_model.specs.declared.script.Cause.TheVariants as cause
+use Rattle.script_language.specs.Lines.{fields_of}
+use Rattle.script_language.specs.ReadLines.{◌>>=◌, test, is_ascii, is_comment, longest_line, some_item}
+use Rattle.script_language.specs.declared.script.Cause.{Cause}
+use Rattle.script_language.specs.declared.script.Cause.TheVariants as cause
 
 abbrev pub as_fields : Bor (List ℕ) × Bor (List ℕ) → List ℕ × List (List ℕ)
 as_fields found = (found.0.now, fields_of found.1.now)

@@ -6,7 +6,8 @@ ghost use Rattle.script_reader.specs.Alone.{item_alone};
 
 use crate::field_access::{index_at, number_at, optional_at};
 use crate::limits::{in_limits, one};
-use process_model::{Cause, FieldValue, Item, Keyword, Step, is_width};
+use process_model::{Step, is_width};
+use script_language::{Cause, FieldValue, Item, Keyword};
 
 /// Makes the item of `load HART ADDRESS WIDTH [@ENTRY]`; without `@ENTRY` the access walks the page table.
 ///

@@ -3,12 +3,13 @@
 // values of its fields. The kernel call `exec` is in `compound_commands`.
 
 ghost use Rattle.std.specs.Prelude.{◌≡◌, Ok};
-ghost use Rattle.process_model.specs.Script as words;
+ghost use Rattle.script_language.specs.Script as words;
 ghost use Rattle.script_reader.specs.Alone.{item_alone};
 
 use crate::field_access::{index_at, number_at, signed_at, take_bytes};
 use crate::limits::{in_limits, one};
-use process_model::{Cause, Command, FieldValue, Item, Keyword, LONGEST_COPY, Step};
+use process_model::{LONGEST_COPY, Step};
+use script_language::{Cause, Command, FieldValue, Item, Keyword};
 use std::alloc::Global;
 
 /// Makes the step of `serve HART`, the service of a fault.

@@ -3,10 +3,11 @@
 // line as `get` returns it.
 
 ghost use Rattle.std.specs.Prelude.{◌≡◌, ◌<◌, ◌++◌, ◌∷◌, [], length, map, IfSome, OnOk, OnErr, All, List, slice_index_or};
-ghost use Rattle.process_model.specs.declared.script.Command.TheVariants as command;
+ghost use Rattle.script_language.specs.declared.script.Command.TheVariants as command;
 ghost use Rattle.script_reader.specs.PackedLines as model;
 
-use process_model::{Command, Step};
+use process_model::Step;
+use script_language::Command;
 use std::alloc::{AllocError, Global};
 use std::marker::Model;
 
@@ -88,7 +89,7 @@ pub struct Commands {
 
 impl Model for Commands {
     ghost use Rattle.std.specs.Prelude.{List, map, length, All};
-    ghost use Rattle.process_model.specs.declared.script.Command.{Command};
+    ghost use Rattle.script_language.specs.declared.script.Command.{Command};
     ghost use Rattle.script_reader.specs.PackedLines as model;
 
     ghost Value = { List Command };

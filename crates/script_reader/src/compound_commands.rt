@@ -2,13 +2,14 @@
 // (`start`, `exec`, `show`): each makes the line's item (what it declares or commands) from the values of its fields.
 
 ghost use Rattle.std.specs.Prelude.{◌≡◌, Ok};
-ghost use Rattle.process_model.specs.Script as words;
+ghost use Rattle.script_language.specs.Script as words;
 ghost use Rattle.script_reader.specs.Alone.{item_alone};
 
 use crate::draft::Draft;
 use crate::field_access::{index_at, number_at};
 use crate::limits::in_limits;
-use process_model::{Cause, Command, FieldValue, Item, Keyword, LONGEST_COPY};
+use process_model::LONGEST_COPY;
+use script_language::{Cause, Command, FieldValue, Item, Keyword};
 
 /// Makes the command of `start IMAGE`.
 ///

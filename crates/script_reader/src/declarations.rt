@@ -3,13 +3,15 @@
 // are started or executed.
 
 ghost use Rattle.std.specs.Prelude.{◌≡◌, IfOk};
-ghost use Rattle.process_model.specs.Script as words;
-ghost use Rattle.process_model.specs.declared.image.OwnedImage.TheVariants as owned;
+ghost use Rattle.process_model.specs.Files.{fits_file};
+ghost use Rattle.script_language.specs.Script as words;
+ghost use Rattle.script_language.specs.declared.declarations.OwnedImage.TheVariants as owned;
 ghost use Rattle.script_reader.specs.Alone.{item_alone};
 
 use crate::field_access::{index_at, policy_at, scheme_at, take_bytes, take_segments, writable_at};
 use crate::limits::in_limits;
-use process_model::{Cause, Config, FieldValue, FileText, Item, Keyword, OwnedImage};
+use process_model::{Config, FileText};
+use script_language::{Cause, FieldValue, Item, Keyword, OwnedImage};
 use std::alloc::{AllocError, Global};
 
 /// The most bytes a file may have.
@@ -20,7 +22,7 @@ pub const LONGEST_FILE: usize = 65_536;
 /// # Errors
 /// `Limits`, exactly when LEN is above 65,536, or HEX has more than LEN bytes.
 pub fn file(alloc: Global, values: Vec<FieldValue>) -> Result<FileText, Cause>
-    ensures { result ≡ words.in_limits (words.fits_file (words.file_of_values values.items)) (words.file_of_values values.items) }
+    ensures { result ≡ words.in_limits (fits_file (words.file_of_values values.items)) (words.file_of_values values.items) }
 {
     let length = index_at(&values, 0);
     let writable = writable_at(&values, 1);

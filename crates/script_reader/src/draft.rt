@@ -3,11 +3,12 @@
 // Constants: the most files, images and lines after `boot`.
 
 ghost use Rattle.std.specs.Prelude.{◌≡◌, ◌&&◌, OnOk, OnErr, is_some, length, nat_lt};
-ghost use Rattle.process_model.specs.declared.script.Item.TheVariants as item;
-ghost use Rattle.process_model.specs.Script as words;
+ghost use Rattle.script_language.specs.declared.script.Item.TheVariants as item;
+ghost use Rattle.script_language.specs.Script as words;
 
 use crate::commands::Commands;
-use process_model::{Command, Config, FileText, Item, Keyword, OwnedImage};
+use process_model::{Config, FileText};
+use script_language::{Command, Item, Keyword, OwnedImage};
 use std::alloc::{AllocError, Global};
 use std::marker::Model;
 
@@ -30,7 +31,7 @@ pub struct Draft {
 }
 
 impl Model for Draft {
-    ghost use Rattle.process_model.specs.Script as words;
+    ghost use Rattle.script_language.specs.Script as words;
 
     ghost Value = { words.Draft };
 

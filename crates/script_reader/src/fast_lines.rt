@@ -3,7 +3,7 @@
 // read field by field.
 
 ghost use Rattle.std.specs.Prelude.{◌≡◌, ℕ, IfSome, MatchOption, Ok, OnOk, true};
-ghost use Rattle.process_model.specs.Script as words;
+ghost use Rattle.script_language.specs.Script as words;
 ghost use Rattle.script_reader.specs.FastLines.{AddsCommand};
 ghost use Rattle.script_reader.specs.FastWords.{letters};
 

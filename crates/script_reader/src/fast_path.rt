@@ -4,15 +4,16 @@
 // read field by field. The words (`word_prefix`) and the ends of lines (`one`, `is_over`) serve files for threads too.
 
 ghost use Rattle.std.specs.Prelude.{◌≡◌, IfSome, codes, true, [], ◌∷◌, ◌++◌};
-ghost use Rattle.process_model.specs.Fields.{one_number, two_numbers};
-ghost use Rattle.process_model.specs.declared.script.FieldValue.TheVariants as value;
-ghost use Rattle.process_model.specs.Lines.{fields_of};
+ghost use Rattle.script_language.specs.Fields.{one_number, two_numbers};
+ghost use Rattle.script_language.specs.declared.script.FieldValue.TheVariants as value;
+ghost use Rattle.script_language.specs.Lines.{fields_of};
 ghost use Rattle.script_reader.specs.FastPath.{EndsWith, ReadsFields, SaysCommand};
 ghost use Rattle.script_reader.specs.FastWords.{letters};
 
 use crate::lines::first_field;
 use crate::number_prefixes::{next_address, next_entry, next_number, next_slot};
-use process_model::{Command, LONGEST_COPY, Step, is_width};
+use process_model::{LONGEST_COPY, Step, is_width};
+use script_language::Command;
 
 /// True only if no field is left in the line.
 pub fn is_over(line: &[u8]) -> bool

@@ -2,7 +2,7 @@
 // threads was not (with the number of the line); each has a case for refused host memory. Conversions from `AllocError` and
 // `Cause` to `LineFault`.
 
-use process_model::Cause;
+use script_language::Cause;
 use std::alloc::AllocError;
 
 /// Why a line was not read.

@@ -3,9 +3,10 @@
 // has a default.
 
 ghost use Rattle.std.specs.Prelude.{◌≡◌, IfOk, slice_get};
-ghost use Rattle.process_model.specs.Script as words;
+ghost use Rattle.script_language.specs.Script as words;
 
-use process_model::{Bytes, FieldValue, Policy, Segment, Sequence};
+use process_model::{Bytes, Policy, Segment, Sequence};
+use script_language::FieldValue;
 use std::alloc::{AllocError, Global};
 use sv39_entry::Scheme;
 

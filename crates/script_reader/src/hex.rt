@@ -2,7 +2,7 @@
 // bytes.
 
 ghost use Rattle.std.specs.Prelude.{◌≡◌, ◌+◌, ◌<◌, ◌≤◌, ◌∷◌, IfOk, IfSome, MatchOption, None, Some, length, true};
-ghost use Rattle.process_model.specs.Numbers.{pairs_of, hex_of, then_bytes};
+ghost use Rattle.script_language.specs.Numbers.{pairs_of, hex_of, then_bytes};
 
 use crate::numbers::hexadecimal_value;
 use process_model::Bytes;

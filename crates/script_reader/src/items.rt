@@ -1,7 +1,7 @@
 // `make_item`: calls the parser that belongs to the word of a script line, and returns the line's item: a declared file or
 // image, the configuration of `boot`, or a command.
 
-ghost use Rattle.process_model.specs.Script as words;
+ghost use Rattle.script_language.specs.Script as words;
 ghost use Rattle.script_reader.specs.ReadResults.{GivesLine};
 
 use crate::accesses::{load, store};
@@ -12,7 +12,7 @@ use crate::draft::Draft;
 use crate::fault::LineFault;
 use crate::limits::one;
 use crate::steps::{evict, fetch, fill, next, switch, tramp, trap};
-use process_model::{Cause, Command, FieldValue, Item, Keyword};
+use script_language::{Cause, Command, FieldValue, Item, Keyword};
 use std::alloc::Global;
 
 /// Makes the item of a line from its word and the values after it. `draft` has what the lines before it declare: the images

@@ -1,8 +1,8 @@
 // A law of lines: what a faultless line says fits what was declared before it.
 
 ghost use Rattle.std.specs.Prelude.{◌≡◌, ℕ, List, Ok, Some};
-ghost use Rattle.process_model.specs.Script.{Draft, line_of, no_lines, with_item};
-ghost use Rattle.process_model.specs.declared.script.Item.{Item};
+ghost use Rattle.script_language.specs.Script.{Draft, line_of, no_lines, with_item};
+ghost use Rattle.script_language.specs.declared.script.Item.{Item};
 ghost use Rattle.script_reader.specs.Playable.{FitsItem, IsSound};
 
 /// What a faultless line says fits the lines before it, and lines that are sound (`IsSound`) stay so with it.

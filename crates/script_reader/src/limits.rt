@@ -2,9 +2,10 @@
 // and `one`, the item (what a line declares or commands) of a script line that is one step.
 
 ghost use Rattle.std.specs.Prelude.{◌≡◌};
-ghost use Rattle.process_model.specs.Script as words;
+ghost use Rattle.script_language.specs.Script as words;
 
-use process_model::{Cause, Command, Item, Step};
+use process_model::Step;
+use script_language::{Cause, Command, Item};
 
 /// Returns `said`, the item of a line whose values were checked.
 ///

@@ -2,8 +2,8 @@
 // the fast path, counts them, and keeps the first fault.
 
 ghost use Rattle.std.specs.Prelude.{◌≡◌, ◌+◌, ◌<◌, ◌≤◌, ◌^◌, length, OnOk, None, true};
-ghost use Rattle.process_model.specs.Lines.{raw_lines};
-ghost use Rattle.process_model.specs.Script as words;
+ghost use Rattle.script_language.specs.Lines.{raw_lines};
+ghost use Rattle.script_language.specs.Script as words;
 ghost use Rattle.script_reader.specs.Reading.{KeepsFault, lines_read};
 
 use crate::draft::Draft;
@@ -11,7 +11,7 @@ use crate::fast_lines::add_fast;
 use crate::fault::ScriptError;
 use crate::lines::{first_line, trim_return};
 use crate::read_line::{add_line, is_ascii};
-use process_model::Cause;
+use script_language::Cause;
 use std::alloc::{AllocError, Global};
 
 /// The draft of the lines read so far, their number, skipped lines among them, and the first fault: its

@@ -3,7 +3,7 @@
 
 ghost use Rattle.std.specs.Prelude.{◌≡◌, ◌<◌, ◌-◌, ◌++◌, ◌∷◌, [], drop, length, IfSome, MatchOption};
 ghost use Rattle.std.specs.List.{position_or_len, prefix_len};
-ghost use Rattle.process_model.specs.Lines as words;
+ghost use Rattle.script_language.specs.Lines as words;
 
 use memchr::{memchr, memchr2};
 

@@ -3,9 +3,9 @@
 // whether a field ends here. `None` is no fault: the line is then read field by field.
 
 ghost use Rattle.std.specs.Prelude.{◌≡◌, ◌+◌, ◌*◌, ◌<◌, ◌≤◌, ◌∷◌, ℕ, List, IfSome, Some, length, true};
-ghost use Rattle.process_model.specs.Lines.{ends_field, fields_of};
-ghost use Rattle.process_model.specs.declared.script.FieldKind.TheVariants as kind;
-ghost use Rattle.process_model.specs.declared.script.FieldValue.TheVariants as value;
+ghost use Rattle.script_language.specs.Lines.{ends_field, fields_of};
+ghost use Rattle.script_language.specs.declared.script.FieldKind.TheVariants as kind;
+ghost use Rattle.script_language.specs.declared.script.FieldValue.TheVariants as value;
 ghost use Rattle.script_reader.specs.NumberPrefixes.{IsEndedPrefix, IsNumberPrefix};
 ghost use Rattle.script_reader.specs.FastPath.{IsNext};
 

@@ -3,7 +3,7 @@
 
 ghost use Rattle.std.specs.Prelude.{◌≡◌, ◌^◌, Some};
 ghost use Rattle.script_reader.specs.Digits.{value_or_255};
-ghost use Rattle.process_model.specs.Numbers.{digit_of, digits_in, if_below, number_of, signed_of, as_negative};
+ghost use Rattle.script_language.specs.Numbers.{digit_of, digits_in, if_below, number_of, signed_of, as_negative};
 
 /// For each byte its value as a hexadecimal digit of either case, 255 if it is none.
 static HEXADECIMAL_DIGITS: [u8; 256] = [

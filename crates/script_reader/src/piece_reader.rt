@@ -2,7 +2,7 @@
 // once its end has been read. Constant `LONGEST_SCRIPT`: the most bytes of a script or a file for threads.
 
 ghost use Rattle.std.specs.Prelude.{◌≡◌, ◌<◌, ◌≤◌, ◌++◌, ◌^◌, [], length, IfOk, IfSome, List, ℕ, nat_lt, OnOk};
-ghost use Rattle.process_model.specs.Script as words;
+ghost use Rattle.script_language.specs.Script as words;
 ghost use Rattle.script_reader.specs.ReadResults.{GivesScript};
 ghost use Rattle.script_reader.specs.Playable.{IsPlayable};
 ghost use Rattle.script_reader.specs.Reading as model;
@@ -11,7 +11,7 @@ use crate::fault::ScriptError;
 use crate::line_reader::LineReader;
 use crate::script::Script;
 use memchr::{memchr, memrchr};
-use process_model::Cause;
+use script_language::Cause;
 use std::alloc::{AllocError, Global};
 use std::marker::Model;
 use std::mem;

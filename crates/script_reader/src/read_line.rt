@@ -4,8 +4,8 @@
 
 ghost use Rattle.std.specs.Prelude.{◌≡◌};
 ghost use Rattle.std.specs.Option.{option_map};
-ghost use Rattle.process_model.specs.Lines.{fields_of};
-ghost use Rattle.process_model.specs.Script as words;
+ghost use Rattle.script_language.specs.Lines.{fields_of};
+ghost use Rattle.script_language.specs.Script as words;
 ghost use Rattle.script_reader.specs.ReadResults.{GivesLine, GivesScript};
 ghost use Rattle.script_reader.specs.WordOf.{as_fields, word_in, word_of};
 
@@ -15,7 +15,7 @@ use crate::items::make_item;
 use crate::lines::first_field;
 use crate::table::Row;
 use crate::values::read_values;
-use process_model::{Cause, Item};
+use script_language::{Cause, Item};
 use std::alloc::Global;
 
 /// The most bytes a line may have, without its end: enough for `elf` and an image of 1 MiB in hexadecimal digits.
@@ -36,7 +36,7 @@ pub fn test(holds: bool, cause: Cause) -> Result<(), LineFault>
 }
 
 /// Parses a line whose first field is `text`, with the fields after it. Causes are tried in the order of `Cause`.
-#[tactic(auto, unfolding(process_model::specs::Script::item_line))]
+#[tactic(auto, unfolding(script_language::specs::Script::item_line))]
 fn item_line(alloc: Global, draft: &Draft, text: &[u8], fields: &[u8]) -> Result<Item, LineFault>
     ensures { GivesLine (λ x. x) result (words.item_line draft.now text.now (fields_of fields.now)) }
 {

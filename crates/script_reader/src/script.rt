@@ -2,7 +2,7 @@
 // return these parts, and `Script::read`, which parses a whole text.
 
 ghost use Rattle.std.specs.Prelude.{◌≡◌, ◌+◌, ◌<◌, IfOk};
-ghost use Rattle.process_model.specs.Script as words;
+ghost use Rattle.script_language.specs.Script as words;
 ghost use Rattle.script_reader.specs.ReadResults.{GivesScript};
 ghost use Rattle.script_reader.specs.Playable.{IsPlayable};
 
@@ -10,7 +10,8 @@ use crate::commands::Commands;
 use crate::draft::Draft;
 use crate::fault::ScriptError;
 use crate::piece_reader::{LONGEST_SCRIPT, PieceReader};
-use process_model::{Cause, Config, FileText, OwnedImage};
+use process_model::{Config, FileText};
+use script_language::{Cause, OwnedImage};
 use std::alloc::Global;
 use std::marker::Model;
 
@@ -24,7 +25,7 @@ pub struct Script {
 }
 
 impl Model for Script {
-    ghost use Rattle.process_model.specs.Script as words;
+    ghost use Rattle.script_language.specs.Script as words;
 
     ghost Value = { words.Script };
 

@@ -2,9 +2,9 @@
 // `VADDR:MEMSZ:FLAGS:HEX`.
 
 ghost use Rattle.std.specs.Prelude.{◌≡◌, IfOk};
-ghost use Rattle.process_model.specs.Fields as words;
-ghost use Rattle.process_model.specs.Lines.{pieces_of};
-ghost use Rattle.process_model.specs.Numbers.{number_of, hex_of};
+ghost use Rattle.script_language.specs.Fields as words;
+ghost use Rattle.script_language.specs.Lines.{pieces_of};
+ghost use Rattle.script_language.specs.Numbers.{number_of, hex_of};
 ghost use Rattle.script_reader.specs.Pieces.{IsSegmentFields};
 
 use crate::hex::hex;

@@ -2,11 +2,12 @@
 // `evict`, `fetch`, `tramp`. Each makes the step from the values of the line's fields.
 
 ghost use Rattle.std.specs.Prelude.{◌≡◌, Ok};
-ghost use Rattle.process_model.specs.Script as words;
+ghost use Rattle.script_language.specs.Script as words;
 ghost use Rattle.script_reader.specs.Alone.{item_alone};
 
 use crate::field_access::{index_at, number_at, optional_at};
-use process_model::{FieldValue, Keyword, Step};
+use process_model::Step;
+use script_language::{FieldValue, Keyword};
 
 /// Makes the step of `switch HART SLOT`; for a SLOT of `-` the slot is `None`.
 pub fn switch(values: &[FieldValue]) -> Step<'static>

@@ -4,11 +4,11 @@
 
 ghost use Rattle.std.specs.Prelude.{◌≡◌, map};
 ghost use Rattle.std.specs.Option.{option_map};
-ghost use Rattle.process_model.specs.Fields.{command_table, row_among};
-ghost use Rattle.process_model.specs.ThreadScript.{thread_table};
+ghost use Rattle.script_language.specs.Fields.{command_table, row_among};
+ghost use Rattle.script_language.specs.ThreadScript.{thread_table};
 
-use process_model::FieldKind::{Entry, Hex, Mode, Number, Policy, Scheme, Segment, Signed, Slot};
-use process_model::{FieldKind, Keyword, Tail};
+use script_language::FieldKind::{Entry, Hex, Mode, Number, Policy, Scheme, Segment, Signed, Slot};
+use script_language::{FieldKind, Keyword, Tail};
 
 /// A word as it is written, its keyword, the kinds of the fields that must follow it, and what may follow these.
 #[derive(Clone, Copy)]

@@ -3,14 +3,13 @@
 // declares or commands).
 
 ghost use Rattle.std.specs.Prelude.{◌≡◌, Ok};
-ghost use Rattle.process_model.specs.ThreadScript as words;
+ghost use Rattle.script_language.specs.ThreadScript as words;
 ghost use Rattle.script_reader.specs.CallAlone.{call_alone};
 
 use crate::field_access::{index_at, number_at, signed_at, take_bytes};
 use crate::limits::in_limits;
-use process_model::{
-    Call, Cause, FieldValue, Keyword, LONGEST_COPY, ListedCall, ThreadItem, is_width,
-};
+use process_model::{Call, LONGEST_COPY, is_width};
+use script_language::{Cause, FieldValue, Keyword, ListedCall, ThreadItem};
 use std::alloc::Global;
 
 /// Returns the item of a call that borrows nothing.

@@ -4,14 +4,13 @@
 // `Declared`, a struct: what all lines declare.
 
 ghost use Rattle.std.specs.Prelude.{◌≡◌, OnOk, true};
-ghost use Rattle.process_model.specs.declared.script.ThreadItem.TheVariants as item;
-ghost use Rattle.process_model.specs.ThreadScript as words;
+ghost use Rattle.script_language.specs.declared.script.ThreadItem.TheVariants as item;
+ghost use Rattle.script_language.specs.ThreadScript as words;
 ghost use Rattle.script_reader.specs.ThreadFastLines.{takes_calls};
 
 use crate::draft::{MOST_COMMANDS, MOST_FILES, MOST_IMAGES};
-use process_model::{
-    CallList, FileText, Keyword, ListedCall, ListedStart, OwnedImage, Pool, Sequence, ThreadItem,
-};
+use process_model::{FileText, Sequence};
+use script_language::{CallList, Keyword, ListedCall, ListedStart, OwnedImage, Pool, ThreadItem};
 use std::alloc::{AllocError, Global};
 use std::marker::Model;
 
@@ -35,7 +34,7 @@ pub struct ThreadDraft {
 }
 
 impl Model for ThreadDraft {
-    ghost use Rattle.process_model.specs.ThreadScript as words;
+    ghost use Rattle.script_language.specs.ThreadScript as words;
 
     ghost Value = { words.ThreadDraft };
 

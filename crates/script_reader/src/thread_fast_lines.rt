@@ -4,8 +4,8 @@
 // another form or with a fault, is then read field by field.
 
 ghost use Rattle.std.specs.Prelude.{◌≡◌, ℕ, IfSome, MatchOption, Ok, OnOk, codes, true};
-ghost use Rattle.process_model.specs.ReadLines.{is_ascii, with_said};
-ghost use Rattle.process_model.specs.ThreadScript as words;
+ghost use Rattle.script_language.specs.ReadLines.{is_ascii, with_said};
+ghost use Rattle.script_language.specs.ThreadScript as words;
 ghost use Rattle.script_reader.specs.FastWords.{letters};
 ghost use Rattle.script_reader.specs.ThreadFastLines.{AddsCall, SaysCall, takes_calls};
 
@@ -13,7 +13,8 @@ use crate::fast_path::{FastWord, is_over, one, word_prefix};
 use crate::number_prefixes::{is_end, next_address, next_number};
 use crate::read_line::LONGEST_LINE;
 use crate::thread_draft::ThreadDraft;
-use process_model::{Call, LONGEST_COPY, ListedCall, is_width};
+use process_model::{Call, LONGEST_COPY, is_width};
+use script_language::ListedCall;
 use std::alloc::AllocError;
 
 /// Parses the fields of `fetch`: the address. `None`: to be read field by field.

@@ -1,7 +1,7 @@
 // `make_item`: calls the parser that belongs to the word of a line of a file for threads, and returns the line's item: a
 // file, an image, the pool (numbers of frames and slots), the beginning of a list, a call, or a start.
 
-ghost use Rattle.process_model.specs.ThreadScript as words;
+ghost use Rattle.script_language.specs.ThreadScript as words;
 ghost use Rattle.script_reader.specs.ReadResults.{GivesLine};
 
 use crate::declarations::{elf, file, image};
@@ -9,7 +9,7 @@ use crate::fault::LineFault;
 use crate::thread_calls::{copy_in, copy_out, exit, fetch, load, mmap, munmap, sbrk, store};
 use crate::thread_draft::ThreadDraft;
 use crate::thread_named::{exec, fork, list, pool, start};
-use process_model::{Cause, FieldValue, Keyword, ThreadItem};
+use script_language::{Cause, FieldValue, Keyword, ThreadItem};
 use std::alloc::Global;
 
 /// Makes the item of a line from its word and the values after it. `draft` has the images declared by the lines before it,

@@ -3,9 +3,9 @@
 // may name a later list.
 
 ghost use Rattle.std.specs.Prelude.{◌≡◌, ◌≤◌, Ok, IfOk, IfSome, length, replicate, ℕ, false, true};
-ghost use Rattle.process_model.specs.Lines.{fields_of, raw_lines};
-ghost use Rattle.process_model.specs.ReadLines as reading;
-ghost use Rattle.process_model.specs.ThreadScript as words;
+ghost use Rattle.script_language.specs.Lines.{fields_of, raw_lines};
+ghost use Rattle.script_language.specs.ReadLines as reading;
+ghost use Rattle.script_language.specs.ThreadScript as words;
 ghost use Rattle.script_reader.specs.ReadResults.{GivesScript, GivesLine};
 ghost use Rattle.script_reader.specs.ThreadFastLines.{begins_with_list};
 
@@ -18,11 +18,11 @@ use crate::thread_draft::{MOST_LISTS, ThreadDraft};
 use crate::thread_fast_lines::add_fast;
 use crate::thread_items::make_item;
 use crate::values::read_values;
-use process_model::{Cause, ThreadItem};
+use script_language::{Cause, ThreadItem};
 use std::alloc::Global;
 
 /// Parses a line whose first field is `text`, with the fields after it. Causes are tried in the order of `Cause`.
-#[tactic(auto, unfolding(process_model::specs::ThreadScript::item_line))]
+#[tactic(auto, unfolding(script_language::specs::ThreadScript::item_line))]
 fn item_line(
     alloc: Global,
     draft: &ThreadDraft,

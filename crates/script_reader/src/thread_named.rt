@@ -2,14 +2,15 @@
 // `pool`, the numbers of frames and slots. Each makes the line's item (what it declares or commands) and checks its limits.
 
 ghost use Rattle.std.specs.Prelude.{◌≡◌};
-ghost use Rattle.process_model.specs.ThreadScript as words;
+ghost use Rattle.script_language.specs.ThreadScript as words;
 ghost use Rattle.script_reader.specs.CallAlone.{call_alone};
 
 use crate::field_access::index_at;
 use crate::limits::in_limits;
 use crate::thread_calls::one;
 use crate::thread_draft::{MOST_LISTS, ThreadDraft};
-use process_model::{Call, Cause, FieldValue, Keyword, ListedCall, ListedStart, Pool, ThreadItem};
+use process_model::Call;
+use script_language::{Cause, FieldValue, Keyword, ListedCall, ListedStart, Pool, ThreadItem};
 
 /// Makes the item of `pool FRAMES SLOTS`.
 ///

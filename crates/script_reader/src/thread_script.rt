@@ -3,8 +3,8 @@
 
 ghost use Rattle.std.specs.Prelude.{◌≡◌, ◌+◌, ◌<◌, IfOk};
 ghost use Rattle.std.specs.Option.{option_map};
-ghost use Rattle.process_model.specs.ReadLines.{longest_script};
-ghost use Rattle.process_model.specs.ThreadScript as words;
+ghost use Rattle.script_language.specs.ReadLines.{longest_script};
+ghost use Rattle.script_language.specs.ThreadScript as words;
 ghost use Rattle.script_reader.specs.ReadResults.{GivesScript};
 ghost use Rattle.script_reader.specs.ThreadsPlayable.{IsThreadPlayable};
 
@@ -12,7 +12,8 @@ use crate::fault::ScriptError;
 use crate::piece_reader::LONGEST_SCRIPT;
 use crate::thread_draft::{Declared, ThreadDraft};
 use crate::thread_lines::{lists_named, read_lines};
-use process_model::{CallList, Cause, FileText, ListedCall, ListedStart, OwnedImage, Pool};
+use process_model::FileText;
+use script_language::{CallList, Cause, ListedCall, ListedStart, OwnedImage, Pool};
 use std::alloc::Global;
 use std::marker::Model;
 
@@ -27,7 +28,7 @@ pub struct ThreadScript {
 }
 
 impl Model for ThreadScript {
-    ghost use Rattle.process_model.specs.ThreadScript as words;
+    ghost use Rattle.script_language.specs.ThreadScript as words;
 
     ghost Value = { words.ThreadScript };
 

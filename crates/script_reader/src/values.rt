@@ -2,9 +2,9 @@
 // kind that the word's row has for its place, or returns the line's fault: `Count`, `Number` or `Field`.
 
 ghost use Rattle.std.specs.Prelude.{◌≡◌, IfOk};
-ghost use Rattle.process_model.specs.Fields as words;
-ghost use Rattle.process_model.specs.Fields.{value_of, values_of};
-ghost use Rattle.process_model.specs.Lines.{fields_of};
+ghost use Rattle.script_language.specs.Fields as words;
+ghost use Rattle.script_language.specs.Fields.{value_of, values_of};
+ghost use Rattle.script_language.specs.Lines.{fields_of};
 ghost use Rattle.script_reader.specs.ValueLists.{listed};
 ghost use Rattle.script_reader.specs.Rows.{seen};
 
@@ -13,7 +13,8 @@ use crate::lines::first_field;
 use crate::numbers::{number, signed};
 use crate::segments::read_segment;
 use crate::table::Row;
-use process_model::{Cause, FieldKind, FieldValue, Policy};
+use process_model::Policy;
+use script_language::{Cause, FieldKind, FieldValue};
 use std::alloc::{AllocError, Global};
 use sv39_entry::Scheme;
 

@@ -3,7 +3,7 @@
 // of files for other tests (`cabinet`, `three_files`).
 
 ghost use Rattle.std.specs.Prelude.{◌≡◌};
-ghost use Rattle.process_model.specs.Script.{fits_file};
+ghost use Rattle.process_model.specs.Files.{fits_file};
 
 use file_cabinet::{Cabinet, Files};
 use process_model::{Bytes, FileText};

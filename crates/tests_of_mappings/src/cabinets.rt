@@ -2,7 +2,7 @@
 // as a `Change` (file, offset, value).
 
 ghost use Rattle.std.specs.Prelude.{◌≡◌};
-ghost use Rattle.process_model.specs.Script.{fits_file};
+ghost use Rattle.process_model.specs.Files.{fits_file};
 
 use file_cabinet::Cabinet;
 use process_model::{Bytes, FileText};

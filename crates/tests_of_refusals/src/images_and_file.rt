@@ -2,7 +2,7 @@
 // reservation of page I/O) that each story (test case) begins with.
 
 ghost use Rattle.std.specs.Prelude.{◌≡◌};
-ghost use Rattle.process_model.specs.Script.{fits_file};
+ghost use Rattle.process_model.specs.Files.{fits_file};
 
 use file_cabinet::Cabinet;
 use process_model::{Bytes, FileText, Segment};

@@ -3,7 +3,7 @@
 // bytes.
 
 use audit_player::{PlayError, Reader, Writer, play};
-use process_model::Cause;
+use script_language::Cause;
 use std::alloc::{AllocError, Global};
 use std::io;
 use std::io::Write;

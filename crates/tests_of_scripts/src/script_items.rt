@@ -1,7 +1,8 @@
 // Tests that `Script::read` returns the images, files, configuration and commands that a script declares, by the script's
 // functions.
 
-use process_model::{Command, OwnedImage, Policy};
+use process_model::Policy;
+use script_language::{Command, OwnedImage};
 use script_reader::{CommandView, Script};
 use std::test::Fail;
 

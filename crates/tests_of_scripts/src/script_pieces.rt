@@ -2,7 +2,7 @@
 
 use crate::mapped_file::lines;
 use audit_player::{PlayError, Reader, Writer, play};
-use process_model::Cause;
+use script_language::Cause;
 use std::alloc::Global;
 use std::test::Fail;
 

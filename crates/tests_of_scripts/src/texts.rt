@@ -2,9 +2,8 @@
 // texts that are printed: rows of a reply and its text, the report of frames, the longest number and bytes.
 
 use arrayvec::ArrayVec;
-use process_model::{
-    LONGEST_TEXT, Refusal, Reply, Report, put, put_bytes, put_decimal, put_reply, put_report,
-};
+use process_model::{Refusal, Reply, Report};
+use script_language::{LONGEST_TEXT, put, put_bytes, put_decimal, put_reply, put_report};
 use std::test::Fail;
 use sv39_entry::Rule;
 

@@ -3,7 +3,7 @@
 
 use crate::broken_streams::{FailingReader, FailingWriter};
 use audit_player::{PlayError, Reader, Writer, play_threads};
-use process_model::Cause;
+use script_language::Cause;
 use std::alloc::{AllocError, Global};
 use std::sync::Wait;
 use std::test::Fail;

@@ -4,7 +4,7 @@
 use crate::fault::Fault;
 use crate::words::{Task, Words};
 use audit_player::PlayError;
-use process_model::Cause;
+use script_language::Cause;
 use std::alloc::Global;
 use std::io;
 use std::test::Fail;

@@ -3,7 +3,7 @@
 // parser to `Fault`.
 
 ghost use Rattle.std.specs.Prelude.{◌≡◌, ◌≤◌, IfSome, Some};
-ghost use Rattle.process_model.specs.Numbers.{number_of};
+ghost use Rattle.script_language.specs.Numbers.{number_of};
 
 use crate::fault::Fault;
 use audit_player::PlayError;

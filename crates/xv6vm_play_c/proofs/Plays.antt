@@ -3,9 +3,9 @@
 use Rattle.std.proofs.Common.{◌≡◌, refl, ap, ◌∙◌, sym, ℕ, List, [], ◌++◌, length, take, Result, Ok, Err, Some}
 use Rattle.std.proofs.Math.Seq.{take-append_seam}
 use Rattle.audit_player.specs.PlayResult.{Writes}
-use Rattle.process_model.specs.Script.{Script, script_of}
-use Rattle.process_model.specs.Text.{text_of}
-use Rattle.process_model.specs.declared.script.Cause.{Cause}
+use Rattle.script_language.specs.Script.{Script, script_of}
+use Rattle.script_language.specs.Text.{text_of}
+use Rattle.script_language.specs.declared.script.Cause.{Cause}
 
 played : (script : Result Script (ℕ × Cause)) (old text : List ℕ) → old ≡ [] → Writes (Some old) (Some text) script → (s : Script) × (script ≡ Ok s) × (text ≡ text_of s)
 played (Ok s) old text empty w = (s, refl, w ∙ ap (λ xs. xs ++ text_of s) empty)

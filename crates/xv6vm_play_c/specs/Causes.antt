@@ -1,7 +1,7 @@
 -- The numbers by which C programs name the causes of a refused script.
 use Rattle.std.specs.Prelude.{ℕ}
-use Rattle.process_model.specs.declared.script.Cause.{Cause}
-use Rattle.process_model.specs.declared.script.Cause.TheVariants as cause
+use Rattle.script_language.specs.declared.script.Cause.{Cause}
+use Rattle.script_language.specs.declared.script.Cause.TheVariants as cause
 
 abbrev pub cause_number : Cause → ℕ
 cause_number cause.TooLong = 1

@@ -3,13 +3,13 @@
 #![tactic(auto)]
 
 ghost use Rattle.std.specs.Prelude.{◌≡◌, ◌≢◌, ◌<◌, ◌⊎◌, length, take, drop, Ok, Err};
-ghost use Rattle.process_model.specs.Script.{Script, script_of};
-ghost use Rattle.process_model.specs.Text.{text_of};
-ghost use Rattle.process_model.specs.declared.script.Cause.{Cause as ScriptCause};
+ghost use Rattle.script_language.specs.Script.{Script, script_of};
+ghost use Rattle.script_language.specs.Text.{text_of};
+ghost use Rattle.script_language.specs.declared.script.Cause.{Cause as ScriptCause};
 ghost use Rattle.xv6vm_play_c.specs.Causes.{cause_number};
 
 use audit_player::{PlayError, Reader, Writer, play};
-use process_model::Cause;
+use script_language::Cause;
 use std::alloc::Global;
 
 /// How the play of a script ended. What does not belong to its status is 0.
@@ -20,7 +20,7 @@ pub struct Played {
     /// bytes than the buffer.
     pub status: u32,
     /// Of status 23 the cause: 1 `TooLong`, 2 `NotAscii`, 3 `Word`, 4 `Order`, 5 `Count`, 6 `Number`, 7 `Field`, 8 `Limits`,
-    /// 9 `TooMany` of `process_model::Cause`.
+    /// 9 `TooMany` of `script_language::Cause`.
     pub cause: u32,
     /// Of status 23 the first line at fault, from 1; 0 is the script as a whole.
     pub line: u64,

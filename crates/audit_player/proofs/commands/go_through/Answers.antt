@@ -1,6 +1,6 @@
 use Rattle.std.proofs.Common.{◌∷◌, ap, refl, subst, arith}
 use Rattle.process_model.specs.ScalarReplies.{reply_of_scalar}
-use Rattle.process_model.specs.Text.{three_next}
+use Rattle.script_language.specs.Text.{three_next}
 use Rattle.process_model.specs.World.{Outcome}
 use Rattle.process_model.specs.declared.step.Reply.TheVariants.{Done}
 use Rattle.audit_player.specs.LineOutcomes.{GivesOutcome}

@@ -1,9 +1,9 @@
 use Rattle.std.proofs.Common.{◌∙◌, ◌<◌, ◌++◌, List, ap, length, refl, sym, subst}
 use Rattle.std.specs.Prelude.{slice_get}
 use Rattle.process_model.specs.Files.{bytes_of, File}
-use Rattle.process_model.specs.Text.{line_result, show_text}
-use Rattle.process_model.specs.Words.{report_text}
-use Rattle.process_model.specs.declared.script.Command.{Command}
+use Rattle.script_language.specs.Text.{line_result, show_text}
+use Rattle.script_language.specs.Words.{report_text}
+use Rattle.script_language.specs.declared.script.Command.{Command}
 use Rattle.process_model.specs.declared.step.Report.{Report}
 use Rattle.process_model.specs.declared.step.Step.TheVariants.{Exec, Start}
 use Rattle.audit_player.specs.LineOutcomes.{AppendsLine}

@@ -1,5 +1,5 @@
 use Rattle.std.proofs.Common.{subst, sym}
-use Rattle.process_model.specs.Text.{line_result}
+use Rattle.script_language.specs.Text.{line_result}
 use Rattle.audit_player.specs.LineOutcomes.{AppendsLine}
 use Rattle.script_reader.specs.PackedLines.{shown}
 use Rattle.script_reader.specs.declared.commands.CommandView.{CommandView}

@@ -1,7 +1,7 @@
 use Rattle.std.proofs.Common.{subst, sym}
 use Rattle.process_model.specs.ScalarReplies.{reply_of_scalar}
 use Rattle.process_model.specs.Steps.{step}
-use Rattle.process_model.specs.Text.{line_result_of}
+use Rattle.script_language.specs.Text.{line_result_of}
 use Rattle.process_model.specs.declared.step.Step.{Step}
 use Rattle.audit_player.specs.LineOutcomes.{AppendsLine}
 use Rattle.audit_player.proofs.Lending.{told_by}

@@ -1,7 +1,7 @@
 use Rattle.std.proofs.Common.{subst}
 use Rattle.process_model.specs.ScalarReplies.{reply_of_scalar}
 use Rattle.audit_player.specs.LineOutcomes.{GivesOutcome}
-use Rattle.process_model.specs.Text.{lent}
+use Rattle.script_language.specs.Text.{lent}
 use Rattle.audit_player.proofs.Lending.{starts}
 use Rattle.audit_player.proofs.commands.start.Goals as goal
 

@@ -1,6 +1,6 @@
 use Rattle.std.proofs.Common.{ap, refl}
 use Rattle.process_model.specs.ScalarReplies.{reply_of_scalar}
-use Rattle.process_model.specs.Text.{three_next}
+use Rattle.script_language.specs.Text.{three_next}
 use Rattle.audit_player.proofs.Runs.{ends, goes_on, is_next, no_refusal, stops}
 use Rattle.audit_player.proofs.commands.three_next.Goals as goal
 

@@ -1,7 +1,7 @@
 use Rattle.std.proofs.Common.{drop}
 use Rattle.hart_machine.specs.BufferEntries.{IsInWorld}
 use Rattle.process_model.specs.ScalarReplies.{reply_of_scalar}
-use Rattle.process_model.specs.Text.{series_of, three_next}
+use Rattle.script_language.specs.Text.{series_of, three_next}
 use Rattle.process_model.specs.World.{World}
 use Rattle.audit_player.proofs.Runs.{Leads}
 use Rattle.audit_player.proofs.commands.three_next.Given as goal

@@ -1,5 +1,5 @@
 use Rattle.std.proofs.Common.{◌≡◌, Ok, sym, subst}
-use Rattle.process_model.specs.Script.{script_of}
+use Rattle.script_language.specs.Script.{script_of}
 use Rattle.audit_player.specs.PlayResult.{PlaysScript}
 use Rattle.audit_player.proofs.Played.{played, read_failed, refused}
 use Rattle.audit_player.proofs.player.play.Goals as goal

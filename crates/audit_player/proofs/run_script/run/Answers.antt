@@ -1,7 +1,7 @@
 use Rattle.std.proofs.Common.{◌≡◌, ◌+◌, ◌≤◌, true, [], length, drop, map, refl, subst, arith, rules, ◌∙◌, Bool, false, not, sym}
 use Rattle.std.specs.Io.KnownBytes.{Appends}
-use Rattle.process_model.specs.Script.{file_of}
-use Rattle.process_model.specs.Text.{text_of}
+use Rattle.process_model.specs.Files.{file_of}
+use Rattle.script_language.specs.Text.{text_of}
 use Rattle.process_model.specs.World.{booted}
 use Rattle.audit_player.specs.InputOutput.{WroteSome}
 use Rattle.audit_player.proofs.Written.{declared, page_more, turned, cut, ended}

@@ -1,5 +1,5 @@
 use Rattle.std.proofs.Common.{◌≡◌, ◌<◌, ◌≤◌, false, drop, vec_len, vec_capacity}
-use Rattle.process_model.specs.Text.{text_of}
+use Rattle.script_language.specs.Text.{text_of}
 use Rattle.audit_player.proofs.Written.{IsWriting}
 use Rattle.audit_player.proofs.run_script.run.Given as goal
 

@@ -1,6 +1,6 @@
 use Rattle.std.proofs.Common.{◌≡◌, Some, ap, sym, ◌∙◌}
 use Rattle.std.specs.Option.{option_map}
-use Rattle.process_model.specs.ThreadScript.{calls_of}
+use Rattle.script_language.specs.ThreadScript.{calls_of}
 use Rattle.audit_player.proofs.LentLists.{calls_declared}
 use Rattle.audit_player.specs.ThreadLists.{or_no_lines}
 use Rattle.audit_player.proofs.thread_lists.calls_of.Goals as goal

@@ -1,9 +1,9 @@
 use Rattle.std.proofs.Common.{rules, subst}
 use Rattle.std.proofs.lemmas.List.Elements.{All-push, All-same}
 use Rattle.hart_calls.specs.Track.{NamesList}
-use Rattle.process_model.specs.ThreadScript.{most_lists}
+use Rattle.script_language.specs.ThreadScript.{most_lists}
 use Rattle.process_model.specs.declared.call.Call.{Call}
-use Rattle.process_model.specs.declared.call.ListedCall.{ListedCall}
+use Rattle.script_language.specs.declared.declarations.ListedCall.{ListedCall}
 use Rattle.audit_player.specs.ThreadLists.{IsCallOf}
 use Rattle.audit_player.proofs.LentLists.{calls_more}
 use Rattle.audit_player.proofs.thread_lists.lend_list.Goals as goal

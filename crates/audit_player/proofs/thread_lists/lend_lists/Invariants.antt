@@ -1,7 +1,7 @@
 use Rattle.std.proofs.Common.{◌≡◌, ◌≤◌, ◌+◌, ◌-◌, length, vec_len, vec_capacity}
 use Rattle.std.specs.Prelude.{All}
 use Rattle.hart_calls.specs.Track.{NamesList}
-use Rattle.process_model.specs.ThreadScript.{most_lists}
+use Rattle.script_language.specs.ThreadScript.{most_lists}
 use Rattle.audit_player.proofs.LentLists.{AreBelow}
 use Rattle.audit_player.proofs.thread_lists.lend_lists.Given as goal
 

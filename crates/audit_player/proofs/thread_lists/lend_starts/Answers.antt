@@ -1,11 +1,11 @@
 use Rattle.std.proofs.Common.{◌<◌, List, ap, get_or, refl, rules, subst, sym, ◌∙◌}
 use Rattle.std.specs.Prelude.{All}
 use Rattle.std.proofs.lemmas.List.Elements.{All-get_or, All-push, All-same}
-use Rattle.process_model.specs.ThreadScript.{most_lists}
+use Rattle.script_language.specs.ThreadScript.{most_lists}
 use Rattle.process_model.specs.declared.call.Start.{Start}
 use Rattle.script_reader.specs.ThreadsPlayable.{IsStart}
-use Rattle.process_model.specs.declared.call.ListedStart.{ListedStart}
-use Rattle.process_model.specs.declared.image.OwnedImage.{OwnedImage}
+use Rattle.script_language.specs.declared.declarations.ListedStart.{ListedStart}
+use Rattle.script_language.specs.declared.declarations.OwnedImage.{OwnedImage}
 use Rattle.audit_player.proofs.LentLists.{lent_of, start_below, starts_more}
 use Rattle.audit_player.proofs.thread_lists.lend_starts.Goals as goal
 

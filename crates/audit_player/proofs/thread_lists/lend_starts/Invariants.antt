@@ -1,6 +1,6 @@
 use Rattle.std.proofs.Common.{take, ◌≡◌, ◌<◌, ◌≤◌, ◌+◌, ◌-◌, length, vec_len, vec_capacity}
 use Rattle.std.specs.Prelude.{All}
-use Rattle.process_model.specs.ThreadScript.{most_lists}
+use Rattle.script_language.specs.ThreadScript.{most_lists}
 use Rattle.process_model.specs.declared.call.Start.{Start}
 use Rattle.audit_player.specs.ThreadLists.{AreStartsOf}
 use Rattle.audit_player.proofs.thread_lists.lend_starts.Given as goal

@@ -1,6 +1,6 @@
 use Rattle.std.proofs.Common.{refl}
-use Rattle.process_model.specs.Text.{line_text}
-use Rattle.process_model.specs.Threads.{free_text}
+use Rattle.script_language.specs.Text.{line_text}
+use Rattle.script_language.specs.Threads.{free_text}
 use Rattle.audit_player.specs.ThreadText.{threads_text}
 use Rattle.audit_player.proofs.Paged.{putting_begins, putting_fails, putting_more, putting_last}
 use Rattle.audit_player.proofs.thread_text.put_all.Goals as goal

@@ -1,6 +1,6 @@
 use Rattle.std.proofs.Common.{rules, drop, ◌+◌}
 use Rattle.std.proofs.lemmas.List.{at_drop_more, at_drop_all}
-use Rattle.process_model.specs.Threads.{dotted_text}
+use Rattle.script_language.specs.Threads.{dotted_text}
 use Rattle.audit_player.proofs.Paged.{putting_more, putting_fails, putting_ends}
 use Rattle.audit_player.proofs.thread_text.put_dotted.Goals as goal
 

@@ -1,5 +1,5 @@
 use Rattle.std.proofs.Common.{◌≡◌, false, drop}
-use Rattle.process_model.specs.Threads.{dotted_text}
+use Rattle.script_language.specs.Threads.{dotted_text}
 use Rattle.audit_player.proofs.Paged.{IsPutting}
 use Rattle.audit_player.proofs.thread_text.put_dotted.Given as goal
 

@@ -1,6 +1,6 @@
 use Rattle.std.proofs.Common.{drop}
 use Rattle.std.proofs.lemmas.List.{at_drop_more}
-use Rattle.process_model.specs.Threads.{dotted_text, name_text}
+use Rattle.script_language.specs.Threads.{dotted_text, name_text}
 use Rattle.audit_player.proofs.Paged.{putting_begins, putting_fails, putting_more, putting_last, behind_first, dotted_same}
 use Rattle.audit_player.proofs.thread_text.put_name.Goals as goal
 

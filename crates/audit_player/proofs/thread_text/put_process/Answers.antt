@@ -1,7 +1,7 @@
 use Rattle.std.proofs.Common.{◌++◌, List, ℕ, true, false, length, refl, rules}
 use Rattle.std.specs.Prelude.{codes}
-use Rattle.process_model.specs.Text.{line_text}
-use Rattle.process_model.specs.Threads.{name_text, end_text}
+use Rattle.script_language.specs.Text.{line_text}
+use Rattle.script_language.specs.Threads.{name_text, end_text}
 use Rattle.audit_player.specs.ThreadText.{ended_line}
 use Rattle.audit_player.proofs.Paged.{putting_begins, putting_fails, putting_more, putting_last, parts_of_line, name_same, calls_same}
 use Rattle.audit_player.proofs.thread_text.put_process.Goals as goal

@@ -1,5 +1,5 @@
 use Rattle.std.proofs.Common.{◌≡◌, Ok, ap, subst, sym, ◌∙◌}
-use Rattle.process_model.specs.ThreadScript.{thread_script_of}
+use Rattle.script_language.specs.ThreadScript.{thread_script_of}
 use Rattle.script_reader.specs.ReadResults.{GivesError}
 use Rattle.audit_player.specs.ThreadRunResult.{PlaysLists}
 use Rattle.audit_player.proofs.PlayedLists.{lists_refused, lists_unread, played_lists}

@@ -1,6 +1,6 @@
 use Rattle.std.proofs.Common.{◌≡◌, ◌-◌, ◌+◌, false, ℕ, List}
 use Rattle.std.specs.Io.KnownBytes.{Consumes}
-use Rattle.process_model.specs.Script.{longest_script}
+use Rattle.script_language.specs.Script.{longest_script}
 use Rattle.script_reader.specs.Reading.{HasRead}
 use Rattle.audit_player.proofs.transfer.read_all.Given as goal
 

@@ -1,6 +1,6 @@
 use Rattle.std.proofs.Common.{◌≡◌, ◌-◌, ◌+◌, false, vec_len}
 use Rattle.std.specs.Io.KnownBytes.{Consumes}
-use Rattle.process_model.specs.Script.{longest_script}
+use Rattle.script_language.specs.Script.{longest_script}
 use Rattle.audit_player.proofs.transfer.read_bytes.Given as goal
 
 abbrev pub invariant-reading : goal.invariant-reading

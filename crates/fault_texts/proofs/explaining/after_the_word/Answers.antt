@@ -1,7 +1,7 @@
 use Rattle.std.proofs.Common.{◌∙◌, sym}
-use Rattle.process_model.specs.Lines.{fields_of}
-use Rattle.process_model.specs.Script.{in_order}
-use Rattle.process_model.specs.declared.script.Cause.TheVariants as cause
+use Rattle.script_language.specs.Lines.{fields_of}
+use Rattle.script_language.specs.Script.{in_order}
+use Rattle.script_language.specs.declared.script.Cause.TheVariants as cause
 use Rattle.script_reader.specs.Rows.{seen}
 use Rattle.fault_texts.proofs.Causes.{wrong_number_of_fields}
 use Rattle.fault_texts.proofs.Ends.{end_after}

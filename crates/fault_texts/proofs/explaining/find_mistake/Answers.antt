@@ -1,8 +1,8 @@
 use Rattle.std.proofs.Common.{◌≡◌, ◌∙◌, Err, ap, true}
 use Rattle.std.specs.Prelude.{slice_get, is_none, nat_le, length}
-use Rattle.process_model.specs.Lines.{fields_of}
-use Rattle.process_model.specs.ReadLines.{is_ascii, longest_line}
-use Rattle.process_model.specs.declared.script.Cause.TheVariants as cause
+use Rattle.script_language.specs.Lines.{fields_of}
+use Rattle.script_language.specs.ReadLines.{is_ascii, longest_line}
+use Rattle.script_language.specs.declared.script.Cause.TheVariants as cause
 use Rattle.fault_texts.specs.Unknown.{is_unknown}
 use Rattle.fault_texts.proofs.Found.{none_if, some_if}
 use Rattle.fault_texts.proofs.RefusedLines.{line_wrong, too_long, not_ascii, unknown_word, is_after, after_the_word}

@@ -1,5 +1,5 @@
 use Rattle.std.proofs.Common.{◌≡◌, true, take}
-use Rattle.process_model.specs.ReadLines.{is_ascii}
+use Rattle.script_language.specs.ReadLines.{is_ascii}
 use Rattle.fault_texts.proofs.explaining.not_ascii.Given as goal
 
 -- the bytes so far are ASCII

@@ -1,6 +1,6 @@
 use Rattle.std.proofs.Common.{◌≡◌, ◌+◌, ◌<◌, ◌∙◌, length, drop, ap, sym, arith}
-use Rattle.process_model.specs.Fields.{kinds_for}
-use Rattle.process_model.specs.Lines.{fields_of}
+use Rattle.script_language.specs.Fields.{kinds_for}
+use Rattle.script_language.specs.Lines.{fields_of}
 use Rattle.script_reader.specs.Rows.{seen}
 use Rattle.fault_texts.proofs.Awaits.{awaits_next, next_kind, right_count}
 use Rattle.fault_texts.proofs.Ends.{end_after, end_of_end}

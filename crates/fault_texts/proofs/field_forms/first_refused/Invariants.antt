@@ -1,6 +1,6 @@
 use Rattle.std.proofs.Common.{◌≡◌, ◌+◌, ◌≤◌, length, drop, Err}
-use Rattle.process_model.specs.Fields.{kinds_for, values_of}
-use Rattle.process_model.specs.Lines.{fields_of}
+use Rattle.script_language.specs.Fields.{kinds_for, values_of}
+use Rattle.script_language.specs.Lines.{fields_of}
 use Rattle.script_reader.specs.Rows.{seen}
 use Rattle.fault_texts.specs.Causes.{OfField}
 use Rattle.fault_texts.specs.Columns.{IsEndOf}

@@ -1,5 +1,5 @@
 use Rattle.std.specs.Prelude.{IfSome, IsSome}
-use Rattle.process_model.specs.Fields.{command_table, row_among}
+use Rattle.script_language.specs.Fields.{command_table, row_among}
 use Rattle.fault_texts.proofs.near_words.nearest_word.Given as goal
 
 -- the nearest of the rows so far is a word

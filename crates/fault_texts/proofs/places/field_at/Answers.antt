@@ -1,6 +1,6 @@
 use Rattle.std.proofs.Common.{rules, ◌≡◌, ◌∙◌, ap, sym, None, Some, arith}
 use Rattle.std.specs.Prelude.{slice_get}
-use Rattle.process_model.specs.Lines.{fields_of}
+use Rattle.script_language.specs.Lines.{fields_of}
 use Rattle.fault_texts.proofs.Drops.{none_there, some_there, left_after}
 use Rattle.fault_texts.proofs.Ends.{end_after, end_of_end}
 use Rattle.fault_texts.proofs.places.field_at.Goals as goal

@@ -1,5 +1,5 @@
 use Rattle.std.proofs.Common.{◌≡◌, drop}
-use Rattle.process_model.specs.Lines.{fields_of}
+use Rattle.script_language.specs.Lines.{fields_of}
 use Rattle.fault_texts.specs.Columns.{IsEndOf}
 use Rattle.fault_texts.proofs.places.field_at.Given as goal
 

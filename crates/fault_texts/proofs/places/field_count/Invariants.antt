@@ -1,5 +1,5 @@
 use Rattle.std.proofs.Common.{◌≡◌, ◌+◌, ◌≤◌, length}
-use Rattle.process_model.specs.Lines.{fields_of}
+use Rattle.script_language.specs.Lines.{fields_of}
 use Rattle.fault_texts.proofs.places.field_count.Given as goal
 
 -- the fields so far are counted

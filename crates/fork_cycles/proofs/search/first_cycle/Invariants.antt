@@ -1,5 +1,5 @@
 use Rattle.std.proofs.Common.{ℕ, ◌<◌, get_or}
-use Rattle.process_model.specs.declared.call.ListedStart.{ListedStart}
+use Rattle.script_language.specs.declared.declarations.ListedStart.{ListedStart}
 use Rattle.fork_cycles.specs.Forks.{Ends}
 use Rattle.fork_cycles.specs.Search.{IsMarked}
 use Rattle.fork_cycles.proofs.search.first_cycle.Given as goal

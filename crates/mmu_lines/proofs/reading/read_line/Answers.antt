@@ -1,5 +1,5 @@
 use Rattle.std.proofs.Common.{rules, ◌≡◌, Some, Err, ap, sym, ◌∙◌, slice_get, arith}
-use Rattle.process_model.specs.Lines.{fields_of}
+use Rattle.script_language.specs.Lines.{fields_of}
 use Rattle.mmu_lines.specs.Lines.{word_text}
 use Rattle.mmu_lines.proofs.NoRequests.{if_mistake, makes_none, miscounted, weaker}
 use Rattle.mmu_lines.proofs.reading.read_line.Goals as goal

@@ -1,7 +1,7 @@
 use Rattle.std.proofs.Common.{◌∙◌, ap, arith, sym}
 use Rattle.std.proofs.lemmas.Bool.{le-leb}
-use Rattle.process_model.specs.Lines.{fields_of}
-use Rattle.process_model.specs.Script.{longest_line}
+use Rattle.script_language.specs.Lines.{fields_of}
+use Rattle.script_language.specs.Script.{longest_line}
 use Rattle.script_reader.proofs.FastLineSteps.{line_added}
 use Rattle.script_reader.proofs.WordPrefixes.{word_cut}
 use Rattle.script_reader.specs.FastWords.{letters}

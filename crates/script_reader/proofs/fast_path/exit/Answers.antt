@@ -1,7 +1,7 @@
 use Rattle.std.proofs.Common.{◌≡◌, ◌<◌, ◌^◌, ℤ, pos, of_z, subst, sym, to_z, w32, ap, ◌∙◌, arith}
 use Rattle.std.proofs.lemmas.Int.{to_z-of_z}
 use Rattle.std.specs.Prelude.{codes}
-use Rattle.process_model.specs.declared.script.Command.TheVariants as command
+use Rattle.script_language.specs.declared.script.Command.TheVariants as command
 use Rattle.process_model.specs.declared.step.Step.TheVariants as step
 use Rattle.script_reader.proofs.FastLineSteps.{says_exit}
 use Rattle.script_reader.proofs.fast_path.exit.Goals as goal

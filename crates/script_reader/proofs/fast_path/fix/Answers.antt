@@ -1,10 +1,10 @@
 use Rattle.std.proofs.Common.{[], ◌∷◌, refl}
 use Rattle.std.specs.Prelude.{codes}
-use Rattle.process_model.specs.Fields.{row, one_number}
-use Rattle.process_model.specs.declared.script.Command.TheVariants as command
-use Rattle.process_model.specs.declared.script.FieldValue.TheVariants as value
-use Rattle.process_model.specs.declared.script.Keyword.TheVariants as word
-use Rattle.process_model.specs.declared.script.Tail.TheVariants as tail
+use Rattle.script_language.specs.Fields.{row, one_number}
+use Rattle.script_language.specs.declared.script.Command.TheVariants as command
+use Rattle.script_language.specs.declared.script.FieldValue.TheVariants as value
+use Rattle.script_language.specs.declared.script.Keyword.TheVariants as word
+use Rattle.script_language.specs.declared.script.Tail.TheVariants as tail
 use Rattle.script_reader.proofs.FastLineSteps.{says}
 use Rattle.script_reader.proofs.fast_path.fix.Goals as goal
 

@@ -1,6 +1,6 @@
 use Rattle.std.proofs.Common.{◌≡◌, ◌++◌}
 use Rattle.std.specs.Vec.Iter.{into_iter_items}
-use Rattle.process_model.specs.Script.{segments_in}
+use Rattle.script_language.specs.Script.{segments_in}
 use Rattle.script_reader.proofs.field_access.take_segments.Given as goal
 
 abbrev pub invariant-loop-value : goal.invariant-loop-value

@@ -1,5 +1,5 @@
 use Rattle.std.proofs.Common.{ap, ◌∙◌, refl, arith}
-use Rattle.process_model.specs.Numbers.{pairs_of}
+use Rattle.script_language.specs.Numbers.{pairs_of}
 use Rattle.script_reader.proofs.Digits.{said_digit}
 use Rattle.script_reader.proofs.Pairs.{four_first}
 use Rattle.script_reader.proofs.hex.four_bytes.Goals as goal

@@ -1,6 +1,6 @@
 use Rattle.std.proofs.Common.{arith, sym, ap, ◌∙◌}
 use Rattle.script_reader.proofs.Pairs.{onto, onto-four, onto-then}
-use Rattle.process_model.specs.Numbers.{pairs_of}
+use Rattle.script_language.specs.Numbers.{pairs_of}
 use Rattle.script_reader.proofs.hex.pairs.Goals as goal
 
 pub fours-preserved : goal.fours-preserved

@@ -1,6 +1,6 @@
 use Rattle.std.proofs.Common.{◌≡◌, ◌+◌, ◌/◌, ◌≤◌, length}
 use Rattle.std.specs.Prelude.{vec_capacity, vec_len}
-use Rattle.process_model.specs.Numbers.{pairs_of}
+use Rattle.script_language.specs.Numbers.{pairs_of}
 use Rattle.script_reader.proofs.Pairs.{onto}
 use Rattle.script_reader.proofs.hex.pairs.Given as goal
 

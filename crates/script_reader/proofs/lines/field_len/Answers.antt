@@ -4,7 +4,7 @@ use Rattle.std.specs.Option.{unwrap_or}
 use Rattle.std.proofs.lemmas.List.Sums.{prefix_len_is}
 use Rattle.std.proofs.lemmas.Bool.{not_from_false, not_from_true, false_from_ne_true}
 use Rattle.memchr.specs.Find.{IsFirstByte, is_byte2}
-use Rattle.process_model.specs.Lines.{is_blank}
+use Rattle.script_language.specs.Lines.{is_blank}
 use Rattle.script_reader.proofs.lines.field_len.Goals as goal
 
 first_is : (text : List ℕ) (r : Option ℕ) → IsFirstByte (is_byte2 32 9) text r → unwrap_or r (length text) ≡ position_or_len is_blank text

@@ -2,7 +2,7 @@ use Rattle.std.proofs.Common.{◌≡◌, ◌+◌, ◌-◌, ◌<◌, ℕ, [], ◌
 use Rattle.std.proofs.lemmas.Bool.{eqb-true, eqb-false}
 use Rattle.std.proofs.lemmas.List.{nil_from_length}
 use Rattle.std.proofs.lemmas.List.Sums.{prefix_len-le-length}
-use Rattle.process_model.specs.Lines as words
+use Rattle.script_language.specs.Lines as words
 use Rattle.script_reader.proofs.Cutting.{blanks_first, field_cut}
 use Rattle.script_reader.proofs.lines.first_field.Goals as goal
 

@@ -2,7 +2,7 @@ use Rattle.std.proofs.Common.{◌≡◌, ◌∷◌, ◌+◌, ◌-◌, ℕ, [], l
 use Rattle.std.specs.List.{position_or_len}
 use Rattle.std.proofs.lemmas.List.Sums.{prefix_len-le-length}
 use Rattle.std.proofs.lemmas.List.{nil_from_length, drop_all, take_all, length-drop, drop-drop}
-use Rattle.process_model.specs.Lines as words
+use Rattle.script_language.specs.Lines as words
 use Rattle.script_reader.proofs.Cutting.{line_first}
 use Rattle.script_reader.proofs.lines.first_line.Goals as goal
 

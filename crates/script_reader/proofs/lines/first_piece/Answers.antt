@@ -1,7 +1,7 @@
 use Rattle.std.proofs.Common.{◌≡◌, ◌∷◌, ◌-◌, ℕ, List, [], length, take, drop, not, sym, ap, subst, ◌∙◌, arith}
 use Rattle.std.proofs.lemmas.List.{nil_from_length, take_all, length-drop}
 use Rattle.std.proofs.lemmas.List.Sums.{prefix_len-le-length}
-use Rattle.process_model.specs.Lines as words
+use Rattle.script_language.specs.Lines as words
 use Rattle.script_reader.proofs.Colons.{pieces_after, piece_first, behind_colon}
 use Rattle.script_reader.proofs.lines.first_piece.Goals as goal
 

@@ -1,5 +1,5 @@
 use Rattle.std.proofs.Common.{◌≡◌, length}
-use Rattle.process_model.specs.Lines.{fields_of}
+use Rattle.script_language.specs.Lines.{fields_of}
 use Rattle.script_reader.proofs.number_prefixes.skip_blanks.Given as goal
 
 abbrev pub invariant-blanks : goal.invariant-blanks

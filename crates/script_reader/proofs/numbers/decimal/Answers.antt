@@ -1,5 +1,5 @@
 use Rattle.std.proofs.Common.{ℕ, ◌≤◌, ◌*◌, ◌+◌, ◌^◌, sym, ◌∙◌, get_or, arith}
-use Rattle.process_model.specs.Numbers.{digit_of}
+use Rattle.script_language.specs.Numbers.{digit_of}
 use Rattle.script_reader.proofs.Digits.{stops, whole, over_product, over_sum, over_digit}
 use Rattle.script_reader.proofs.numbers.decimal.Goals as goal
 

@@ -1,5 +1,5 @@
 use Rattle.std.proofs.Common.{◌≡◌, ◌^◌, ◌<◌, Some, drop}
-use Rattle.process_model.specs.Numbers.{digits_from, digits_in, if_below}
+use Rattle.script_language.specs.Numbers.{digits_from, digits_in, if_below}
 use Rattle.script_reader.proofs.numbers.hexadecimal.Given as goal
 
 abbrev pub invariant-loop-byte : goal.invariant-loop-byte

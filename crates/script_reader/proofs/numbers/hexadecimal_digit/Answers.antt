@@ -1,5 +1,5 @@
 use Rattle.std.proofs.Common.{ℕ, ◌≡◌, ◌<◌, ◌≤◌, refl, ap, ◌∙◌, Some, None, Option, arith}
-use Rattle.process_model.specs.Numbers.{digit_of}
+use Rattle.script_language.specs.Numbers.{digit_of}
 use Rattle.script_reader.specs.Digits.{value_or_255}
 use Rattle.script_reader.proofs.Digits.{is_small}
 use Rattle.script_reader.proofs.numbers.hexadecimal_digit.Goals as goal

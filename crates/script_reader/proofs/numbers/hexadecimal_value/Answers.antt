@@ -1,7 +1,7 @@
 -- The table is held against the definition at each of the 256 bytes, by computing.
 use Rattle.std.proofs.Common.{◌≡◌, ℕ, zero, suc, ◌<◌, Bool, true, ◌&&◌, nat_eq, get_or, List, refl, arith, inl, inr}
 use Rattle.std.proofs.lemmas.Bool.{and_parts, cases_eq, eqb-true}
-use Rattle.process_model.specs.Numbers.{digit_of}
+use Rattle.script_language.specs.Numbers.{digit_of}
 use Rattle.script_reader.specs.Digits.{value_or_255}
 use Rattle.script_reader.specs.declared.numbers.TheConstants.{HEXADECIMAL_DIGITS}
 use Rattle.script_reader.proofs.numbers.hexadecimal_value.Goals as goal

@@ -3,7 +3,7 @@ use Rattle.std.specs.Prelude.{◌&&◌, nat_lt, slice_index}
 use Rattle.std.specs.Bool.{MatchBool}
 use Rattle.std.specs.Str.{IsAscii, IsNotAscii}
 use Rattle.std.proofs.lemmas.Bool.{le-ltb, lt-ltb}
-use Rattle.process_model.specs.Script.{is_ascii}
+use Rattle.script_language.specs.Script.{is_ascii}
 use Rattle.script_reader.proofs.read_line.is_ascii.Goals as goal
 
 below : (line : List ℕ) → IsAscii line → is_ascii line ≡ true

@@ -1,7 +1,7 @@
 use Rattle.std.proofs.Common.{refl, sym, ◌∙◌}
 use Rattle.std.proofs.lemmas.Bool.{eqb-true}
 use Rattle.std.proofs.lemmas.List.{nil_from_length}
-use Rattle.process_model.specs.Lines.{raw_lines}
+use Rattle.script_language.specs.Lines.{raw_lines}
 use Rattle.script_reader.proofs.ThreadsKept.{named_first, named_is}
 use Rattle.script_reader.proofs.thread_lines.lists_named.Goals as goal
 

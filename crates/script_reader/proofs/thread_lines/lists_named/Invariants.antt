@@ -1,7 +1,7 @@
 use Rattle.std.proofs.Common.{◌≡◌, ◌<◌, ◌||◌, ℕ, false, length, get_or}
 use Rattle.std.specs.List.{list_any}
-use Rattle.process_model.specs.Lines.{raw_lines}
-use Rattle.process_model.specs.ThreadScript.{begins_list, most_lists}
+use Rattle.script_language.specs.Lines.{raw_lines}
+use Rattle.script_language.specs.ThreadScript.{begins_list, most_lists}
 use Rattle.script_reader.proofs.thread_lines.lists_named.Given as goal
 
 abbrev pub invariant-lines : goal.invariant-lines

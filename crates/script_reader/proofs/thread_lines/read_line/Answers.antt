@@ -1,5 +1,5 @@
 use Rattle.std.proofs.lemmas.Result.{err_from_is_err_and}
-use Rattle.process_model.specs.ThreadScript.{item_line, line_of}
+use Rattle.script_language.specs.ThreadScript.{item_line, line_of}
 use Rattle.script_reader.proofs.Splitting.{err_said, none_said, item_err, item_said}
 use Rattle.script_reader.proofs.ThreadsKept.{has_its_room}
 use Rattle.script_reader.proofs.thread_lines.read_line.Goals as goal

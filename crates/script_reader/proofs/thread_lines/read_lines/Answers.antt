@@ -1,7 +1,7 @@
 use Rattle.std.proofs.Common.{◌∙◌, arith, refl, sym}
 use Rattle.std.proofs.lemmas.Result.{err_from_is_err_and}
-use Rattle.process_model.specs.Lines.{raw_lines}
-use Rattle.process_model.specs.ThreadScript.{line_of, with_item}
+use Rattle.script_language.specs.Lines.{raw_lines}
+use Rattle.script_language.specs.ThreadScript.{line_of, with_item}
 use Rattle.script_reader.proofs.AsciiLines.{ascii_lines}
 use Rattle.script_reader.proofs.Faults.{refused}
 use Rattle.script_reader.proofs.thread_lines.read_lines.Goals as goal

@@ -1,6 +1,6 @@
 use Rattle.std.proofs.Common.{◌≡◌, ◌+◌, ◌≤◌, Ok, length, true}
-use Rattle.process_model.specs.Lines.{raw_lines}
-use Rattle.process_model.specs.ThreadScript as words
+use Rattle.script_language.specs.Lines.{raw_lines}
+use Rattle.script_language.specs.ThreadScript as words
 use Rattle.script_reader.proofs.AsciiLines.{AreAscii}
 use Rattle.script_reader.proofs.thread_lines.read_lines.Given as goal
 

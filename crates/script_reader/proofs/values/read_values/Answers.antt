@@ -1,5 +1,5 @@
 use Rattle.std.proofs.Common.{◌≡◌, length, sym, ap, ◌∙◌, arith}
-use Rattle.process_model.specs.Lines.{fields_of}
+use Rattle.script_language.specs.Lines.{fields_of}
 use Rattle.script_reader.specs.ValueLists.{listed}
 use Rattle.script_reader.specs.Rows.{seen}
 use Rattle.script_reader.proofs.FieldKinds.{found, may_have, too_many, too_few, just_right}

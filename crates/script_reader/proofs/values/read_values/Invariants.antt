@@ -1,6 +1,6 @@
 use Rattle.std.proofs.Common.{◌≡◌, ◌+◌, ◌≤◌, length, drop, Ok, []}
-use Rattle.process_model.specs.Fields.{values_from}
-use Rattle.process_model.specs.Lines.{fields_of}
+use Rattle.script_language.specs.Fields.{values_from}
+use Rattle.script_language.specs.Lines.{fields_of}
 use Rattle.script_reader.specs.ValueLists.{listed}
 use Rattle.script_reader.specs.Rows.{seen}
 use Rattle.script_reader.proofs.FieldKinds.{MayHave}

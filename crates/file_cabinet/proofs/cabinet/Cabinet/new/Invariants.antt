@@ -1,5 +1,5 @@
 use Rattle.std.proofs.Common.{◌≡◌, map, take}
-use Rattle.process_model.specs.Script.{file_of}
+use Rattle.process_model.specs.Files.{file_of}
 use Rattle.file_cabinet.proofs.cabinet.Cabinet.new.Given as goal
 
 -- so many files are made

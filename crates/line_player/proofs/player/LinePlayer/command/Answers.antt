@@ -1,5 +1,5 @@
 use Rattle.std.proofs.Common.{sym, subst}
-use Rattle.process_model.specs.declared.image.OwnedImage.{OwnedImage}
+use Rattle.script_language.specs.declared.declarations.OwnedImage.{OwnedImage}
 use Rattle.std.proofs.Common.{List}
 use Rattle.script_reader.specs.Playable.{IsDeclared}
 use Rattle.line_player.proofs.player.LinePlayer.command.Goals as goal

@@ -1,5 +1,5 @@
 use Rattle.std.proofs.Common.{◌≡◌, ◌∙◌, ap, Option, Some, Ok}
-use Rattle.process_model.specs.declared.script.Item.{Item}
+use Rattle.script_language.specs.declared.script.Item.{Item}
 use Rattle.line_player.proofs.player.LinePlayer.take.Goals as goal
 
 pub boot-requires-clause-limits : goal.boot-requires-clause-limits

@@ -1,5 +1,5 @@
 use Rattle.std.proofs.Common.{◌∙◌, arith, refl, sym}
-use Rattle.process_model.specs.Lines.{raw_lines}
+use Rattle.script_language.specs.Lines.{raw_lines}
 use Rattle.script_reader.proofs.AsciiLines.{ascii_lines}
 use Rattle.script_reader.proofs.Faults.{stopped}
 use Rattle.script_reader.proofs.line_reader.LineReader.add.Goals as goal

@@ -1,6 +1,6 @@
 use Rattle.std.proofs.Common.{◌≡◌, ◌+◌, ◌≤◌, length, true}
-use Rattle.process_model.specs.Lines.{raw_lines}
-use Rattle.process_model.specs.Script as words
+use Rattle.script_language.specs.Lines.{raw_lines}
+use Rattle.script_language.specs.Script as words
 use Rattle.script_reader.specs.Reading.{lines_read}
 use Rattle.script_reader.proofs.AsciiLines.{AreAscii}
 use Rattle.script_reader.proofs.line_reader.LineReader.add.Given as goal

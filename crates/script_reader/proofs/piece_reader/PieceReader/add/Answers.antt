@@ -1,6 +1,6 @@
 use Rattle.std.proofs.Common.{◌≡◌, ◌∙◌, ◌+◌, ◌≤◌, ◌++◌, List, ℕ, ap, arith, length, refl, subst, sym}
-use Rattle.process_model.specs.Lines.{raw_lines}
-use Rattle.process_model.specs.Script.{read_lines}
+use Rattle.script_language.specs.Lines.{raw_lines}
+use Rattle.script_language.specs.Script.{read_lines}
 use Rattle.script_reader.specs.Reading.{HasRead, lines_read}
 use Rattle.script_reader.proofs.Ends.{more_read}
 use Rattle.script_reader.proofs.piece_reader.PieceReader.add.Goals as goal

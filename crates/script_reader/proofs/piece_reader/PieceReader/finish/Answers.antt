@@ -1,6 +1,6 @@
 use Rattle.std.proofs.Common.{◌≡◌, ◌∙◌, subst, sym}
-use Rattle.process_model.specs.Lines.{raw_lines}
-use Rattle.process_model.specs.Script.{read_lines}
+use Rattle.script_language.specs.Lines.{raw_lines}
+use Rattle.script_language.specs.Script.{read_lines}
 use Rattle.script_reader.specs.Reading.{PieceReader, lines_read}
 use Rattle.script_reader.proofs.Ends.{all_read, faultless, faulty}
 use Rattle.script_reader.proofs.Playable.{answer_playable}

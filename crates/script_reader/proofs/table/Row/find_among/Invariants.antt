@@ -1,5 +1,5 @@
 use Rattle.std.proofs.Common.{◌≡◌, drop, map}
-use Rattle.process_model.specs.Fields.{row_among}
+use Rattle.script_language.specs.Fields.{row_among}
 use Rattle.script_reader.specs.Rows.{seen}
 use Rattle.script_reader.proofs.table.Row.find_among.Given as goal
 

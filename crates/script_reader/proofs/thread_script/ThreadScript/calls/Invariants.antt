@@ -1,5 +1,5 @@
 use Rattle.std.proofs.Common.{◌≡◌, drop}
-use Rattle.process_model.specs.ThreadScript.{calls_of}
+use Rattle.script_language.specs.ThreadScript.{calls_of}
 use Rattle.script_reader.proofs.thread_script.ThreadScript.calls.Given as goal
 
 abbrev pub invariant-loop-list : goal.invariant-loop-list

@@ -1,7 +1,7 @@
 use Rattle.std.proofs.Common.{arith}
 use Rattle.std.proofs.lemmas.Bool.{le-leb}
 use Rattle.std.proofs.lemmas.Result.{err_from_is_err_and}
-use Rattle.process_model.specs.ReadLines.{longest_script}
+use Rattle.script_language.specs.ReadLines.{longest_script}
 use Rattle.script_reader.proofs.ThreadsKept.{answer_playable, script_answers, script_refused}
 use Rattle.script_reader.proofs.thread_script.ThreadScript.read.Goals as goal
 

@@ -1,0 +1,9 @@
+pub mod Fields
+pub mod Lines
+pub mod Numbers
+pub mod ReadLines
+pub mod Script
+pub mod Text
+pub mod ThreadScript
+pub mod Threads
+pub mod Words
