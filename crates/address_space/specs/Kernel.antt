@@ -18,6 +18,7 @@ use Rattle.table_walk.specs.Tables.{HasTables, Tables, leaf_node, node, root_nod
 use Rattle.table_walk.specs.declared.walk.Walk.{Walk}
 use Rattle.table_walk.specs.declared.walk.Walk.TheVariants as walk
 use Rattle.address_space.specs.Agreement.{code_rights, data_rights}
+use Rattle.process_model.specs.declared.limits.TheConstants.{MOST_FRAMES, MOST_SLOTS}
 
 -- what is mapped
 
@@ -113,6 +114,6 @@ pub record MapsKernel (z : Scheme) (v : View) (root frames : ℕ) (stacks : List
 pub record IsKernelTable (z : Scheme) (v : View) (root frames slots : ℕ) (stacks : List ℕ) (t : Tables) : Type 0 where
   pub maps : MapsKernel z v root frames stacks t
   pub stacked : length stacks ≡ slots
-  pub few_frames : frames ≤ 1024
-  pub few_slots : slots ≤ 64
+  pub few_frames : frames ≤ MOST_FRAMES
+  pub few_slots : slots ≤ MOST_SLOTS
   pub credits : v.credits ≡ 0

@@ -16,7 +16,7 @@ ghost use Rattle.table_walk.specs.Tables.{Tables};
 
 use bitflags::Flags;
 use frame_store::{FrameAccess, FrameSeat, FrameSupply, NoFrame};
-use process_model::kernel_frames;
+use process_model::{FEWEST_FRAMES, MOST_FRAMES, MOST_SLOTS, kernel_frames};
 use sv39_entry::{Access, Entry, FrameNo, Mode, Rights, Scheme, Va};
 use table_walk::{HeldWords, Walk, map, new_table, one_outcome, translate, walks_of_tables};
 
@@ -49,10 +49,10 @@ impl<S: FrameSeat> KernelTable<S> {
     ) -> Result<KernelTable<S>, (NoFrame, S)>
         requires fits { IsSeatOf F.rule store.old seat }
         requires opening { HoldsTrampoline (S.view seat) }
-        requires some_frames { 16 ≤ frames }
-        requires few_frames { frames ≤ 1024 }
+        requires some_frames { FEWEST_FRAMES ≤ frames }
+        requires few_frames { frames ≤ MOST_FRAMES }
         requires some_slots { 1 ≤ slots }
-        requires few_slots { slots ≤ 64 }
+        requires few_slots { slots ≤ MOST_SLOTS }
         ensures built { IfOk result (λ k. (stacks : List ℕ) × (t : Tables) × IsKernelTable k.scheme (S.view k.seat) k.root.0 frames slots stacks t) }
         ensures scheme { IfOk result (λ k. k.scheme ≡ scheme) }
         ensures tallies { IfOk result (λ k. (S.view k.seat).tallies ≡ spent (model.kernel_frames scheme frames slots - 1) (S.view seat).tallies) }
@@ -108,7 +108,7 @@ impl<S: FrameSeat> KernelTable<S> {
 
 /// Returns how many frames the table takes: all frames of the kernel but frame 0, which its seat holds already.
 fn need(scheme: Scheme, frames: u16, slots: u16) -> usize
-    requires few { slots ≤ 64 }
+    requires few { slots ≤ MOST_SLOTS }
     ensures { result ≡ model.kernel_frames scheme frames slots - 1 }
 {
     kernel_frames(scheme, usize::from(frames), usize::from(slots)) - 1
@@ -162,7 +162,7 @@ fn map_stacks<F: FrameSupply>(
     slots: u16,
 )
     requires fits { IsSeatOf F.rule store.old seat.old }
-    requires few { slots ≤ 64 }
+    requires few { slots ≤ MOST_SLOTS }
     requires ready { (t : Tables) × MapsKernel scheme (F.Seat.view seat.old) root.0 0 [] t × (slots ≤ (F.Seat.view seat.old).credits) }
     ensures mapped { (t : Tables) → MapsKernel scheme (F.Seat.view seat.old) root.0 0 [] t → (stacks : List ℕ) × (u : Tables) × MapsKernel scheme (F.Seat.view seat.new) root.0 0 stacks u × (length stacks ≡ slots) }
     ensures spends { SpendsCredits (F.Seat.view seat.old) (F.Seat.view seat.new) slots }
@@ -191,7 +191,7 @@ fn map_frames<F: FrameSupply>(
     frames: u16,
 )
     requires fits { IsSeatOf F.rule store.old seat.old }
-    requires few { frames ≤ 1024 }
+    requires few { frames ≤ MOST_FRAMES }
     requires ready { (stacks : List ℕ) × (t : Tables) × MapsKernel scheme (F.Seat.view seat.old) root.0 0 stacks t × (direct_tables scheme frames ≤ (F.Seat.view seat.old).credits) }
     ensures mapped { (stacks : List ℕ) (t : Tables) → MapsKernel scheme (F.Seat.view seat.old) root.0 0 stacks t → (u : Tables) × MapsKernel scheme (F.Seat.view seat.new) root.0 frames stacks u }
     ensures spends { SpendsCredits (F.Seat.view seat.old) (F.Seat.view seat.new) (direct_tables scheme frames) }

@@ -18,16 +18,20 @@ use crate::part::Part;
 use crate::region::{Region, RegionKind, Source};
 use arrayvec::ArrayVec;
 use bitflags::Flags;
+use process_model::{MOST_MAPPINGS, MOST_SEGMENTS};
 use std::marker::Model;
 use sv39_entry::{Access, PAGE_SIZE, Rights, Rule, Scheme, Va};
+
+/// The most parts of a process: segments, guard and stack.
+const MOST_PARTS: usize = MOST_SEGMENTS + 2;
 
 /// The scheme of translation and the regions of a process: its parts (segments, guard and stack), at most 18; its mappings,
 /// at most 16; and the addresses at which the heap begins and ends.
 #[derive(Drop)]
 pub struct Layout {
     scheme: Scheme,
-    parts: ArrayVec<Region, 18>,
-    mappings: ArrayVec<Region, 16>,
+    parts: ArrayVec<Region, MOST_PARTS>,
+    mappings: ArrayVec<Region, MOST_MAPPINGS>,
     heap_base: u64,
     size: u64,
 }

@@ -13,12 +13,12 @@ ghost use Rattle.process_model.specs.World.{World, report};
 
 use file_cabinet::Cabinet;
 use hart_machine::Machine;
-use process_model::Report;
+use process_model::{LONGEST_COPY, Report};
 use script_language::{LONGEST_TEXT, put, put_bytes, put_decimal};
 
 /// Appends the length of a file, and the bytes of it that are shown.
 fn put_file(text: &mut Vec<u8>, length: usize, shown: &[u8])
-    requires few { list_length shown.now ≤ 256 }
+    requires few { list_length shown.now ≤ LONGEST_COPY }
     requires room { vec_len text.old + LONGEST_TEXT ≤ vec_capacity text.old }
     ensures text { text.new.items ≡ text.old.items ++ (codes "file " ++ decimal length ++ codes " " ++ bytes_text shown.now) }
     ensures len { vec_len text.new ≤ vec_len text.old + LONGEST_TEXT }

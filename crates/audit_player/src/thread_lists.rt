@@ -10,12 +10,9 @@ ghost use Rattle.audit_player.specs.ThreadLists.{AreCallsOf, AreFew, AreListsOf,
 
 use crate::commands::lend;
 use process_model::{Call, Sequence, Start};
-use script_language::{ListedCall, OwnedImage};
+use script_language::{ListedCall, MOST_LISTS, OwnedImage};
 use script_reader::ThreadScript;
 use std::alloc::{AllocError, Global};
-
-/// The number of lists of a run; the numbers of lists are below it.
-const MOST_LISTS: usize = 64;
 
 /// The call that a line declares, with the image or the bytes borrowed.
 fn lend_call<'a>(images: &'a [OwnedImage], call: &'a ListedCall) -> Call<'a>

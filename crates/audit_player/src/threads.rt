@@ -24,7 +24,7 @@ use file_cabinet::Cabinet;
 use file_shelf::Shelf;
 use hart_calls::Finished;
 use hart_threads::{Gate, OpenGate, RunFiles, RunShelf, run_harts_alone};
-use process_model::{Call, Sequence, Start, kernel_frames};
+use process_model::{Call, MOST_HARTS, Sequence, Start, kernel_frames};
 use script_reader::ThreadScript;
 use shared_frames::SharedFrames;
 use std::alloc::{AllocError, Global};
@@ -62,7 +62,7 @@ pub fn run_pool<'a, T: Threads + Wait + Sync, G: Gate + Sync>(
     requires there { NameLists lists.now }
     requires starts { All (λ start. start.list < most_lists) starts.now }
     requires some { 1 ≤ harts }
-    requires few { harts ≤ 8 }
+    requires few { harts ≤ MOST_HARTS }
     ensures ended { IfOk result (λ r. (table : TableId) × ComesBack table (map file_of script.now.files) lists.entry.now starts.now r.0.items) }
     ensures refusals { IfOk result (λ r. ArePoolStarts script.now.pool.slots (user_frames script.now.pool) starts.now r.0.items) }
     ensures free { IfOk result (λ r. LeavesFree script.now.pool r.1) }
@@ -89,7 +89,7 @@ fn run_files<'a, W: RunFiles + Send + Sync, T: Threads + Wait + Sync, G: Gate + 
     requires there { NameLists lists.now }
     requires starts { All (λ start. start.list < most_lists) starts.now }
     requires some { 1 ≤ harts }
-    requires few { harts ≤ 8 }
+    requires few { harts ≤ MOST_HARTS }
     ensures ended { IfOk result (λ r. (table : TableId) × ComesBack table (map file_of script.now.files) lists.entry.now starts.now r.0.items) }
     ensures refusals { IfOk result (λ r. ArePoolStarts script.now.pool.slots (user_frames script.now.pool) starts.now r.0.items) }
     ensures free { IfOk result (λ r. LeavesFree script.now.pool r.1) }
@@ -124,7 +124,7 @@ fn run_threads<T: Threads + Wait + Sync, W: Sink, G: Gate + Sync>(
 ) -> Result<(), PlayError>
     requires playable { IsThreadPlayable script.now }
     requires some { 1 ≤ harts }
-    requires few { harts ≤ 8 }
+    requires few { harts ≤ MOST_HARTS }
     ensures plays { PlaysLists (W.contents writer.old) (W.contents writer.new) result (Ok script.now) }
     ensures io { W.broken writer.old ≡ false → (IsErrOf result PlayError.Io ↔ IsTrue (W.broken writer.new)) }
 {
@@ -175,7 +175,7 @@ pub fn play_threads<T: Threads + Wait + Sync, R: Source, W: Sink>(
     harts: usize,
 ) -> Result<(), PlayError>
     requires some { 1 ≤ harts }
-    requires few { harts ≤ 8 }
+    requires few { harts ≤ MOST_HARTS }
     ensures plays { PlaysThreads (R.remaining reader.old) (W.contents writer.old) (W.contents writer.new) result }
     ensures io { R.broken reader.old ≡ false → W.broken writer.old ≡ false
         → (IsErrOf result PlayError.Io ↔ IsTrue (R.broken reader.new || W.broken writer.new)) }
@@ -199,7 +199,7 @@ pub fn play_threads_with<T: Threads + Wait + Sync, R: Source, W: Sink, G: Gate +
     gate: &G,
 ) -> Result<(), PlayError>
     requires some { 1 ≤ harts }
-    requires few { harts ≤ 8 }
+    requires few { harts ≤ MOST_HARTS }
     ensures plays { PlaysThreads (R.remaining reader.old) (W.contents writer.old) (W.contents writer.new) result }
     ensures io { R.broken reader.old ≡ false → W.broken writer.old ≡ false
         → (IsErrOf result PlayError.Io ↔ IsTrue (R.broken reader.new || W.broken writer.new)) }

@@ -10,7 +10,8 @@ ghost use Rattle.audit_player.specs.declared.transfer.ReadError.TheVariants as e
 
 use crate::sink::Sink;
 use crate::source::Source;
-use script_reader::{LONGEST_SCRIPT, PieceReader};
+use script_language::LONGEST_SCRIPT;
+use script_reader::PieceReader;
 use std::alloc::{AllocError, Global};
 
 /// Why a source was not read to its end.

@@ -8,6 +8,7 @@ use Rattle.sv39_entry.specs.Schemes.{page_limit, top_level, trampoline_page, tra
 use Rattle.sv39_entry.specs.declared.scheme.Scheme.{Scheme}
 use Rattle.table_walk.specs.Tables.{HasTables, leaf_node, node, Tables}
 use Rattle.cow_fork.specs.Occurrences.{times}
+use Rattle.process_model.specs.declared.limits.TheConstants.{MOST_FRAMES}
 
 -- each table is on the way to a leaf: it is d levels below the root for a page n that has one
 abbrev pub IsLed : Scheme → Tables → Type 0
@@ -23,7 +24,7 @@ pub record IsEdged (z : Scheme) (t : Tables) (end : ℕ) : Type 0 where
 -- tables can be added to the list: it has each frame at most once, only numbers below 1,024, and no frame of a table
 pub record CanList (t : Tables) (L : List ℕ) : Type 0 where
   pub once : (f : ℕ) → times f L ≤ 1
-  pub low : (f : ℕ) → 0 < times f L → f < 1024
+  pub low : (f : ℕ) → 0 < times f L → f < MOST_FRAMES
   pub other : (k f : ℕ) → get t.tables k ≡ Some f → times f L ≡ 0
 
 -- list M has the frame of each table exactly once, and every other number as often as list L

@@ -26,7 +26,7 @@ use address_space::{SettledPage, Space};
 use arrayvec::ArrayVec;
 use frame_bytes::fill_frame;
 use frame_store::{FrameSeat, FrameSupply, NoFrame, SharersFull};
-use process_model::Refusal;
+use process_model::{MOST_FRAMES, Refusal};
 use sv39_entry::FrameNo;
 
 /// Why a fork was refused.
@@ -209,13 +209,13 @@ fn prepare<S: FrameSeat, F: FrameSupply<Seat = S>>(
     store: &mut F,
     settled: &[SettledPage],
     need: usize,
-    frames: &mut ArrayVec<FrameNo, 1024>,
+    frames: &mut ArrayVec<FrameNo, MOST_FRAMES>,
 ) -> Result<(), ForkError>
     requires fits { IsSeatOf F.rule store.old space.old.seat }
     requires anchored { IsAnchored (S.view space.old.seat) }
     requires once { (f : ℕ) → times f (0 ∷ frames_of settled.now) ≤ 1 }
     requires held { (f : ℕ) → 0 < times f (0 ∷ frames_of settled.now) → IsHeld (S.view space.old.seat) f }
-    requires few { length settled.now < 1024 }
+    requires few { length settled.now < MOST_FRAMES }
     requires empty { frames.old.items ≡ [] }
     requires credits { (S.view space.old.seat).credits ≡ 0 }
     ensures prepared { IfOk result (λ _. Prepares (S.view space.old.seat) (S.view space.new.seat) need (map (λ f. f.0) frames.new.items) (0 ∷ frames_of settled.now)) }
@@ -244,7 +244,7 @@ fn divide<S: FrameSeat, F: FrameSupply<Seat = S>>(
     space: &mut Space<S>,
     store: &mut F,
     settled: &[SettledPage],
-    frames: &mut ArrayVec<FrameNo, 1024>,
+    frames: &mut ArrayVec<FrameNo, MOST_FRAMES>,
 ) -> Child<S>
     requires fits { IsSeatOf F.rule store.old space.old.seat }
     requires ready { (v : View) × (t : Tables) × (p : Process) × CanDivide v (body_of S.view space.old) t p settled.now (map (λ f. f.0) frames.old.items) }
@@ -272,7 +272,7 @@ fn build_child<S: FrameSeat, F: FrameSupply<Seat = S>>(
     space: &mut Space<S>,
     store: &mut F,
     settled: &[SettledPage],
-    frames: &mut ArrayVec<FrameNo, 1024>,
+    frames: &mut ArrayVec<FrameNo, MOST_FRAMES>,
 ) -> (FrameNo, FrameNo)
     requires fits { IsSeatOf F.rule store.old space.old.seat }
     requires ready { (v : View) × (t : Tables) × (p : Process) × CanDivide v (body_of S.view space.old) t p settled.now (map (λ f. f.0) frames.old.items) }

@@ -10,11 +10,12 @@ ghost use Rattle.sv39_entry.specs.Schemes.{trampoline_page, trapframe_page};
 ghost use Rattle.table_walk.specs.Tables.{Tables};
 
 use address_space::SettledPage;
+use process_model::MOST_FRAMES;
 use sv39_entry::Scheme;
 
 /// The number of frames that a fork takes: the child's trapframe, and the page tables for the listed settled pages.
 pub(crate) fn fork_need(scheme: Scheme, settled: &[SettledPage]) -> usize
-    requires few { length settled.now < 1024 }
+    requires few { length settled.now < MOST_FRAMES }
     ensures need { (t : Tables) (p : Process) → p.scheme ≡ scheme → ((n : ℕ) (s : Page) → get p.settled n ≡ Some s → n < trapframe_page p.scheme) →
         AreSettled t p 0 (trapframe_page p.scheme) settled.now → result ≡ model.fork_need p }
 {
@@ -32,13 +33,13 @@ pub(crate) fn fork_need(scheme: Scheme, settled: &[SettledPage]) -> usize
 
 /// The number of page tables, each for `pages` pages, that the settled pages, TRAMPOLINE and TRAPFRAME need.
 fn table_count(scheme: Scheme, settled: &[SettledPage], pages: u64) -> usize
-    requires few { length settled.now < 1024 }
+    requires few { length settled.now < MOST_FRAMES }
     requires some { 0 < pages }
     requires top { trampoline_page scheme / pages ≡ trapframe_page scheme / pages }
     ensures count { (t : Tables) (p : Process) → p.scheme ≡ scheme → ((n : ℕ) (s : Page) → get p.settled n ≡ Some s → n < trapframe_page p.scheme) →
         AreSettled t p 0 (trapframe_page p.scheme) settled.now →
         result ≡ count (numbers (map (λ n. n / pages) (trampoline_page p.scheme ∷ trapframe_page p.scheme ∷ keys p.settled))) }
-    ensures few { result ≤ 1024 }
+    ensures few { result ≤ MOST_FRAMES }
 {
     let mut count = 0;
     let mut table = 0;

@@ -12,13 +12,14 @@ ghost use Rattle.table_walk.specs.Tables.{Tables};
 use address_space::{SettledPage, Space};
 use arrayvec::ArrayVec;
 use frame_store::{FrameAccess, FrameSeat};
+use process_model::MOST_FRAMES;
 use std::marker::Model;
 
 /// A list of settled pages (those in memory) that each call of `settled_pages` fills anew, for one process after another.
 /// Contracts do not see what is in it.
 #[derive(Drop)]
 pub struct PageList {
-    pages: ArrayVec<SettledPage, 1024>,
+    pages: ArrayVec<SettledPage, MOST_FRAMES>,
 }
 
 impl Model for PageList {
@@ -64,7 +65,7 @@ impl PageList {
 fn list_settled<S: FrameSeat, F: FrameAccess<Seat = S>>(
     space: &mut Space<S>,
     store: &mut F,
-    pages: &mut ArrayVec<SettledPage, 1024>,
+    pages: &mut ArrayVec<SettledPage, MOST_FRAMES>,
 )
     requires fits { IsSeatOf F.rule store.old space.old.seat }
     requires ready { (t : Tables) × (p : Process) × IsSpace (body_of S.view space.old) t p }

@@ -11,6 +11,7 @@ ghost use Rattle.frame_store.specs.View.{counted, hold_of, IsHeld, read_full, sh
 use address_space::{SettledPage, Space, TRAMPOLINE_FRAME};
 use arrayvec::ArrayVec;
 use frame_store::{FrameAccess, FrameSeat, FrameSupply, SharersFull};
+use process_model::MOST_FRAMES;
 use sv39_entry::FrameNo;
 
 /// Takes one more reference of frame 0 and of the frame of each settled page, and lists these frames in `frames`.
@@ -22,13 +23,13 @@ pub(crate) fn share_frames<S: FrameSeat, F: FrameSupply<Seat = S>>(
     space: &mut Space<S>,
     store: &mut F,
     settled: &[SettledPage],
-    frames: &mut ArrayVec<FrameNo, 1024>,
+    frames: &mut ArrayVec<FrameNo, MOST_FRAMES>,
 ) -> Result<(), SharersFull>
     requires fits { IsSeatOf F.rule store.old space.old.seat }
     requires anchored { IsAnchored (S.view space.old.seat) }
     requires once { (f : ℕ) → times f (0 ∷ frames_of settled.now) ≤ 1 }
     requires held { (f : ℕ) → 0 < times f (0 ∷ frames_of settled.now) → IsHeld (S.view space.old.seat) f }
-    requires few { length settled.now < 1024 }
+    requires few { length settled.now < MOST_FRAMES }
     requires empty { frames.old.items ≡ [] }
     ensures more { HasMore (S.view space.old.seat) (S.view space.new.seat) (map (λ f. f.0) frames.new.items) }
     ensures all { IfOk result (λ _. map (λ f. f.0) frames.new.items ≡ 0 ∷ frames_of settled.now) }
@@ -58,11 +59,11 @@ fn share_frame<S: FrameSeat, F: FrameSupply<Seat = S>>(
     space: &mut Space<S>,
     store: &mut F,
     frame: FrameNo,
-    frames: &mut ArrayVec<FrameNo, 1024>,
+    frames: &mut ArrayVec<FrameNo, MOST_FRAMES>,
 ) -> Result<(), SharersFull>
     requires fits { IsSeatOf F.rule store.old space.old.seat }
     requires held { IsHeld (S.view space.old.seat) frame.0 }
-    requires room { length frames.old.items < 1024 }
+    requires room { length frames.old.items < MOST_FRAMES }
     ensures shared { IfOk result (λ _. S.view space.new.seat ≡ shared frame.0 (S.view space.old.seat)) }
     ensures listed { IfOk result (λ _. frames.new.items ≡ frames.old.items ++ frame ∷ []) }
     ensures full { IfErr result (λ _. S.view space.new.seat ≡ read_full (S.view space.old.seat)) }

@@ -11,6 +11,7 @@ ghost use Rattle.table_walk.specs.Tables.{HasTables, Tables};
 
 use arrayvec::ArrayVec;
 use frame_store::{FrameAccess, FrameSeat};
+use process_model::MOST_FRAMES;
 use sv39_entry::{FrameNo, Scheme, Vpn};
 use table_walk::{next_leaf_before, table_at};
 
@@ -23,7 +24,7 @@ pub(crate) fn list_tables<S: FrameSeat, F: FrameAccess<Seat = S>>(
     scheme: Scheme,
     root: FrameNo,
     end: u64,
-    frames: &mut ArrayVec<FrameNo, 1024>,
+    frames: &mut ArrayVec<FrameNo, MOST_FRAMES>,
 )
     requires fits { IsSeatOf F.rule store.old seat.old }
     requires ready { (t : Tables) × HasTables scheme (S.view seat.old) root.0 t × IsLed scheme t × CanList t (map (λ f. f.0) frames.old.items) × IsEdged scheme t end }
@@ -52,7 +53,7 @@ fn list_level<S: FrameSeat, F: FrameAccess<Seat = S>>(
     end: u64,
     depth: u32,
     pages: u64,
-    frames: &mut ArrayVec<FrameNo, 1024>,
+    frames: &mut ArrayVec<FrameNo, MOST_FRAMES>,
 )
     requires fits { IsSeatOf F.rule store.old seat.old }
     requires deep { depth ≤ top_level scheme }

@@ -14,6 +14,7 @@ use Rattle.sv39_entry.specs.declared.scheme.Scheme.{Scheme}
 use Rattle.address_space.specs.Layouts.{region_kind}
 use Rattle.address_space.specs.declared.region.RegionKind.{RegionKind}
 use Rattle.exec_segments.specs.declared.load.Load.{Load}
+use Rattle.process_model.specs.declared.limits.TheConstants.{MOST_SEGMENTS}
 
 -- the model's segment for one of the code
 abbrev pub load_of : Load → LoadSegment
@@ -51,7 +52,7 @@ AreInOrder z end (l ∷ ls) = IsLoad z end l × AreInOrder z (end_page l) ls
 
 -- at most 16 segments passed their checks so far, and page `end` follows the last of them (0 if there is none)
 pub record AreJudged (z : Scheme) (ls : List LoadSegment) (end : ℕ) : Type 0 where
-  pub few : length ls ≤ 16
+  pub few : length ls ≤ MOST_SEGMENTS
   pub in_order : AreInOrder z 0 ls
   pub last : end_of_loads 0 ls ≡ end
 
@@ -63,7 +64,7 @@ loads_after (Err e) after = Err e
 -- the segments of an accepted image: 1 to 16, in order
 pub record AreLoads (z : Scheme) (ls : List LoadSegment) : Type 0 where
   pub some : 1 ≤ length ls
-  pub few : length ls ≤ 16
+  pub few : length ls ≤ MOST_SEGMENTS
   pub in_order : AreInOrder z 0 ls
 
 -- segments that passed their checks, and the scheme of the address space for which they were checked

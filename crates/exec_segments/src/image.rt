@@ -9,7 +9,7 @@ use crate::elf::read_image;
 use crate::image_builder::ImageBuilder;
 use crate::load::Load;
 use arrayvec::ArrayVec;
-use process_model::{BadImage, Segment};
+use process_model::{BadImage, MOST_SEGMENTS, Segment};
 use std::marker::Model;
 use sv39_entry::Scheme;
 
@@ -18,7 +18,7 @@ use sv39_entry::Scheme;
 #[derive(Drop)]
 pub struct Image<'a> {
     pub(crate) scheme: Scheme,
-    pub(crate) loads: ArrayVec<Load<'a>, 16>,
+    pub(crate) loads: ArrayVec<Load<'a>, MOST_SEGMENTS>,
 }
 
 impl<'a> Model for Image<'a> {

@@ -8,7 +8,7 @@ ghost use Rattle.process_model.specs.Images as model;
 use crate::image::Image;
 use crate::load::Load;
 use arrayvec::ArrayVec;
-use process_model::BadImage;
+use process_model::{BadImage, MOST_SEGMENTS};
 use std::marker::Model;
 use sv39_entry::Scheme;
 
@@ -17,7 +17,7 @@ use sv39_entry::Scheme;
 #[derive(Drop)]
 pub(crate) struct ImageBuilder<'a> {
     pub(crate) scheme: Scheme,
-    pub(crate) loads: ArrayVec<Load<'a>, 16>,
+    pub(crate) loads: ArrayVec<Load<'a>, MOST_SEGMENTS>,
     pub(crate) end: u64,
 }
 

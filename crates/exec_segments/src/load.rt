@@ -6,7 +6,7 @@ ghost use Rattle.exec_segments.specs.Loads.{load_of, segment_load};
 ghost use Rattle.process_model.specs.Images as model;
 ghost use Rattle.process_model.specs.Images.{LoadSegment};
 
-use process_model::{BadImage, Segment};
+use process_model::{BadImage, MOST_SEGMENTS, Segment};
 use sv39_entry::{PAGE_SIZE, Scheme};
 
 /// Number of pages of the guard, which follows the last segment (the xv6 book, "Code: exec").
@@ -107,7 +107,7 @@ impl<'a> Load<'a> {
         if self.address / PAGE_SIZE < end {
             return Some(BadImage::Order);
         }
-        if count >= 16 {
+        if count >= MOST_SEGMENTS {
             return Some(BadImage::TooMany);
         }
         None

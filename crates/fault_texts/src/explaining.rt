@@ -18,8 +18,8 @@ use crate::mistake::Mistake;
 use crate::near_words::unknown_word;
 use crate::places::Place;
 use crate::quoting::quoted;
-use script_language::{Cause, Keyword};
-use script_reader::{Draft, LONGEST_LINE, LONGEST_SCRIPT, Row, first_field};
+use script_language::{Cause, Keyword, LONGEST_LINE, LONGEST_SCRIPT};
+use script_reader::{Draft, Row, first_field};
 use std::alloc::{AllocError, Global};
 
 /// What is wrong with a line that is too long.

@@ -9,12 +9,9 @@ use exec_segments::{
     FILE_HEADER, FaultySegment, GUARD_PAGES, LONGEST_IMAGE, PROGRAM_HEADER, STACK_PAGES,
     image_fault,
 };
-use process_model::{BadImage, Image};
+use process_model::{BadImage, Image, MOST_SEGMENTS};
 use std::alloc::{AllocError, Global};
 use sv39_entry::{PAGE_SIZE, Scheme};
-
-/// The most segments with pages that an image may have.
-const MOST_SEGMENTS: usize = 16;
 
 /// What a segment and its numbers are called.
 #[derive(Clone, Copy)]

@@ -14,22 +14,15 @@ ghost use Rattle.fault_texts.specs.Mistakes.{IsOfLine};
 
 use crate::mistake::Mistake;
 use crate::places::field_at;
-use process_model::{Config, LONGEST_COPY, is_width, kernel_frames};
-use script_language::{Cause, Command, FieldValue, Item, Keyword};
+use process_model::{
+    Config, FEWEST_FRAMES, LONGEST_COPY, LONGEST_FILE, MOST_FILES, MOST_FRAMES, MOST_HARTS,
+    MOST_SLOTS, is_width, kernel_frames,
+};
+use script_language::{Cause, Command, FieldValue, Item, Keyword, MOST_COMMANDS, MOST_IMAGES};
 use script_reader::{
-    Draft, LONGEST_FILE, MOST_COMMANDS, MOST_FILES, MOST_IMAGES, Row, index_at, number_at,
-    policy_at, read_values, scheme_at, signed_at,
+    Draft, Row, index_at, number_at, policy_at, read_values, scheme_at, signed_at,
 };
 use std::alloc::{AllocError, Global};
-
-/// The most harts, the fewest and the most frames, and the most slots of a machine; it has at least one hart and one slot.
-const MOST_HARTS: usize = 8;
-
-const FEWEST_FRAMES: usize = 16;
-
-const MOST_FRAMES: usize = 1024;
-
-const MOST_SLOTS: usize = 64;
 
 /// A value that is outside its limits.
 #[derive(Drop)]
@@ -101,7 +94,7 @@ fn size_limits(
 
 /// Whether memory has the frames that the kernel takes at boot; the number of slots must be within its limits.
 fn frame_limits(alloc: Global, config: &Config) -> Result<Option<Outside>, AllocError>
-    requires { config.now.slots ≤ 64 }
+    requires { config.now.slots ≤ MOST_SLOTS }
     ensures { IfOk result (λ found. is_none found ≡ nat_le (kernel_frames config.now.scheme config.now.frames config.now.slots) config.now.frames) }
 {
     let (frames, slots) = (config.frames, config.slots);

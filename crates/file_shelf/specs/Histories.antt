@@ -4,6 +4,7 @@
 use Rattle.std.specs.Prelude.{◌≡◌, ℕ, Bool, true, false, List, [], ◌∷◌}
 use Rattle.process_model.specs.Files.{File, file_page}
 use Rattle.process_model.specs.PageMoves.{moved, page_read, page_write, PageMove}
+use Rattle.file_shelf.specs.declared.shelf.TheConstants.{MOST_USES}
 
 -- the model's move for an entry: a page write if the flag is true, otherwise a page read
 abbrev pub use_of : Bool → ℕ → ℕ → List ℕ → PageMove
@@ -12,7 +13,7 @@ use_of true file offset bytes = page_write file offset bytes
 
 -- the most entries that a history can have (own choice)
 abbrev pub most_uses : ℕ
-most_uses = 65536
+most_uses = MOST_USES
 
 -- a page read has the bytes that the files have there; of a page write nothing is asked
 abbrev pub IsRightUse : List File → PageMove → Type 0

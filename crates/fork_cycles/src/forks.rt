@@ -5,9 +5,9 @@ ghost use Rattle.std.specs.Prelude.{◌≡◌};
 ghost use Rattle.fork_cycles.specs.Forks.{calls_in, forked_by};
 ghost use Rattle.fork_cycles.specs.Search.{first_unended, part_from};
 
-use crate::marks::{MOST_LISTS, Mark, mark_of};
+use crate::marks::{Mark, mark_of};
 use process_model::Call;
-use script_language::{CallList, ListedCall};
+use script_language::{CallList, ListedCall, MOST_LISTS};
 
 /// Returns the calls of the list of this number, none if there is no such list.
 pub fn calls_of(lists: &[CallList], number: usize) -> &[ListedCall]

@@ -3,8 +3,7 @@
 ghost use Rattle.std.specs.Prelude.{◌≡◌, set};
 ghost use Rattle.fork_cycles.specs.Search.{mark_of};
 
-/// The most lists that a file for threads has; their numbers are below it.
-pub const MOST_LISTS: usize = 64;
+use script_language::MOST_LISTS;
 
 /// How far the search is with a list of calls.
 #[derive(Clone, Copy, PartialEq, Eq, Debug)]

@@ -8,8 +8,8 @@ ghost use Rattle.fork_cycles.specs.Forks.{Ends, IsCycleFrom, IsForkCycle};
 ghost use Rattle.fork_cycles.specs.Search.{IsSearch, IsMarked, Closes, work};
 
 use crate::forks::{calls_of, next_fork, part_from};
-use crate::marks::{MOST_LISTS, Mark, mark_of, set_mark};
-use script_language::{CallList, ListedStart};
+use crate::marks::{Mark, mark_of, set_mark};
+use script_language::{CallList, ListedStart, MOST_LISTS};
 use script_reader::ThreadScript;
 use std::alloc::{AllocError, Global};
 

@@ -11,6 +11,7 @@ ghost use Rattle.frame_store.specs.View.{IsHeld, joined, known_word, opening_vie
 
 use crate::filling::{filled_frame, read_word};
 use frame_store::{FrameAccess, NoFrame, PlainFrames, PlainSeat, SharersFull, opened_seat};
+use process_model::MOST_FRAMES;
 use std::alloc::{AllocError, Global};
 use std::marker::Model;
 use sv39_entry::FrameNo;
@@ -43,7 +44,7 @@ impl Pool {
     /// `AllocError`: the host is out of memory.
     pub fn new(alloc: Global, frames: usize, places: usize) -> Result<Pool, AllocError>
         requires some { 0 < frames }
-        requires few { frames ≤ 1024 }
+        requires few { frames ≤ MOST_FRAMES }
         requires room { 0 < places }
         ensures free { IfOk result (λ p. p.free ≡ frames - 1) }
         ensures seats { IfOk result (λ p. p.seats ≡ Some (opening_view frames) ∷ replicate (places - 1) None) }

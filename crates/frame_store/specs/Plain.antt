@@ -12,6 +12,7 @@ use Rattle.std.specs.Ordering.{nat_cmp}
 use Rattle.frame_store.specs.Holds.{hold_of-empty}
 use Rattle.frame_store.specs.Laws.{KeepsSeats}
 use Rattle.frame_store.specs.View.{View, Hold, empty_view, hold_of, IsHeld, references, not_held}
+use Rattle.process_model.specs.declared.limits.TheConstants.{MOST_FRAMES}
 
 -- the references of all views to frame f
 abbrev pub total_references : ℕ → List View → ℕ
@@ -59,7 +60,7 @@ is_shared c = nat_lt 1 c
 -- the invariant: at most 1,024 frames, 512 words for each; each count is the sum of all references; the frames of count 0
 -- are as many as the free count and all credits together; each view has the right size, and what it says of frames is true
 pub record PlainRule (words counts : List ℕ) (free : ℕ) (views : List View) : Type 0 where
-  pub few : length counts ≤ 1024
+  pub few : length counts ≤ MOST_FRAMES
   pub sized : length words ≡ 512 * length counts
   pub counted : (f : ℕ) → total_references f views ≡ slice_index counts f
   pub balanced : count_by is_zero counts ≡ free + total_credits views
@@ -68,7 +69,7 @@ pub record PlainRule (words counts : List ℕ) (free : ℕ) (views : List View) 
 
 -- of at most 1,024 frames, the list has each one of count 0 exactly once
 pub record ListsUnused (unused counts : List ℕ) : Type 0 where
-  pub few : length counts ≤ 1024
+  pub few : length counts ≤ MOST_FRAMES
   pub inside : (i : ℕ) → i < length unused → slice_index unused i < length counts
   pub unused_ones : (i : ℕ) → i < length unused → slice_index counts (slice_index unused i) ≡ 0
   pub once : (i j : ℕ) → i < j → j < length unused → slice_index unused i ≢ slice_index unused j
@@ -144,7 +145,7 @@ count_there counts f some = elim (cases_lt f (length counts)) as (λ _. f < leng
   | inr past ↦ absurd (let none = get_or_past counts f 0 past in omega (arith, some, none))
 ]
 
-pub held_within : (b : PlainState) (v : View) (vs : List View) → PlainStateRule b (v ∷ vs) → (v.size ≤ 1024) × ((f : ℕ) → IsHeld v f → f < v.size)
+pub held_within : (b : PlainState) (v : View) (vs : List View) → PlainStateRule b (v ∷ vs) → (v.size ≤ MOST_FRAMES) × ((f : ℕ) → IsHeld v f → f < v.size)
 held_within b v vs r =
     let says = r.sizes.0 in
     (omega (arith, says, r.few), λ f held. let total = r.counted f in let inside = count_there b.counts f (omega (arith, held, total)) in omega (arith, says, inside))

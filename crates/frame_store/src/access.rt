@@ -8,6 +8,7 @@ ghost use Rattle.std.specs.Prelude.{◌≡◌, ◌≢◌, ◌+◌, ◌-◌, ◌*
 ghost use Rattle.frame_store.specs.Laws.{CountBecomes, IsSeatOf, IsAnchored, KeepsSeats};
 ghost use Rattle.frame_store.specs.NextWord.{IsNextBusyWord, IsNextWord};
 ghost use Rattle.frame_store.specs.View.{AllKnown, IsHeld, IsSole, joined, known_word, looked, released, View, with_many, with_word, without_credits, words_known};
+ghost use Rattle.process_model.specs.declared.limits.TheConstants.{MOST_FRAMES};
 
 use crate::bytes::whole_word;
 use sv39_entry::FrameNo;
@@ -220,5 +221,5 @@ pub trait FrameAccess {
 
     /// Law: the store has at most 1,024 frames (`size` in each view), and a held frame is one of them.
     ghost within: { (s : Self) (a : Self.Seat) (ys : List Self.Seat) → rule s (a ∷ ys)
-        → ((Self.Seat.view a).size ≤ 1024) × ((f : ℕ) → IsHeld (Self.Seat.view a) f → f < (Self.Seat.view a).size) };
+        → ((Self.Seat.view a).size ≤ MOST_FRAMES) × ((f : ℕ) → IsHeld (Self.Seat.view a) f → f < (Self.Seat.view a).size) };
 }

@@ -7,6 +7,7 @@ ghost use Rattle.std.specs.Prelude.{◌≡◌, ◌+◌, ◌-◌, ◌*◌, ◌/�
 ghost use Rattle.frame_store.specs.ZeroWords.{PutsMany, ZerosIn};
 
 use crate::bytes::put_words;
+use process_model::MOST_FRAMES;
 use std::alloc::{AllocError, Global};
 use std::marker::Model;
 use sv39_entry::FrameNo;
@@ -27,6 +28,7 @@ pub(crate) struct FrameWords {
 }
 
 impl Model for FrameWords {
+    ghost use Rattle.process_model.specs.declared.limits.TheConstants.{MOST_FRAMES};
     ghost use Rattle.std.specs.Prelude.{◌≡◌, ◌*◌, ◌%◌, ◌≤◌, List, ℕ, length, vec_capacity};
     ghost use Rattle.frame_store.specs.ZeroWords.{by_frame};
 
@@ -34,7 +36,7 @@ impl Model for FrameWords {
 
     ghost view = { λ s. by_frame s.frames s.list.items };
 
-    ghost invariant = { λ s. (s.frames ≤ 1024) × (512 * s.frames ≤ vec_capacity s.list) × (length s.list.items % 512 ≡ 0) };
+    ghost invariant = { λ s. (s.frames ≤ MOST_FRAMES) × (512 * s.frames ≤ vec_capacity s.list) × (length s.list.items % 512 ≡ 0) };
 }
 
 impl FrameWords {
@@ -43,7 +45,7 @@ impl FrameWords {
     /// # Errors
     /// `AllocError`: the host is out of memory.
     pub(crate) fn new(alloc: Global, frames: usize) -> Result<FrameWords, AllocError>
-        requires few { frames ≤ 1024 }
+        requires few { frames ≤ MOST_FRAMES }
         ensures zeros { IfOk result (λ w. w ≡ replicate (512 * frames) 0) }
     {
         let list = Vec::with_capacity(alloc, WORDS * frames)?;

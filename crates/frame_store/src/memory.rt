@@ -8,6 +8,7 @@ ghost use Rattle.frame_store.specs.ZeroWords.{IsIdle, IsNextBusy, IsNextIn, Name
 
 use crate::frame_words::{FrameWords, WORDS};
 use crate::zeros::zeros_in_front;
+use process_model::MOST_FRAMES;
 use std::alloc::{AllocError, Global};
 use std::marker::Model;
 use sv39_entry::{Entry, FrameNo};
@@ -42,7 +43,7 @@ impl Memory {
     /// # Errors
     /// `AllocError`: the host is out of memory.
     pub(crate) fn new(alloc: Global, frames: usize) -> Result<Memory, AllocError>
-        requires few { frames ≤ 1024 }
+        requires few { frames ≤ MOST_FRAMES }
         ensures zeros { IfOk result (λ m. m ≡ replicate (512 * frames) 0) }
     {
         let words = FrameWords::new(alloc, frames)?;

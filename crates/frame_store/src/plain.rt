@@ -12,7 +12,7 @@ use crate::memory::Memory;
 use crate::refusal::{NoFrame, SharersFull};
 use crate::supply::FrameSupply;
 use arrayvec::ArrayVec;
-use process_model::Report;
+use process_model::{MOST_FRAMES, Report};
 use std::alloc::{AllocError, Global};
 use std::marker::Model;
 use sv39_entry::FrameNo;
@@ -70,7 +70,7 @@ impl PlainFrames {
     /// `AllocError`: the host is out of memory.
     pub fn new(alloc: Global, frames: usize) -> Result<(PlainFrames, PlainSeat), AllocError>
         requires some { 0 < frames }
-        requires few { frames ≤ 1024 }
+        requires few { frames ≤ MOST_FRAMES }
         ensures seat { IfOk result (λ r. r.1 ≡ opening_view frames) }
         ensures store { IfOk result (λ r. r.0 ≡ initial_plain_state frames) }
         ensures rule { IfOk result (λ r. PlainStateRule r.0 (r.1 ∷ [])) }
@@ -141,7 +141,7 @@ fn shared(counts: &[u16]) -> usize
 
 /// Returns the sum of all counts.
 fn total(counts: &[u16]) -> usize
-    requires few { length counts.now ≤ 1024 }
+    requires few { length counts.now ≤ MOST_FRAMES }
     ensures { result ≡ sum counts.now }
 {
     let mut total = 0;

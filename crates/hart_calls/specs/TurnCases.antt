@@ -30,6 +30,7 @@ use Rattle.process_model.specs.declared.step.Refusal.TheVariants as refusal
 use Rattle.process_model.specs.declared.step.Reply.{Reply}
 use Rattle.process_model.specs.declared.step.Reply.TheVariants as reply
 use Rattle.shared_frames.specs.SeatsOfTable.{FitsIn, view_of}
+use Rattle.process_model.specs.declared.limits.TheConstants.{MOST_ENTRIES}
 
 -- what a call needs beside frames: a slot, files
 
@@ -117,7 +118,7 @@ IsLastEntry t f outcome.Memory = EndsUntold t f
 IsLastEntry t f outcome.JournalFull = EndsUntold t f
 
 abbrev pub most_entries : ℕ
-most_entries = 10000
+most_entries = MOST_ENTRIES
 
 -- the reply ends the process
 abbrev pub EndsIt : Reply → Type 0

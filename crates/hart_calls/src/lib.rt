@@ -31,4 +31,4 @@ pub use journal_reply::{JournalReply, StoredReply};
 pub use model_process::{ModelProcess, begun};
 pub use run_brand::RunBrand;
 pub use tracked::Tracked;
-pub use turn::{MOST_ENTRIES, Turn};
+pub use turn::Turn;

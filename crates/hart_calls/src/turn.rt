@@ -17,14 +17,11 @@ use crate::run_brand::RunBrand;
 use crate::tracked::Tracked;
 use file_cabinet::Cabinet;
 use file_shelf::{PageUse, Shelf};
-use process_model::{Call, Outcome, Reply};
+use process_model::{Call, MOST_ENTRIES, Outcome, Reply};
 use shared_frames::SharedSupply;
 use std::alloc::{AllocError, Global};
 use std::mem;
 use std::sync::Wait;
-
-/// The most entries that a journal has: 10,000.
-pub const MOST_ENTRIES: usize = 10000;
 
 /// A journal of fewer entries takes memory as it grows. Most processes make few calls, and their lists may be long.
 const SHORT_JOURNAL: usize = 512;

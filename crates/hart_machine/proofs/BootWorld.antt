@@ -23,6 +23,7 @@ use Rattle.process_model.specs.World.{booted}
 use Rattle.process_model.specs.declared.config.Config.{Config}
 use Rattle.hart_machine.specs.Slots.{most_slots}
 use Rattle.table_walk.specs.Tables.{Tables}
+use Rattle.process_model.specs.declared.limits.TheConstants.{FEWEST_FRAMES, MOST_FRAMES, MOST_HARTS, MOST_SLOTS}
 
 -- what is there at first
 
@@ -56,8 +57,8 @@ nothing_buffered (a ∷ es) none e h = absurd (cc)
 -- the limits of boot
 pub few_slots : (c : Config) → can_boot c.scheme c.harts c.frames c.slots ≡ true → c.slots ≤ most_slots
 few_slots c is =
-    let rest = and_parts (nat_le 1 c.harts && nat_le c.harts 8 && nat_le 16 c.frames && nat_le c.frames 1024 && nat_le 1 c.slots && nat_le c.slots 64) (nat_le (kernel_frames c.scheme c.frames c.slots) c.frames) is in
-    let low = and_parts (nat_le 1 c.harts && nat_le c.harts 8 && nat_le 16 c.frames && nat_le c.frames 1024 && nat_le 1 c.slots) (nat_le c.slots 64) rest.0 in
+    let rest = and_parts (nat_le 1 c.harts && nat_le c.harts MOST_HARTS && nat_le FEWEST_FRAMES c.frames && nat_le c.frames MOST_FRAMES && nat_le 1 c.slots && nat_le c.slots MOST_SLOTS) (nat_le (kernel_frames c.scheme c.frames c.slots) c.frames) is in
+    let low = and_parts (nat_le 1 c.harts && nat_le c.harts MOST_HARTS && nat_le FEWEST_FRAMES c.frames && nat_le c.frames MOST_FRAMES && nat_le 1 c.slots) (nat_le c.slots MOST_SLOTS) rest.0 in
     grind (arith, nat_tests, low.1)
 
 module _ (m : Machine) (c : Config) (files : List File) (ruled : m.policy ≡ c.policy) (schemed : m.kernel.scheme ≡ c.scheme) (small : c.slots ≤ most_slots) (sized : m.kernel.seat.size ≡ c.frames) (stacks : List ℕ) (t : Tables)

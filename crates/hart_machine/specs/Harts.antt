@@ -1,7 +1,7 @@
 -- The model's hart for one of the machine (`hart_of`). What happens to a hart, as functions: fences by policy, and the next
 -- instruction of kernel entry or return (`fenced`, `advanced`); fills (`with_entry`); and stale marks, on the model's harts
 -- (`marked`, `marked_harts`).
-use Rattle.std.specs.Prelude.{ℕ, Bool, true, false, not, ◌+◌, ◌==◌, ◌||◌, Option, None, Some, List, [], ◌∷◌, ◌++◌, filter, length, map, min, slice_set, unwrap_or, if◌then◌else◌}
+use Rattle.std.specs.Prelude.{◌-◌, ℕ, Bool, true, false, not, ◌+◌, ◌==◌, ◌||◌, Option, None, Some, List, [], ◌∷◌, ◌++◌, filter, length, map, min, slice_set, unwrap_or, if◌then◌else◌}
 use Rattle.hart_tlb.specs.Buffer.{newest_entries}
 use Rattle.hart_tlb.specs.Entries.{is_fenced}
 use Rattle.hart_tlb.specs.declared.entry.TlbEntry.{TlbEntry}
@@ -13,6 +13,7 @@ use Rattle.process_model.specs.declared.phase.Phase.{Phase}
 use Rattle.process_model.specs.declared.phase.Phase.TheVariants.{Leave2}
 use Rattle.hart_machine.specs.Slots.{marks_of}
 use Rattle.hart_machine.specs.declared.hart.Hart.{Hart}
+use Rattle.process_model.specs.declared.limits.TheConstants.{BUFFER_SIZE}
 
 abbrev pub key_of : TlbEntry → model.Key
 key_of e = record { page = e.page; asid = e.asid }
@@ -59,7 +60,7 @@ with_entry h e = record h { buffer = newest_entries buffer_size (h.buffer ++ e �
 
 -- the number of the entry that is added next
 abbrev pub next_number : List TlbEntry → ℕ
-next_number es = min (length es) 31
+next_number es = min (length es) (BUFFER_SIZE - 1)
 
 -- marks
 

@@ -9,9 +9,9 @@ ghost use Rattle.hart_tlb.specs.Buffer.{newest_entries};
 ghost use Rattle.process_model.specs.Harts.{buffer_size};
 ghost use Rattle.table_walk.specs.Tables.{HasTables, Tables};
 
-use crate::hart::BUFFER_SIZE;
 use frame_store::{FrameAccess, FrameSeat};
 use hart_tlb::Buffer;
+use process_model::BUFFER_SIZE;
 use sv39_entry::{FrameNo, Satp, Scheme, Va};
 use table_walk::{HeldWords, walks_of_tables};
 

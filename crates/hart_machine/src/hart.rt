@@ -1,6 +1,6 @@
 // `Hart`, a struct: its phase (user mode, or how far it is in kernel entry and return), its process's slot (place in the
 // process table), its buffer (TLB) and its stale marks; and what fences and writes of `satp`, fills and a switch do to them.
-// Also the next phase, tests of a phase (such as `is_user`), and `BUFFER_SIZE`, the capacity of a buffer.
+// Also the next phase, and tests of a phase (such as `is_user`).
 
 ghost use Rattle.std.specs.Prelude.{◌≡◌, ◌+◌, ◌<◌, ◌≤◌, ℕ, length, Some};
 ghost use Rattle.frame_store.specs.Laws.{IsSeatOf};
@@ -15,11 +15,8 @@ use crate::fill_from_tables::fill_from_tables;
 use crate::slots::SlotSet;
 use frame_store::{FrameAccess, FrameSeat};
 use hart_tlb::Buffer;
-use process_model::{Phase, Policy};
+use process_model::{BUFFER_SIZE, Phase, Policy};
 use sv39_entry::{FrameNo, Scheme, Va};
-
-/// Capacity of a hart's buffer (its TLB), in entries.
-pub const BUFFER_SIZE: usize = 32;
 
 /// A hart: its phase between user mode and kernel, the slot of its process, if it has one, and its buffer (TLB).
 #[derive(Drop)]
@@ -116,8 +113,8 @@ impl Hart {
         ensures view { F.Seat.view seat.new ≡ F.Seat.view seat.old }
         ensures same { store.new ≡ store.old }
     {
-        // a full buffer loses its oldest entry, and then the new one has the number 31
-        let number = self.buffer.len().min(31);
+        // a full buffer loses its oldest entry, and then the new one has the last number
+        let number = self.buffer.len().min(BUFFER_SIZE - 1);
         fill_from_tables(&mut self.buffer, store, seat, scheme, root, asid, va);
         number
     }

@@ -27,6 +27,6 @@ mod trampoline;
 mod views;
 
 pub use boot::BootError;
-pub use hart::BUFFER_SIZE;
 pub use machine::Machine;
+pub use process_model::BUFFER_SIZE;
 pub use slot_process::Pending;

@@ -1,15 +1,12 @@
-// `SlotSet`, a struct: a set of slots (places in the process table), for the slots that are marked as stale on a hart; and
-// `MOST_SLOTS`, the maximum number of slots.
+// `SlotSet`, a struct: a set of slots (places in the process table), for the slots that are marked as stale on a hart.
 
 ghost use Rattle.std.specs.Prelude.{◌≡◌, ◌<◌, ◌==◌, ◌||◌, ℕ, false, replicate, slice_set};
 ghost use Rattle.hart_machine.specs.Slots.{marks_of, most_slots};
 
+use process_model::MOST_SLOTS;
 use std::marker::Model;
 
-/// Maximum number of slots of a machine.
-pub(crate) const MOST_SLOTS: usize = 64;
-
-/// A set of slots below 64.
+/// A set of slots below `MOST_SLOTS`.
 #[derive(Drop)]
 pub(crate) struct SlotSet {
     members: [bool; MOST_SLOTS],

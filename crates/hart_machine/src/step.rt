@@ -17,12 +17,11 @@ ghost use Rattle.process_model.specs.declared.config.Config.{Config};
 ghost use Rattle.process_model.specs.declared.config.Policy.TheVariants.{Asid};
 ghost use Rattle.process_model.specs.declared.step.Step as declared;
 
-use crate::hart::BUFFER_SIZE;
 use crate::machine::Machine;
 use crate::stale_marks::StepEffect;
 use address_space::AccessRequest;
 use hart_tlb::Buffer;
-use process_model::{Reply, ScalarReply, Step};
+use process_model::{BUFFER_SIZE, Reply, ScalarReply, Step};
 use std::alloc::{AllocError, Global};
 use sv39_entry::{Access, Va};
 

@@ -20,6 +20,7 @@ use crate::roster::{Admission, Roster};
 use crate::run_shelf::{RunFiles, RunShelf};
 use crate::start_outcomes::StartOutcomes;
 use hart_calls::{ForkSlot, Place, Tracked, Turn};
+use process_model::MOST_HARTS;
 use shared_frames::{SharedFrames, SharedSupply};
 use std::alloc::AllocError;
 use std::marker::PhantomData;
@@ -27,9 +28,6 @@ use std::sync::{Mutex, Wait};
 use std::thread;
 use sv39_entry::FrameNo;
 use vouchers::{Token, TokenTable};
-
-/// The harts that search for free frames in places of their own; further harts share theirs.
-const MOST_HARTS: usize = 8;
 
 /// How many frames lie between the places where two harts begin to search.
 const FRAMES_APART: usize = 32;

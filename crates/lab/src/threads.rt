@@ -6,8 +6,8 @@ use crate::mistakes::Place;
 use crate::play::{read_line, without_feed};
 use crate::screen::Screen;
 use fork_cycles::{Warning, warn_of_forks};
-use script_language::Cause;
-use script_reader::{LONGEST_SCRIPT, ScriptError, ThreadScript, first_field, trim_return};
+use script_language::{Cause, LONGEST_SCRIPT};
+use script_reader::{ScriptError, ThreadScript, first_field, trim_return};
 use std::alloc::Global;
 use std::io::{BufReader, Read};
 

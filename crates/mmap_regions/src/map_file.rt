@@ -16,7 +16,7 @@ use address_space::{Region, RegionKind, Source, Space};
 use bitflags::Flags;
 use file_cabinet::Files;
 use frame_store::FrameSeat;
-use process_model::Refusal;
+use process_model::{MOST_MAPPINGS, Refusal};
 use sv39_entry::{PAGE_SIZE, Rights};
 
 /// Bits of `protection`, as in POSIX's `mmap`.
@@ -33,9 +33,6 @@ const MAP_PRIVATE: u64 = 2;
 
 /// The longest mapping, in bytes.
 const LONGEST_MAPPING: u64 = 1 << 20;
-
-/// How many mappings a process may have, at most.
-const MOST_MAPPINGS: usize = 16;
 
 /// Maps `length` bytes of a file, from its first byte on, rounded up to whole pages, at the greatest address at which they
 /// fit: above the heap, below TRAPFRAME and apart from other mappings (MIT 6.1810, mmap lab). Returns that address. `file`

@@ -14,6 +14,7 @@ use Rattle.sv39_entry.specs.declared.access.Access.TheVariants as access
 use Rattle.sv39_entry.specs.declared.rule.Rule.{Rule}
 use Rattle.process_model.specs.declared.step.Reply.{Reply}
 use Rattle.process_model.specs.declared.step.Reply.TheVariants.{CopiedIn, CopiedOut, ShortIn, ShortOut}
+use Rattle.process_model.specs.declared.limits.TheConstants.{LONGEST_COPY}
 
 -- the state of a copy: the process with the frames taken, the bytes copied, and the rule that stopped the copy, None if none
 -- did
@@ -81,4 +82,4 @@ out_reply bytes (Some r) = ShortOut r (length bytes)
 
 -- the longest copy, in bytes
 abbrev pub longest_copy : ℕ
-longest_copy = 256
+longest_copy = LONGEST_COPY

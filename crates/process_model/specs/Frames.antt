@@ -14,6 +14,7 @@ use Rattle.sv39_entry.specs.declared.access.Access.{Access}
 use Rattle.sv39_entry.specs.declared.scheme.Scheme.{Scheme}
 use Rattle.sv39_entry.specs.declared.scheme.Scheme.TheVariants.{Sv39, Sv48}
 use Rattle.process_model.specs.declared.step.Report.{Report}
+use Rattle.process_model.specs.declared.limits.TheConstants.{FEWEST_FRAMES, MOST_FRAMES, MOST_HARTS, MOST_SHARED_FRAMES, MOST_SLOTS}
 
 -- page tables
 
@@ -129,12 +130,12 @@ kernel_frames s frames slots = first_frames s + (if nat_le frames 512 then 0 els
 
 abbrev pub can_boot : Scheme → ℕ → ℕ → ℕ → Bool
 can_boot s harts frames slots =
-    nat_le 1 harts && nat_le harts 8 && nat_le 16 frames && nat_le frames 1024 && nat_le 1 slots && nat_le slots 64 && nat_le (kernel_frames s frames slots) frames
+    nat_le 1 harts && nat_le harts MOST_HARTS && nat_le FEWEST_FRAMES frames && nat_le frames MOST_FRAMES && nat_le 1 slots && nat_le slots MOST_SLOTS && nat_le (kernel_frames s frames slots) frames
 
 -- whether threads can share these frames; processes on threads have Sv39
 abbrev pub can_share : ℕ → ℕ → Bool
 can_share frames slots =
-    nat_le 16 frames && nat_le frames 256 && nat_le 1 slots && nat_le slots 64 && nat_le (kernel_frames Sv39 frames slots) frames
+    nat_le FEWEST_FRAMES frames && nat_le frames MOST_SHARED_FRAMES && nat_le 1 slots && nat_le slots MOST_SLOTS && nat_le (kernel_frames Sv39 frames slots) frames
 
 -- accounts
 

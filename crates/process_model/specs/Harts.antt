@@ -7,6 +7,7 @@ use Rattle.process_model.specs.declared.config.Policy.{Policy}
 use Rattle.process_model.specs.declared.config.Policy.TheVariants.{Full, Asid}
 use Rattle.process_model.specs.declared.phase.Phase.{Phase}
 use Rattle.process_model.specs.declared.phase.Phase.TheVariants.{Idle, User, Enter0, Enter1, Enter2, Kernel, Leave1, Leave2}
+use Rattle.process_model.specs.declared.limits.TheConstants.{BUFFER_SIZE}
 
 -- what an access has to match in a buffer entry (the standard, 4.2.1): the page, and the address-space identifier (ASID)
 -- under which the entry was filled
@@ -88,7 +89,7 @@ present_asid Asid hart = if has_user_satp hart.phase then asid_of_slot hart.slot
 
 -- how many entries a buffer holds
 abbrev pub buffer_size : ℕ
-buffer_size = 32
+buffer_size = BUFFER_SIZE
 
 -- the keys after a fill: the new key is last; a full buffer loses the first, its oldest
 abbrev pub with_key : List Key → Key → List Key

@@ -12,6 +12,7 @@ use Rattle.process_model.specs.declared.image.BadImage.TheVariants as part
 use Rattle.process_model.specs.declared.image.Image.{Image}
 use Rattle.process_model.specs.declared.image.Image.TheVariants.{Elf, Segments}
 use Rattle.process_model.specs.declared.image.Segment.{Segment}
+use Rattle.process_model.specs.declared.limits.TheConstants.{MOST_SEGMENTS}
 
 -- a segment to load: its address and size in memory, its rights, and the bytes that the image has for it
 pub record LoadSegment : Type 0 where
@@ -43,7 +44,7 @@ end_of_loads end [] = end
 end_of_loads end (l ∷ ls) = end_of_loads (end_page l) ls
 
 abbrev pub most_segments : ℕ
-most_segments = 16
+most_segments = MOST_SEGMENTS
 
 -- the checks of a segment, each true if it fails, in their order; `before` has the segments with pages before it. Between it
 -- and the trapframe there has to be room for guard and stack (TooHigh)

@@ -12,6 +12,7 @@ use Rattle.sv39_entry.specs.Address.{page_of}
 use Rattle.sv39_entry.specs.Schemes.{trapframe_page}
 use Rattle.process_model.specs.declared.step.Refusal.{Refusal}
 use Rattle.process_model.specs.declared.step.Refusal.TheVariants.{NoRoom, BadArgument, FileNotWritable, MappingsFull, HoleInMapping}
+use Rattle.process_model.specs.declared.limits.TheConstants.{MOST_MAPPINGS}
 
 -- the place of a mapping
 
@@ -39,7 +40,7 @@ mapping_place p pages = greatest (filter (fits_at p pages) (places p pages))
 -- mmap
 
 abbrev pub most_mappings : ℕ
-most_mappings = 16
+most_mappings = MOST_MAPPINGS
 
 -- the most bytes of a mapping: 1 MiB
 abbrev pub longest_mapping : ℕ

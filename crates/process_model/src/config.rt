@@ -5,6 +5,7 @@
 ghost use Rattle.std.specs.Prelude.{◌≡◌, ◌≤◌};
 ghost use Rattle.process_model.specs.Frames as model;
 
+use crate::limits::{FEWEST_FRAMES, MOST_FRAMES, MOST_HARTS, MOST_SLOTS};
 use sv39_entry::Scheme;
 
 /// How the kernel keeps stale translations out of the buffers (the TLBs of the harts).
@@ -41,9 +42,9 @@ impl Config {
     pub fn is_bootable(&self) -> bool
         ensures { result ≡ can_boot self.now.scheme self.now.harts self.now.frames self.now.slots }
     {
-        (1..=8).contains(&self.harts)
-            && (16..=1024).contains(&self.frames)
-            && (1..=64).contains(&self.slots)
+        (1..=MOST_HARTS).contains(&self.harts)
+            && (FEWEST_FRAMES..=MOST_FRAMES).contains(&self.frames)
+            && (1..=MOST_SLOTS).contains(&self.slots)
             && kernel_frames(self.scheme, self.frames, self.slots) <= self.frames
     }
 }
@@ -52,7 +53,7 @@ impl Config {
 /// There are five tables under Sv39 and seven under Sv48, and one more if memory has more than 512 `frames` (two megabytes).
 /// The caller gives at most 64 `slots`.
 pub fn kernel_frames(scheme: Scheme, frames: usize, slots: usize) -> usize
-    requires few { slots ≤ 64 }
+    requires few { slots ≤ MOST_SLOTS }
     ensures { result ≡ model.kernel_frames scheme frames slots }
 {
     let first = match scheme {

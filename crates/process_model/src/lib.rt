@@ -8,6 +8,7 @@ mod call;
 mod config;
 mod file;
 mod image;
+mod limits;
 mod phase;
 mod scalar_reply;
 mod sequence;
@@ -17,7 +18,11 @@ pub use call::{Call, Outcome, Start};
 pub use config::{Config, Policy, kernel_frames};
 pub use file::FileText;
 pub use image::{BadImage, Image, Segment};
+pub use limits::{
+    BUFFER_SIZE, FEWEST_FRAMES, LONGEST_COPY, LONGEST_FILE, MOST_ENTRIES, MOST_FILES, MOST_FRAMES,
+    MOST_HARTS, MOST_MAPPINGS, MOST_SEGMENTS, MOST_SHARED_FRAMES, MOST_SLOTS,
+};
 pub use phase::Phase;
 pub use scalar_reply::ScalarReply;
 pub use sequence::{Bytes, Sequence};
-pub use step::{LONGEST_COPY, Refusal, Reply, Report, Step, is_width};
+pub use step::{Refusal, Reply, Report, Step, is_width};

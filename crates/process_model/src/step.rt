@@ -6,12 +6,10 @@ ghost use Rattle.std.specs.Prelude.{◌≡◌};
 ghost use Rattle.process_model.specs.Bytes.{is_width};
 
 use crate::image::{BadImage, Image};
+use crate::limits::LONGEST_COPY;
 use crate::phase::Phase;
 use arrayvec::ArrayVec;
 use sv39_entry::Rule;
-
-/// The most bytes that the kernel copies in one call.
-pub const LONGEST_COPY: usize = 256;
 
 /// One step of the machine: a start, a switch, a trap, an instruction of kernel entry or return, a change of a buffer, an
 /// access, the service of a fault, or a whole kernel call. A refused step changes nothing.
@@ -198,11 +196,11 @@ pub enum Reply {
     /// The address of the new mapping.
     MappedAt(u64),
     /// All the bytes that were to be copied from the process.
-    CopiedIn(ArrayVec<u8, 256>),
+    CopiedIn(ArrayVec<u8, LONGEST_COPY>),
     /// How many bytes were copied to the process: all.
     CopiedOut(usize),
     /// The rule that stopped the copy from the process, and the bytes that were copied before it.
-    ShortIn(Rule, ArrayVec<u8, 256>),
+    ShortIn(Rule, ArrayVec<u8, LONGEST_COPY>),
     /// The rule that stopped the copy to the process, and how many bytes were copied before it.
     ShortOut(Rule, usize),
     /// The process exited with this status.

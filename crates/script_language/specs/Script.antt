@@ -29,6 +29,7 @@ use Rattle.script_language.specs.declared.script.Keyword.{Keyword}
 use Rattle.script_language.specs.declared.script.Keyword.TheVariants as word
 use Rattle.process_model.specs.declared.step.Step.{Step}
 use Rattle.process_model.specs.declared.step.Step.TheVariants as step
+use Rattle.script_language.specs.declared.limits.TheConstants.{MOST_COMMANDS, MOST_IMAGES}
 
 -- what was read so far
 pub record Draft : Type 0 where
@@ -172,10 +173,10 @@ item_of s word.Pool vs = Err cause.Word
 item_of s word.List vs = Err cause.Word
 
 abbrev pub most_images : ℕ
-most_images = 64
+most_images = MOST_IMAGES
 
 abbrev pub most_commands : ℕ
-most_commands = 100000
+most_commands = MOST_COMMANDS
 
 abbrev pub has_room : Draft → Item → Bool
 has_room s (item.File f) = nat_lt (length s.files) most_files

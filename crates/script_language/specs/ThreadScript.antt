@@ -33,6 +33,7 @@ use Rattle.script_language.specs.declared.script.Keyword.TheVariants as word
 use Rattle.script_language.specs.declared.script.Tail.TheVariants as tail
 use Rattle.script_language.specs.declared.script.ThreadItem.{ThreadItem}
 use Rattle.script_language.specs.declared.script.ThreadItem.TheVariants as item
+use Rattle.script_language.specs.declared.limits.TheConstants.{MOST_CALLS, MOST_LISTS}
 
 -- the words of a file for threads; unlike in a script, a call names no hart
 abbrev pub thread_table : List Row
@@ -79,10 +80,10 @@ pub record ThreadScript : Type 0 where
 
 -- how many lists there may be, and how many calls in each
 abbrev pub most_lists : ℕ
-most_lists = 64
+most_lists = MOST_LISTS
 
 abbrev pub most_calls : ℕ
-most_calls = 10000
+most_calls = MOST_CALLS
 
 -- the lists that a file begins: a fork may name one that begins further down, so that lists can fork into each other; a start
 -- names one that begins above it

@@ -2,7 +2,9 @@
 // `CallList` and `ListedStart` (a list of calls, a start), and `Pool`, the numbers of frames and slots (places in the process
 // table) that threads share, and whether they can.
 
-use process_model::{Bytes, Call, Segment, Sequence, kernel_frames};
+use process_model::{
+    Bytes, Call, FEWEST_FRAMES, MOST_SHARED_FRAMES, MOST_SLOTS, Segment, Sequence, kernel_frames,
+};
 use sv39_entry::Scheme;
 
 /// An image as a script or a file for threads declares it, before any check.
@@ -54,8 +56,8 @@ impl Pool {
     pub fn is_usable(&self) -> bool
         ensures { result ≡ can_share self.now.frames self.now.slots }
     {
-        (16..=256).contains(&self.frames)
-            && (1..=64).contains(&self.slots)
+        (FEWEST_FRAMES..=MOST_SHARED_FRAMES).contains(&self.frames)
+            && (1..=MOST_SLOTS).contains(&self.slots)
             && kernel_frames(Scheme::Sv39, self.frames, self.slots) <= self.frames
     }
 }

@@ -10,12 +10,9 @@ ghost use Rattle.script_reader.specs.Alone.{item_alone};
 
 use crate::field_access::{index_at, policy_at, scheme_at, take_bytes, take_segments, writable_at};
 use crate::limits::in_limits;
-use process_model::{Config, FileText};
+use process_model::{Config, FileText, LONGEST_FILE};
 use script_language::{Cause, FieldValue, Item, Keyword, OwnedImage};
 use std::alloc::{AllocError, Global};
-
-/// The most bytes a file may have.
-pub const LONGEST_FILE: usize = 65_536;
 
 /// Makes the file of `file LEN MODE HEX`.
 ///

@@ -7,19 +7,10 @@ ghost use Rattle.script_language.specs.declared.script.Item.TheVariants as item;
 ghost use Rattle.script_language.specs.Script as words;
 
 use crate::commands::Commands;
-use process_model::{Config, FileText};
-use script_language::{Command, Item, Keyword, OwnedImage};
+use process_model::{Config, FileText, MOST_FILES};
+use script_language::{Command, Item, Keyword, MOST_COMMANDS, MOST_IMAGES, OwnedImage};
 use std::alloc::{AllocError, Global};
 use std::marker::Model;
-
-/// The most files a script may declare.
-pub const MOST_FILES: usize = 16;
-
-/// The most images a script may declare.
-pub const MOST_IMAGES: usize = 64;
-
-/// The most lines a script may have after `boot`, without those that are skipped.
-pub const MOST_COMMANDS: usize = 100_000;
 
 /// What the lines of a script read so far declare and command.
 #[derive(Drop)]

@@ -10,7 +10,7 @@ ghost use Rattle.script_reader.specs.FastWords.{letters};
 use crate::draft::Draft;
 use crate::fast_path::{FastWord, fast_command, load, store, word_prefix};
 use crate::number_prefixes::is_end;
-use crate::read_line::LONGEST_LINE;
+use script_language::LONGEST_LINE;
 use std::alloc::AllocError;
 
 /// Adds the command of a word. `None`: the fast path does not parse its fields, and the draft is unchanged. Not inlined,

@@ -37,15 +37,14 @@ mod thread_script;
 mod values;
 
 pub use commands::{CommandView, Commands};
-pub use declarations::LONGEST_FILE;
-pub use draft::{Draft, MOST_COMMANDS, MOST_FILES, MOST_IMAGES};
+pub use draft::Draft;
 pub use fault::{LineFault, ScriptError};
 pub use field_access::{index_at, number_at, policy_at, scheme_at, signed_at};
 pub use laws::lines_fit;
 pub use lines::{first_field, first_piece, trim_return};
 pub use numbers::{decimal_value, hexadecimal_value, number};
-pub use piece_reader::{LONGEST_SCRIPT, PieceReader};
-pub use read_line::{LONGEST_LINE, line_item};
+pub use piece_reader::PieceReader;
+pub use read_line::line_item;
 pub use script::Script;
 pub use table::Row;
 pub use thread_script::ThreadScript;

@@ -1,5 +1,5 @@
 // `PieceReader`, a struct: parses a script that is read in pieces of any size (`add`, then `finish`); each line is parsed
-// once its end has been read. Constant `LONGEST_SCRIPT`: the most bytes of a script or a file for threads.
+// once its end has been read.
 
 ghost use Rattle.std.specs.Prelude.{◌≡◌, ◌<◌, ◌≤◌, ◌++◌, ◌^◌, [], length, IfOk, IfSome, List, ℕ, nat_lt, OnOk};
 ghost use Rattle.script_language.specs.Script as words;
@@ -11,13 +11,10 @@ use crate::fault::ScriptError;
 use crate::line_reader::LineReader;
 use crate::script::Script;
 use memchr::{memchr, memrchr};
-use script_language::Cause;
+use script_language::{Cause, LONGEST_SCRIPT};
 use std::alloc::{AllocError, Global};
 use std::marker::Model;
 use std::mem;
-
-/// The most bytes a script, or a file for threads, may have: 16 MiB.
-pub const LONGEST_SCRIPT: usize = 16_777_216;
 
 /// Parses a script that is read in pieces: what the lines that have ended declare and command, and the
 /// beginning of the next line.

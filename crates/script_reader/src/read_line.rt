@@ -15,11 +15,8 @@ use crate::items::make_item;
 use crate::lines::first_field;
 use crate::table::Row;
 use crate::values::read_values;
-use script_language::{Cause, Item};
+use script_language::{Cause, Item, LONGEST_LINE};
 use std::alloc::Global;
-
-/// The most bytes a line may have, without its end: enough for `elf` and an image of 1 MiB in hexadecimal digits.
-pub const LONGEST_LINE: usize = 2_097_664;
 
 /// Checks a condition of a line.
 ///

@@ -9,9 +9,9 @@ ghost use Rattle.script_reader.specs.Playable.{IsPlayable};
 use crate::commands::Commands;
 use crate::draft::Draft;
 use crate::fault::ScriptError;
-use crate::piece_reader::{LONGEST_SCRIPT, PieceReader};
+use crate::piece_reader::PieceReader;
 use process_model::{Config, FileText};
-use script_language::{Cause, OwnedImage};
+use script_language::{Cause, LONGEST_SCRIPT, OwnedImage};
 use std::alloc::Global;
 use std::marker::Model;
 

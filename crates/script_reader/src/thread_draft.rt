@@ -8,17 +8,13 @@ ghost use Rattle.script_language.specs.declared.script.ThreadItem.TheVariants as
 ghost use Rattle.script_language.specs.ThreadScript as words;
 ghost use Rattle.script_reader.specs.ThreadFastLines.{takes_calls};
 
-use crate::draft::{MOST_COMMANDS, MOST_FILES, MOST_IMAGES};
-use process_model::{FileText, Sequence};
-use script_language::{CallList, Keyword, ListedCall, ListedStart, OwnedImage, Pool, ThreadItem};
+use process_model::{FileText, MOST_FILES, Sequence};
+use script_language::{
+    CallList, Keyword, ListedCall, ListedStart, MOST_CALLS, MOST_COMMANDS, MOST_IMAGES, MOST_LISTS,
+    OwnedImage, Pool, ThreadItem,
+};
 use std::alloc::{AllocError, Global};
 use std::marker::Model;
-
-/// The most lists a file for threads may have; their numbers are below it.
-pub const MOST_LISTS: usize = 64;
-
-/// The most calls a list may have.
-const MOST_CALLS: usize = 10_000;
 
 /// What the lines of a file for threads read so far declare.
 #[derive(Drop)]

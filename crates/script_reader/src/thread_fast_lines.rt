@@ -11,10 +11,9 @@ ghost use Rattle.script_reader.specs.ThreadFastLines.{AddsCall, SaysCall, takes_
 
 use crate::fast_path::{FastWord, is_over, one, word_prefix};
 use crate::number_prefixes::{is_end, next_address, next_number};
-use crate::read_line::LONGEST_LINE;
 use crate::thread_draft::ThreadDraft;
 use process_model::{Call, LONGEST_COPY, is_width};
-use script_language::ListedCall;
+use script_language::{LONGEST_LINE, ListedCall};
 use std::alloc::AllocError;
 
 /// Parses the fields of `fetch`: the address. `None`: to be read field by field.

@@ -14,11 +14,11 @@ use crate::lines::{first_field, first_line, is_blank, trim_return};
 use crate::numbers::number;
 use crate::read_line::{is_ascii, read_word, test};
 use crate::table::Row;
-use crate::thread_draft::{MOST_LISTS, ThreadDraft};
+use crate::thread_draft::ThreadDraft;
 use crate::thread_fast_lines::add_fast;
 use crate::thread_items::make_item;
 use crate::values::read_values;
-use script_language::{Cause, ThreadItem};
+use script_language::{Cause, MOST_LISTS, ThreadItem};
 use std::alloc::Global;
 
 /// Parses a line whose first field is `text`, with the fields after it. Causes are tried in the order of `Cause`.

@@ -8,9 +8,11 @@ ghost use Rattle.script_reader.specs.CallAlone.{call_alone};
 use crate::field_access::index_at;
 use crate::limits::in_limits;
 use crate::thread_calls::one;
-use crate::thread_draft::{MOST_LISTS, ThreadDraft};
+use crate::thread_draft::ThreadDraft;
 use process_model::Call;
-use script_language::{Cause, FieldValue, Keyword, ListedCall, ListedStart, Pool, ThreadItem};
+use script_language::{
+    Cause, FieldValue, Keyword, ListedCall, ListedStart, MOST_LISTS, Pool, ThreadItem,
+};
 
 /// Makes the item of `pool FRAMES SLOTS`.
 ///

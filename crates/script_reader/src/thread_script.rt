@@ -9,11 +9,10 @@ ghost use Rattle.script_reader.specs.ReadResults.{GivesScript};
 ghost use Rattle.script_reader.specs.ThreadsPlayable.{IsThreadPlayable};
 
 use crate::fault::ScriptError;
-use crate::piece_reader::LONGEST_SCRIPT;
 use crate::thread_draft::{Declared, ThreadDraft};
 use crate::thread_lines::{lists_named, read_lines};
 use process_model::FileText;
-use script_language::{CallList, Cause, ListedCall, ListedStart, OwnedImage, Pool};
+use script_language::{CallList, Cause, LONGEST_SCRIPT, ListedCall, ListedStart, OwnedImage, Pool};
 use std::alloc::Global;
 use std::marker::Model;
 

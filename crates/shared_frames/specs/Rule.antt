@@ -9,6 +9,7 @@ use Rattle.std.specs.FinMap as map
 use Rattle.atomic_table.specs.Table.{State}
 use Rattle.frame_store.specs.Laws.{IsAnchored}
 use Rattle.frame_store.specs.View.{View, Hold, hold_of, not_held, references, IsHeld}
+use Rattle.process_model.specs.declared.limits.TheConstants.{MOST_SHARED_FRAMES}
 
 -- Word 0 of the table is the free count. Then each frame has 513 words: its reference count, and the 512 words of its memory
 abbrev pub count_at : ℕ → ℕ
@@ -56,7 +57,7 @@ pub record ViewAgrees (n : ℕ) (words : List ℕ) (all : ℕ → ℕ) (v : View
 -- frame, at most 65,535; the frames of count 0 are as many as the free count and all credits together; and what each view
 -- says is true
 pub record IsSharedRule (n : ℕ) (words : List ℕ) (views : List View) : Type 0 where
-  pub narrow : n ≤ 256
+  pub narrow : n ≤ MOST_SHARED_FRAMES
   pub wide : length words ≡ 513 * n + 1
   pub counted : (f : ℕ) → f < n → slice_index words (count_at f) ≡ all_references f views
   pub few : (f : ℕ) → f < n → all_references f views ≤ 65535

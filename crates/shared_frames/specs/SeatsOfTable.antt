@@ -9,10 +9,11 @@ use Rattle.frame_store.specs.View.{View, Hold, hold_of, IsHeld, empty_view}
 use Rattle.frame_store.specs.Laws.{IsSeatOf, KeepsSeats}
 use Rattle.frame_store.specs.Holds.{hold_of-empty}
 use Rattle.shared_frames.specs.declared.seat.SharedSeat.{SharedSeat}
+use Rattle.process_model.specs.declared.limits.TheConstants.{MOST_FRAMES, MOST_SHARED_FRAMES}
 
 -- a table with this many words has n frames, 1 to 256: 513 words for each, and one for the free count
 abbrev pub IsSized : ℕ → ℕ → Type 0
-IsSized words n = (words ≡ 513 * n + 1) × (n ≤ 256) × (1 ≤ n)
+IsSized words n = (words ≡ 513 * n + 1) × (n ≤ MOST_SHARED_FRAMES) × (1 ≤ n)
 
 -- the words of a held frame f are among this many words of the table, and only a held frame has the sole-holder flag
 abbrev pub FrameFits : ℕ → ℕ → Hold → Type 0
@@ -79,7 +80,7 @@ pub fits_joined : (z a b : TableId) (s u t : SharedSeat) → a ≡ z → b ≡ a
 fits_joined z a b s u t is same kept first second = subst (λ y. FitsIn y t) (same ∙ is) (kept [] (subst (λ y. FitsIn y s) (sym is) first, (subst (λ y. FitsIn y u) (sym is) second, tt))).0
 
 -- a table has at most 1,024 frames, and a held frame is one of them
-pub held_within : (table : TableId) (s : SharedSeat) (ss : List SharedSeat) → AllFit table (s ∷ ss) → ((view_of s).size ≤ 1024) × ((f : ℕ) → IsHeld (view_of s) f → f < (view_of s).size)
+pub held_within : (table : TableId) (s : SharedSeat) (ss : List SharedSeat) → AllFit table (s ∷ ss) → ((view_of s).size ≤ MOST_FRAMES) × ((f : ℕ) → IsHeld (view_of s) f → f < (view_of s).size)
 held_within table s ss fit =
     let sized = (fit.0).2 in
     (omega (arith, sized.1), λ f held. let place = ((fit.0).1 f).0 held in omega (arith, place, sized.0))

@@ -15,6 +15,7 @@ use crate::seat::{Knowledge, SharedSeat};
 use crate::supply::SharedSupply;
 use crate::table::FramesRule;
 use atomic_table::{Closed, Table};
+use process_model::MOST_SHARED_FRAMES;
 use std::alloc::{AllocError, Global};
 use std::marker::Model;
 use std::sync::Wait;
@@ -54,7 +55,7 @@ impl SharedFrames {
     /// `AllocError`: the host is out of memory.
     pub fn new(alloc: Global, frames: usize) -> Result<(SharedFrames, SharedSeat), AllocError>
         requires some { 1 ≤ frames }
-        requires few { frames ≤ 256 }
+        requires few { frames ≤ MOST_SHARED_FRAMES }
         ensures frames { IfOk result (λ r. r.0.frames ≡ frames) }
         ensures fits { IfOk result (λ r. FitsIn r.0.table r.1) }
         ensures view { IfOk result (λ r. view_of r.1 ≡ opening_view frames) }
@@ -120,7 +121,7 @@ impl SharedFrames {
 /// `AllocError`: the host is out of memory.
 fn words_of(alloc: Global, frames: usize) -> Result<Vec<u64>, AllocError>
     requires some { 1 ≤ frames }
-    requires few { frames ≤ 256 }
+    requires few { frames ≤ MOST_SHARED_FRAMES }
     ensures { IfOk result (λ v. v.items ≡ first_words frames) }
 {
     let mut words = vec![in alloc; 0; 513 * frames + 1]?;
@@ -133,7 +134,7 @@ fn words_of(alloc: Global, frames: usize) -> Result<Vec<u64>, AllocError>
 fn count_free(closed: &Closed<(), Global>, frames: usize) -> usize
     requires full { IsFull closed.now.words }
     requires sized { slots_len closed.now.words ≡ 513 * frames + 1 }
-    requires few { frames ≤ 256 }
+    requires few { frames ≤ MOST_SHARED_FRAMES }
     ensures { result ≡ zero_counts (slots_items closed.now.words) frames }
 {
     let mut free = 0;

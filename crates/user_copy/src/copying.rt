@@ -29,6 +29,7 @@ use arrayvec::ArrayVec;
 use fault_rules::{Served, serve};
 use file_cabinet::Files;
 use frame_store::{FrameSeat, FrameSupply};
+use process_model::LONGEST_COPY;
 use sv39_entry::{Access, PAGE_SIZE, Va};
 
 /// Copies `n` bytes, at most 256, from a process's memory at `va`, and returns them (copyin of xv6). Each page is made
@@ -46,7 +47,7 @@ pub fn copy_in<S: FrameSeat, F: FrameSupply<Seat = S>, C: Files>(
     files: &mut C,
     va: Va,
     n: usize,
-) -> Result<ArrayVec<u8, 256>, Short>
+) -> Result<ArrayVec<u8, LONGEST_COPY>, Short>
     requires fits { IsSeatOf F.rule store.old space.old.seat }
     requires ready { (t : Tables) × (p : Process) × IsSpace (body_of S.view space.old) t p }
     requires few { n ≤ longest_copy }
@@ -128,7 +129,7 @@ fn read_pages<S: FrameSeat, F: FrameSupply<Seat = S>, C: Files>(
     files: &mut C,
     va: Va,
     n: usize,
-    bytes: &mut ArrayVec<u8, 256>,
+    bytes: &mut ArrayVec<u8, LONGEST_COPY>,
 ) -> Result<(), Stop>
     requires fits { IsSeatOf F.rule store.old space.old.seat }
     requires ready { (t : Tables) × (p : Process) × IsSpace (body_of S.view space.old) t p }
@@ -156,7 +157,7 @@ fn read_page<S: FrameSeat, F: FrameSupply<Seat = S>, C: Files>(
     files: &mut C,
     va: Va,
     n: usize,
-    bytes: &mut ArrayVec<u8, 256>,
+    bytes: &mut ArrayVec<u8, LONGEST_COPY>,
 ) -> Result<(), Stop>
     requires fits { IsSeatOf F.rule store.old space.old.seat }
     requires ready { (t : Tables) × (p : Process) × IsSpace (body_of S.view space.old) t p }

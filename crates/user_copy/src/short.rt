@@ -3,7 +3,7 @@
 // those bytes.
 
 use arrayvec::ArrayVec;
-use process_model::Refusal;
+use process_model::{LONGEST_COPY, Refusal};
 use sv39_entry::Rule;
 
 /// What stopped a copy.
@@ -25,5 +25,5 @@ pub struct Short {
     /// How many bytes were copied.
     pub done: usize,
     /// The bytes that were copied from the process; empty for a copy to it.
-    pub bytes: ArrayVec<u8, 256>,
+    pub bytes: ArrayVec<u8, LONGEST_COPY>,
 }
