@@ -70,7 +70,7 @@ module _ (v : View) (root trapframe : ℕ) (t : Tables) (p : Process) (page : �
       added_shows : ShowsPages w trapframe (with_leaf u (leaf_node page) x) (settled_with fresh bytes p page)
       added_shows =
           let s = can.stands.shows in
-          let new : Page = record { bytes = padded 4096 bytes; copy = fresh; fork_mark = false; stored_mark = false } in
+          let new : Page = record { bytes = padded 4096 bytes; copy = fresh; cow = false; dirty = false } in
           record {
             on_trampoline = (s.on_trampoline.0, keeps _ trampoline_apart ∙ s.on_trampoline.1, s.on_trampoline.2);
             on_trapframe = (s.on_trapframe.0, keeps _ trapframe_apart ∙ s.on_trapframe.1, s.on_trapframe.2);

@@ -75,7 +75,7 @@ same_regions (e ∷ es) p = same_regions es (with_settled p e)
 pub other_stays : (es : Pages) (p : Process) (page : ℕ) → (Contains (page_numbers es) page → ⊥) → pages.get (with_pages p es).settled page ≡ pages.get p.settled page
 other_stays [] p page other = refl
 other_stays (e ∷ es) p page other =
-    let new : Page = record { bytes = e.1; copy = 0; fork_mark = false; stored_mark = false } in
+    let new : Page = record { bytes = e.1; copy = 0; cow = false; dirty = false } in
     other_stays es (with_settled p e) page (λ h. other (behind e.0 page (page_numbers es) h))
     ∙ inserted_other e.0 new p.settled page (λ same. other (subst (λ x. Contains (e.0 ∷ page_numbers es) x) (sym same) (in_front e.0 (page_numbers es))))
 

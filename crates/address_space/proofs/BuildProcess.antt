@@ -34,7 +34,7 @@ use Rattle.sv39_entry.specs.declared.scheme.Scheme.TheVariants.{Sv39, Sv48}
 
 -- what of a page is in memory
 abbrev shown : Option Page → Option (List ℕ × Bool × Bool)
-shown o = option_map (λ (s : Page). (s.bytes, s.fork_mark, s.stored_mark)) o
+shown o = option_map (λ (s : Page). (s.bytes, s.cow, s.dirty)) o
 
 pub record IsLike (p q : Process) : Type 0 where
   pub scheme : p.scheme ≡ q.scheme
@@ -46,14 +46,14 @@ record Found (o : Option Page) (s : Page) : Type 0 where
   page : Page
   found : o ≡ Some page
   bytes : page.bytes ≡ s.bytes
-  mark : page.fork_mark ≡ s.fork_mark
-  stored : page.stored_mark ≡ s.stored_mark
+  mark : page.cow ≡ s.cow
+  stored : page.dirty ≡ s.dirty
 
 found_like : (a : Option Page) (s : Page) → shown a ≡ shown (Some s) → Found a s
 found_like None s same = absurd (cc)
 found_like (Some x) s same =
-    let all : ◌≡◌ {A = List ℕ × Bool × Bool} (x.bytes, x.fork_mark, x.stored_mark) (s.bytes, s.fork_mark, s.stored_mark) =
-    same_Some (x.bytes, x.fork_mark, x.stored_mark) (s.bytes, s.fork_mark, s.stored_mark) same in
+    let all : ◌≡◌ {A = List ℕ × Bool × Bool} (x.bytes, x.cow, x.dirty) (s.bytes, s.cow, s.dirty) =
+    same_Some (x.bytes, x.cow, x.dirty) (s.bytes, s.cow, s.dirty) same in
     record {
       page = x;
       found = refl;
@@ -83,7 +83,7 @@ module _ (p q : Process) (like : IsLike p q) where
           in_region = ap (λ rs. region_at rs n) (sym like.regions) ∙ is.in_region;
           mapped = is.mapped;
           made =
-              subst (λ stored. IsPageLeaf is.leaf is.frame is.region page.fork_mark (is_dirty_page is.region (record page { stored_mark = stored }))) there.stored
+              subst (λ stored. IsPageLeaf is.leaf is.frame is.region page.cow (is_dirty_page is.region (record page { dirty = stored }))) there.stored
               (subst (λ mark. IsPageLeaf is.leaf is.frame is.region mark (is_dirty_page is.region there.page)) there.mark is.made);
           bytes = subst (HasBytes v is.frame) there.bytes is.bytes;
         };
@@ -139,8 +139,8 @@ same_pages : (es : Pages) (low : ℕ) → IsRising low es → (p : Process) (fre
     → shown (pages.get (with_pages p es).settled n) ≡ shown (pages.get (from_list (numbered fresh es)) n)
 same_pages [] low up p fresh n none = ap shown none
 same_pages (e ∷ es) low up p fresh n none =
-    let first : Page = record { bytes = e.1; copy = 0; fork_mark = false; stored_mark = false } in
-    let second : Page = record { bytes = e.1; copy = fresh; fork_mark = false; stored_mark = false } in
+    let first : Page = record { bytes = e.1; copy = 0; cow = false; dirty = false } in
+    let second : Page = record { bytes = e.1; copy = fresh; cow = false; dirty = false } in
     elim (cases_eq n e.0) [
       | inl same ↦
           let later : Contains (page_numbers es) n → ⊥ = λ h. let above = rising_above es (e.0 + 1) n up.1 h in omega (arith, above, same) in

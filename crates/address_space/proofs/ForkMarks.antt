@@ -1,4 +1,4 @@
--- Lemmas for `mark_forked`: a settled page (one in memory) gets the fork mark, its leaf over the frame that it has but
+-- Lemmas for `mark_forked`: a settled page (one in memory) gets the copy-on-write mark, its leaf over the frame that it has but
 -- without W (`fork_turned`); if its region grants no writing, nothing changes (`fork_kept`).
 use Rattle.std.proofs.Common.{◌≡◌, ℕ, Some, Bool, true, false, not, ◌&&◌, ◌||◌, refl, ap, sym, subst, ◌∙◌, inl, inr}
 use Rattle.std.proofs.lemmas.Bool.{cases_eq}
@@ -78,8 +78,8 @@ module _ {v : View} {root trapframe : ℕ} {l : Layout} {t : Tables} {p : Proces
     module _ (lacks : lacks_right Store (Some r) ≡ true) where
       same_page : marked_page p page s ≡ s
       same_page =
-          ap (λ b. record s { fork_mark = s.fork_mark || b }) (ap (λ o. not (lacks_right Store o)) in_region ∙ ap not lacks)
-          ∙ ap (λ b. record s { fork_mark = b }) (or_false s.fork_mark)
+          ap (λ b. record s { cow = s.cow || b }) (ap (λ o. not (lacks_right Store o)) in_region ∙ ap not lacks)
+          ∙ ap (λ b. record s { cow = b }) (or_false s.cow)
 
       same_process : with_page p page (marked_page p page s) ≡ p
       same_process = ap (with_page p page) same_page ∙ ap (λ m. record p { settled = m }) (put_back p.settled page s settled)
@@ -108,8 +108,8 @@ module _ {v : View} {root trapframe : ℕ} {l : Layout} {t : Tables} {p : Proces
       here : HasPage v t p page s found.0
       here = found.1
 
-      is_marked : marked.fork_mark ≡ true
-      is_marked = ap (λ b. s.fork_mark || b) (ap (λ o. not (lacks_right Store o)) in_region ∙ ap not lacks) ∙ or_true s.fork_mark
+      is_marked : marked.cow ≡ true
+      is_marked = ap (λ b. s.cow || b) (ap (λ o. not (lacks_right Store o)) in_region ∙ ap not lacks) ∙ or_true s.cow
 
       same_frame : (a.frame).0 ≡ found.0
       same_frame = one_ppn (a.frame).0 found.0 (sym is.on.2 ∙ ap ppn (same_Some is.on.0 here.leaf (sym is.on.1 ∙ here.mapped)) ∙ here.made.names)
@@ -118,9 +118,9 @@ module _ {v : View} {root trapframe : ℕ} {l : Layout} {t : Tables} {p : Proces
       dirty_is =
           ap (λ b. b && r.writes) is.dirty
           ∙ ap (λ q. is_dirty_page q s && r.writes) (same_Some is.region r (sym is.in_region ∙ in_region))
-          ∙ kept_dirty (s.stored_mark || not (is_shared_kind r.kind)) r.writes
+          ∙ kept_dirty (s.dirty || not (is_shared_kind r.kind)) r.writes
 
-      shown : IsPageLeaf leaf found.0 r marked.fork_mark (is_dirty_page r marked)
+      shown : IsPageLeaf leaf found.0 r marked.cow (is_dirty_page r marked)
       shown =
           subst (λ b. IsPageLeaf leaf found.0 r b (is_dirty_page r marked)) (sym is_marked)
           (subst (λ b. IsPageLeaf leaf found.0 r true b) dirty_is

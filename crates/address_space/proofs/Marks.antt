@@ -1,5 +1,5 @@
 -- Lemmas for `mark_stored`: a page that may be written gets a leaf with D over the frame that it has, of which the seat (an
--- owner's capability at a frame store) is the sole holder. The page then has the stored mark (D) if its stores are written
+-- owner's capability at a frame store) is the sole holder. The page then has the dirty mark (D) if its stores are written
 -- back (`marks`).
 use Rattle.std.proofs.Common.{◌≡◌, ℕ, Option, Some, Bool, true, false, not, ◌&&◌, ◌||◌, refl, ap, sym, subst, ◌∙◌}
 use Rattle.std.proofs.lemmas.Option.{same_Some}
@@ -62,9 +62,9 @@ module _ {v : View} {root trapframe : ℕ} {l : Layout} {t : Tables} {p : Proces
     dirty_is : (true && r.writes) ≡ is_dirty_page r marked
     dirty_is =
         let same : keeps_stores (region_on p page) ≡ (true && is_shared_kind r.kind) = ap keeps_stores in_region ∙ ap (λ b. b && is_shared_kind r.kind) writes in
-        writes ∙ sym (ap (λ b. ((s.stored_mark || b) || not (is_shared_kind r.kind)) && r.writes) same
-        ∙ ap (λ b. ((s.stored_mark || (true && is_shared_kind r.kind)) || not (is_shared_kind r.kind)) && b) writes
-        ∙ all_dirty s.stored_mark (is_shared_kind r.kind))
+        writes ∙ sym (ap (λ b. ((s.dirty || b) || not (is_shared_kind r.kind)) && r.writes) same
+        ∙ ap (λ b. ((s.dirty || (true && is_shared_kind r.kind)) || not (is_shared_kind r.kind)) && b) writes
+        ∙ all_dirty s.dirty (is_shared_kind r.kind))
 
     module _ (w : View) (x : FrameNo × Bool) (o : Option (FrameNo × Bool)) (is : o ≡ option_and_then (λ w. option_map (λ f. (f, has_flag w 128)) (frame_at (ppn w))) (get t.leaves (leaf_node page)))
         (some : o ≡ Some x) (leaf : ℕ) (made : IsPageLeaf leaf (x.0).0 r false (true && r.writes)) (tables : HasTables p.scheme w root (with_leaf t (leaf_node page) leaf))
@@ -72,7 +72,7 @@ module _ {v : View} {root trapframe : ℕ} {l : Layout} {t : Tables} {p : Proces
       same_frame : (x.0).0 ≡ found.0
       same_frame = mark_frame o x is some
 
-      shown : IsPageLeaf leaf found.0 r marked.fork_mark (is_dirty_page r marked)
+      shown : IsPageLeaf leaf found.0 r marked.cow (is_dirty_page r marked)
       shown =
           subst (λ b. IsPageLeaf leaf found.0 r b (is_dirty_page r marked)) (sym can.unmarked)
           (subst (λ b. IsPageLeaf leaf found.0 r false b) dirty_is

@@ -202,7 +202,7 @@ module _ (v w : View) (root trapframe : ℕ) (extra : ℕ → ℕ) (t : Tables) 
       words_other y.0 v w (_, word y.0 y.1) x (λ same. apart (last_table p.scheme page) (y.1 ∙ ap Some (sym same)))
 
   -- another page in the place of the settled one
-  pub turned_stands : (n : Page) → IsPageLeaf leaf g r n.fork_mark (is_dirty_page r n) → (after : ℕ → ℕ) → ((k : ℕ) → get t.tables k ≡ Some g → ⊥) → HasBytes v g n.bytes
+  pub turned_stands : (n : Page) → IsPageLeaf leaf g r n.cow (is_dirty_page r n) → (after : ℕ → ℕ) → ((k : ℕ) → get t.tables k ≡ Some g → ⊥) → HasBytes v g n.bytes
       → OwnsFrames v (with_leaf t (leaf_node page) leaf) after → IsInMemory w root trapframe after (with_leaf t (leaf_node page) leaf) (with_page p page n)
   turned_stands n made after apart bytes owns =
       page_stands v w trapframe t (with_leaf t (leaf_node page) leaf) p page n leaf g r

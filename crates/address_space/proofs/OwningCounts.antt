@@ -188,7 +188,7 @@ refused_dry v a w f c look dry none more = (
   },
 )
 
--- of a page with a fork mark
+-- of a page with a copy-on-write mark
 
 kept_dirty : (a w : Bool) → ((a && w) && w) ≡ (a && w)
 kept_dirty false w = refl
@@ -204,7 +204,7 @@ module _ {v : View} {root trapframe : ℕ} {l : Layout} {t : Tables} {p : Proces
     in_region = can.in_region;
     leafy = leafy_at p can.agrees.sound.order page can.region can.in_region;
     on = can.on;
-    kept = kept_dirty (s.stored_mark || not (is_shared_kind can.region.kind)) can.region.writes;
+    kept = kept_dirty (s.dirty || not (is_shared_kind can.region.kind)) can.region.writes;
   })
 
   regions_here : here.region ≡ can.region
@@ -227,7 +227,7 @@ module _ {v : View} {root trapframe : ℕ} {l : Layout} {t : Tables} {p : Proces
     own_stays_dirty r in_region =
         let same = same_Some r can.region (sym in_region ∙ can.in_region) in
         subst (λ q. (x.1 && q.writes) ≡ is_dirty_page q s) (sym same)
-        (ap (λ b. b && can.region.writes) own_dirty ∙ kept_dirty (s.stored_mark || not (is_shared_kind can.region.kind)) can.region.writes)
+        (ap (λ b. b && can.region.writes) own_dirty ∙ kept_dirty (s.dirty || not (is_shared_kind can.region.kind)) can.region.writes)
 
   pub own_one : references v f ≡ 1
   own_one = can.agrees.stands.owns.named f (leaf_node page) (inr (can.on.0, can.on.1, can.on.2))

@@ -17,20 +17,20 @@ use Rattle.sv39_entry.specs.declared.scheme.Scheme.{Scheme}
 
 module _ (r x : Region) (like : HasSameLeafRights r x) where
   same_dirty : (s : Page) → is_dirty_page r s ≡ is_dirty_page x s
-  same_dirty s = ap (λ b. (s.stored_mark || not b) && r.writes) (sym like.shared) ∙ ap (λ b. (s.stored_mark || not (is_shared_kind x.kind)) && b) (sym like.writes)
+  same_dirty s = ap (λ b. (s.dirty || not b) && r.writes) (sym like.shared) ∙ ap (λ b. (s.dirty || not (is_shared_kind x.kind)) && b) (sym like.writes)
 
-  leaf_like : (w f : ℕ) (s : Page) → IsPageLeaf w f r s.fork_mark (is_dirty_page r s) → IsPageLeaf w f x s.fork_mark (is_dirty_page x s)
+  leaf_like : (w f : ℕ) (s : Page) → IsPageLeaf w f r s.cow (is_dirty_page r s) → IsPageLeaf w f x s.cow (is_dirty_page x s)
   leaf_like w f s made = record {
     names = made.names;
     small = made.small;
     read = made.read ∙ ap (λ b. b || r.reads) (sym like.guard) ∙ ap (λ b. is_guard_kind x.kind || b) (sym like.reads);
-    write = made.write ∙ ap (λ b. b && not s.fork_mark) (sym like.writes);
+    write = made.write ∙ ap (λ b. b && not s.cow) (sym like.writes);
     execute = made.execute ∙ sym like.executes;
     for_user = made.for_user ∙ ap not (sym like.guard);
     global = made.global;
     accessed = made.accessed;
     dirty = made.dirty ∙ same_dirty s;
-    copy_on_write = made.copy_on_write;
+    cow = made.cow;
     unused = made.unused;
   }
 

@@ -96,7 +96,7 @@ module _ (v : View) (root trapframe : ℕ) (l : Layout) (t : Tables) (p : Proces
     names_frame = rw frame_found refl
 
     shows_page : (f : FrameNo) (mark dirty : Bool) → frame_at (ppn w) ≡ Some f → mark ≡ has_flag w 256 → dirty ≡ has_flag w 128
-        → IsSettledPage t p (record { page = page; frame = f; fork_mark = mark; dirty = dirty })
+        → IsSettledPage t p (record { page = page; frame = f; cow = mark; dirty = dirty })
     shows_page f mark dirty named marked dirtied =
         let same : record { 0 = here.0 } ≡ f = same_Some (record { 0 = here.0 }) f (sym frame_found ∙ named) in
         record {
@@ -105,15 +105,15 @@ module _ (v : View) (root trapframe : ℕ) (l : Layout) (t : Tables) (p : Proces
           settled = its_page.1;
           in_region = here.1.in_region;
           on = (w, leaf, ap ppn (sym leaf_is) ∙ here.1.made.names ∙ ap (λ (x : FrameNo). ppn_of x.0) same);
-          fork_mark = marked ∙ has_flag_is w 8 ∙ ap (λ x. has x 8) (sym leaf_is) ∙ here.1.made.copy_on_write;
+          cow = marked ∙ has_flag_is w 8 ∙ ap (λ x. has x 8) (sym leaf_is) ∙ here.1.made.cow;
           dirty = dirtied ∙ has_flag_is w 7 ∙ ap (λ x. has x 7) (sym leaf_is) ∙ here.1.made.dirty;
         }
 
-    pub page_is : (x : SettledPage) → x.page ≡ page → frame_at (ppn w) ≡ Some x.frame → x.fork_mark ≡ has_flag w 256 → x.dirty ≡ has_flag w 128
+    pub page_is : (x : SettledPage) → x.page ≡ page → frame_at (ppn w) ≡ Some x.frame → x.cow ≡ has_flag w 256 → x.dirty ≡ has_flag w 128
         → IsSettledPage t p x
     page_is x same named marked dirtied =
-        subst (λ n. IsSettledPage t p (record { page = n; frame = x.frame; fork_mark = x.fork_mark; dirty = x.dirty })) (sym same)
-        (shows_page x.frame x.fork_mark x.dirty named marked dirtied)
+        subst (λ n. IsSettledPage t p (record { page = n; frame = x.frame; cow = x.cow; dirty = x.dirty })) (sym same)
+        (shows_page x.frame x.cow x.dirty named marked dirtied)
 
   module _ (first last end page w : ℕ) (found : IsFirstMapped t first last (Some (page, w))) (sooner : last ≤ end) (up : end ≤ (trapframe_page p.scheme)) where
     pub low_page : page < (trapframe_page p.scheme)

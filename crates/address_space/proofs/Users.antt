@@ -50,7 +50,7 @@ same_page Sv48 n a low canonical same = elim (or_cases (a / 2 ^ 47 == 0) (a / 2 
 abbrev lets : Access → Region → Page → Bool
 lets Fetch r s = not (is_guard_kind r.kind) && r.executes
 lets Load r s = not (is_guard_kind r.kind) && r.reads
-lets Store r s = not (is_guard_kind r.kind) && ((r.writes && not s.fork_mark) && is_dirty_page r s)
+lets Store r s = not (is_guard_kind r.kind) && ((r.writes && not s.cow) && is_dirty_page r s)
 
 fetch_bits : (g x : Bool) → (not g && (x && true)) ≡ (not g && x)
 fetch_bits true x = refl
@@ -68,10 +68,10 @@ store_bits false true true = refl
 store_bits false true false = refl
 store_bits false false d = refl
 
-permits_is : (w f : ℕ) (r : Region) (s : Page) (access : Access) → IsPageLeaf w f r s.fork_mark (is_dirty_page r s) → permits User access w ≡ lets access r s
+permits_is : (w f : ℕ) (r : Region) (s : Page) (access : Access) → IsPageLeaf w f r s.cow (is_dirty_page r s) → permits User access w ≡ lets access r s
 permits_is w f r s Fetch made = rw (made.for_user, made.execute, made.accessed) (fetch_bits (is_guard_kind r.kind) r.executes)
 permits_is w f r s Load made = rw (made.for_user, made.read, made.accessed) (load_bits (is_guard_kind r.kind) r.reads)
-permits_is w f r s Store made = rw (made.for_user, made.write, made.accessed, made.dirty) (store_bits (is_guard_kind r.kind) (r.writes && not s.fork_mark) (is_dirty_page r s))
+permits_is w f r s Store made = rw (made.for_user, made.write, made.accessed, made.dirty) (store_bits (is_guard_kind r.kind) (r.writes && not s.cow) (is_dirty_page r s))
 
 -- the rule
 
@@ -141,7 +141,8 @@ stop : (g x : Bool) → (not g && x) ≡ false → (g ≡ true) ⊎ ((g ≡ fals
 stop true x is = inl refl
 stop false x is = inr (refl, is)
 
--- a leaf that may be written and is dirty: the region grants writing, no fork mark, and the stored mark where it is wanted
+-- a leaf that may be written and is dirty: the region grants writing, no copy-on-write mark, and the dirty mark where it is
+-- wanted
 pass_store : (writes mark stored shared : Bool) → ((writes && not mark) && ((stored || not shared) && writes)) ≡ true → (writes ≡ true) × ((not mark && (stored || not (writes && shared))) ≡ true)
 pass_store true false true shared is = (refl, refl)
 pass_store true false false true is = absurd (cc)
@@ -164,16 +165,16 @@ let_through : (r : Region) (s : Page) (access : Access) → lets access r s ≡ 
 let_through r s Fetch is = let two = pass (is_guard_kind r.kind) r.executes is in (rw (two.0, two.1) refl, refl)
 let_through r s Load is = let two = pass (is_guard_kind r.kind) r.reads is in (rw (two.0, two.1) refl, refl)
 let_through r s Store is =
-    let two = pass (is_guard_kind r.kind) ((r.writes && not s.fork_mark) && is_dirty_page r s) is in
-    let more = pass_store r.writes s.fork_mark s.stored_mark (is_shared_kind r.kind) two.1 in
+    let two = pass (is_guard_kind r.kind) ((r.writes && not s.cow) && is_dirty_page r s) is in
+    let more = pass_store r.writes s.cow s.dirty (is_shared_kind r.kind) two.1 in
     (rw (two.0, more.0) refl, more.1)
 
 held_back : (r : Region) (s : Page) (access : Access) → lets access r s ≡ false → ((x : Rule) × (passes r access ≡ Some x)) ⊎ (can_complete access (Some r) s ≡ false)
 held_back r s Fetch is = elim (stop (is_guard_kind r.kind) r.executes is) [ inl guard ↦ inl (rule.GuardPage, rw guard refl) | inr two ↦ inl (rule.NoExec, rw (two.0, two.1) refl) ]
 held_back r s Load is = elim (stop (is_guard_kind r.kind) r.reads is) [ inl guard ↦ inl (rule.GuardPage, rw guard refl) | inr two ↦ inl (rule.NoRead, rw (two.0, two.1) refl) ]
-held_back r s Store is = elim (stop (is_guard_kind r.kind) ((r.writes && not s.fork_mark) && is_dirty_page r s) is) [
+held_back r s Store is = elim (stop (is_guard_kind r.kind) ((r.writes && not s.cow) && is_dirty_page r s) is) [
   | inl guard ↦ inl (rule.GuardPage, rw guard refl)
-  | inr two ↦ elim (stop_store r.writes s.fork_mark s.stored_mark (is_shared_kind r.kind) two.1) [
+  | inr two ↦ elim (stop_store r.writes s.cow s.dirty (is_shared_kind r.kind) two.1) [
     | inl none ↦ inl (rule.NoWrite, rw (two.0, none) refl)
     | inr stops ↦ inr stops
   ]

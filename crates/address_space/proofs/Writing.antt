@@ -66,7 +66,7 @@ pub record HasPage (v : View) (t : Tables) (p : Process) (page : ℕ) (s : Page)
   pub leaf : ℕ
   pub in_region : region_at (regions p) page ≡ Some region
   pub mapped : get t.leaves (leaf_node page) ≡ Some leaf
-  pub made : IsPageLeaf leaf f region s.fork_mark (is_dirty_page region s)
+  pub made : IsPageLeaf leaf f region s.cow (is_dirty_page region s)
   pub bytes : HasBytes v f s.bytes
   pub held : IsHeld v f
   pub low : page < (trapframe_page p.scheme)
@@ -124,7 +124,7 @@ put_other m k q x apart = find-put nat_cmp nat_cmp_total q k x m.entries ∙ rw 
 -- One page has this leaf over this frame; the frames of the other leaves have the holds that they had.
 module _ (v w : View) (trapframe : ℕ) (t u : Tables) (p : Process) (page : ℕ) (s : Page) (leaf g : ℕ) (region : Region)
     (low : page < (trapframe_page p.scheme)) (others : KeepsOtherLeaves t u page) (mapped : get u.leaves (leaf_node page) ≡ Some leaf)
-    (made : IsPageLeaf leaf g region s.fork_mark (is_dirty_page region s)) (in_region : region_at (regions p) page ≡ Some region) (bytes : HasBytes w g s.bytes)
+    (made : IsPageLeaf leaf g region s.cow (is_dirty_page region s)) (in_region : region_at (regions p) page ≡ Some region) (bytes : HasBytes w g s.bytes)
     (apart : (k x f : ℕ) → (k ≡ leaf_node page → ⊥) → get t.leaves k ≡ Some x → ppn x ≡ ppn_of f → hold_of w f ≡ hold_of v f) where
   away : (n : ℕ) → (n ≡ page → ⊥) → leaf_node n ≡ leaf_node page → ⊥
   away n ne same = ne (one_page n page same)
@@ -199,7 +199,7 @@ pub page_sole : (v : View) (root trapframe : ℕ) (l : Layout) (t : Tables) (p :
 page_sole v root trapframe l t p page s f can here =
     let same = same_Some here.region can.region (sym here.in_region ∙ can.in_region) in
     can.read.agrees.stands.owns.writable f (leaf_node page) here.leaf here.mapped here.made.names
-    (here.made.write ∙ ap (λ (r : Region). r.writes && not s.fork_mark) same ∙ ap (λ b. b && not s.fork_mark) can.writes ∙ ap not can.unmarked)
+    (here.made.write ∙ ap (λ (r : Region). r.writes && not s.cow) same ∙ ap (λ b. b && not s.cow) can.writes ∙ ap not can.unmarked)
 
 pub page_written : (v w : View) (root trapframe : ℕ) (l : Layout) (t : Tables) (p : Process) (page : ℕ) (s : Page) (f : ℕ) (bytes : List ℕ)
     → CanRead (body v root trapframe l) t p page s → HasPage v t p page s f → ChangesWords f v w → HasBytes w f bytes

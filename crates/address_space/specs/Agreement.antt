@@ -61,25 +61,25 @@ pub record HoldsTrapframe (v : View) (trapframe : ℕ) : Type 0 where
 
 -- leaves
 
--- whether the leaf of page s of region r has D: if the region grants writing; in a shared mapping only with the stored mark
+-- whether the leaf of page s of region r has D: if the region grants writing; in a shared mapping only with the dirty mark
 -- as well
 abbrev pub is_dirty_page : Region → Page → Bool
-is_dirty_page r s = (s.stored_mark || not (is_shared_kind r.kind)) && r.writes
+is_dirty_page r s = (s.dirty || not (is_shared_kind r.kind)) && r.writes
 
--- w has the page number of frame f and the flags of a leaf of a page of region r (4.4.1; of the two bits for software, RSW,
--- bit 8 is the fork mark and bit 9 is clear: own choice). The guard's leaf has R and lacks U: only the kernel may read the
+-- w has the page number of frame f and the flags of a leaf of a page of region r (4.4.1; of the two bits for software, RSW, bit
+-- 8 is the copy-on-write mark and bit 9 is clear: own choice). The guard's leaf has R and lacks U: only the kernel may read the
 -- page.
-pub record IsPageLeaf (w f : ℕ) (r : Region) (mark is_dirty : Bool) : Type 0 where
+pub record IsPageLeaf (w f : ℕ) (r : Region) (is_cow is_dirty : Bool) : Type 0 where
   pub names : ppn w ≡ ppn_of f
   pub small : f < 2 ^ 16
   pub read : has w 1 ≡ (is_guard_kind r.kind || r.reads)
-  pub write : has w 2 ≡ (r.writes && not mark)
+  pub write : has w 2 ≡ (r.writes && not is_cow)
   pub execute : has w 3 ≡ r.executes
   pub for_user : has w 4 ≡ not (is_guard_kind r.kind)
   pub global : has w 5 ≡ false
   pub accessed : has w 6 ≡ true
   pub dirty : has w 7 ≡ is_dirty
-  pub copy_on_write : has w 8 ≡ mark
+  pub cow : has w 8 ≡ is_cow
   pub unused : has w 9 ≡ false
 
 -- the rights of code, R and X, and those of data, R and W, as sets of bits
@@ -102,7 +102,7 @@ pub record IsShown (v : View) (t : Tables) (p : Process) (n : ℕ) (s : Page) : 
   pub leaf : ℕ
   pub in_region : region_at (regions p) n ≡ Some region
   pub mapped : get t.leaves (leaf_node n) ≡ Some leaf
-  pub made : IsPageLeaf leaf frame region s.fork_mark (is_dirty_page region s)
+  pub made : IsPageLeaf leaf frame region s.cow (is_dirty_page region s)
   pub bytes : HasBytes v frame s.bytes
 
 -- k is the number of a leaf that the process has: TRAMPOLINE's, TRAPFRAME's or that of a settled page

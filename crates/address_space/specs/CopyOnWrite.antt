@@ -1,5 +1,5 @@
 -- Predicates before (`CanSeparate`) and after (`Separates`) a settled page (one in memory) moves to a newly claimed frame,
--- for copy-on-write: with the same bytes, without fork mark, and by one credit (reserved frame).
+-- for copy-on-write: with the same bytes, without copy-on-write mark, and by one credit (reserved frame).
 use Rattle.std.specs.Prelude.{◌≡◌, ℕ, Bool, true, ◌&&◌, Some}
 use Rattle.frame_store.specs.View.{View, IsSole, references}
 use Rattle.process_model.specs.PageMap as pages
@@ -20,8 +20,8 @@ pub record CanSeparate (v : View) (root trapframe : ℕ) (t : Tables) (p : Proce
   pub on : IsFrameOfPage t page f
   pub kept : (dirty && r.writes) ≡ is_dirty_page r s
 
--- after: the page has the same bytes and no fork mark, and is on frame g, which the seat did not hold before and is sole
--- holder of; every other page keeps its leaf, and one credit was spent
+-- after: the page has the same bytes and no copy-on-write mark, and is on frame g, which the seat did not hold before and is
+-- sole holder of; every other page keeps its leaf, and one credit was spent
 pub record Separates (v w : View) (root trapframe : ℕ) (t u : Tables) (p : Process) (page : ℕ) (s : Page) (g : ℕ) : Type 0 where
   pub stands : (fresh : ℕ) (shared : Bool) → IsInMemory w root trapframe no_extra u (with_page p page (unmarked fresh shared s))
   pub on : IsFrameOfPage u page g

@@ -81,7 +81,7 @@ bare_process z ps = settled_process z ps (empty Page) (empty (Unit {0}))
 -- the process with one more page, of these bytes; in `with_pages` with a list of pages, one after another
 abbrev pub with_settled : Process → ℕ × List ℕ → Process
 with_settled p e = record p {
-  settled = pages.insert p.settled e.0 (record { bytes = e.1; copy = 0; fork_mark = false; stored_mark = false });
+  settled = pages.insert p.settled e.0 (record { bytes = e.1; copy = 0; cow = false; dirty = false });
   tabled = pages.insert p.tabled e.0 tt;
 }
 

@@ -88,7 +88,7 @@ kernel_same w v f rights a b = record {
   at5 = a.global ∙ sym b.global;
   at6 = a.accessed ∙ sym b.accessed;
   at7 = a.modified ∙ sym b.modified;
-  at8 = a.copy_on_write ∙ sym b.copy_on_write;
+  at8 = a.cow ∙ sym b.cow;
   at9 = a.unused ∙ sym b.unused;
 }
 
@@ -102,7 +102,7 @@ page_same w v f g r mark dirty names a b = record {
   at5 = a.global ∙ sym b.global;
   at6 = a.accessed ∙ sym b.accessed;
   at7 = a.dirty ∙ sym b.dirty;
-  at8 = a.copy_on_write ∙ sym b.copy_on_write;
+  at8 = a.cow ∙ sym b.cow;
   at9 = a.unused ∙ sym b.unused;
 }
 
@@ -110,8 +110,8 @@ page_same w v f g r mark dirty names a b = record {
 pub record WasAlike (t u : Tables) (p : Process) (n : ℕ) (z : Page) : Type 0 where
   pub before : Page
   pub settled : pages.get p.settled n ≡ Some before
-  pub fork_mark : z.fork_mark ≡ before.fork_mark
-  pub stored_mark : z.stored_mark ≡ before.stored_mark
+  pub cow : z.cow ≡ before.cow
+  pub dirty : z.dirty ≡ before.dirty
   pub on : (f : ℕ) → IsFrameOfPage u n f → IsFrameOfPage t n f
 
 module _ (x y : Body) (t u : Tables) (p q : Process) (a : IsSpace x t p) (b : IsSpace y u q) (trapframe : y.trapframe ≡ x.trapframe) (same_scheme : q.scheme ≡ p.scheme) (same_regions : regions q ≡ regions p)
@@ -135,11 +135,11 @@ module _ (x y : Body) (t u : Tables) (p q : Process) (a : IsSpace x t p) (b : Is
       let region : now.region ≡ shown.region = same_Some now.region shown.region (sym now.in_region ∙ ap (λ rs. region_at rs n) same_regions ∙ shown.in_region) in
       let on = old.on now.frame (now.leaf, now.mapped, now.made.names) in
       let names : ppn now.leaf ≡ ppn shown.leaf = now.made.names ∙ sym on.2 ∙ ap ppn (same_Some on.0 shown.leaf (sym on.1 ∙ shown.mapped)) in
-      let dirty : is_dirty_page now.region z ≡ is_dirty_page shown.region old.before = ap (λ r. is_dirty_page r z) region ∙ ap (λ m. is_dirty_page shown.region (record z { stored_mark = m })) old.stored_mark in
-      let made : IsPageLeaf now.leaf now.frame shown.region old.before.fork_mark (is_dirty_page shown.region old.before) =
-      subst (λ (d : Bool). IsPageLeaf now.leaf now.frame shown.region old.before.fork_mark d) dirty
-      (subst (λ (m : Bool). IsPageLeaf now.leaf now.frame shown.region m (is_dirty_page now.region z)) old.fork_mark
-      (subst (λ (r : Region). IsPageLeaf now.leaf now.frame r z.fork_mark (is_dirty_page now.region z)) region now.made)) in
+      let dirty : is_dirty_page now.region z ≡ is_dirty_page shown.region old.before = ap (λ r. is_dirty_page r z) region ∙ ap (λ m. is_dirty_page shown.region (record z { dirty = m })) old.dirty in
+      let made : IsPageLeaf now.leaf now.frame shown.region old.before.cow (is_dirty_page shown.region old.before) =
+      subst (λ (d : Bool). IsPageLeaf now.leaf now.frame shown.region old.before.cow d) dirty
+      (subst (λ (m : Bool). IsPageLeaf now.leaf now.frame shown.region m (is_dirty_page now.region z)) old.cow
+      (subst (λ (r : Region). IsPageLeaf now.leaf now.frame r z.cow (is_dirty_page now.region z)) region now.made)) in
       let same : now.leaf ≡ shown.leaf = same_word now.leaf shown.leaf (kind_u _ now.leaf now.mapped) (kind_t _ shown.leaf shown.mapped) (page_same now.leaf shown.leaf now.frame shown.frame shown.region _ _ names made shown.made) in
       now.mapped ∙ ap Some same ∙ sym shown.mapped
 

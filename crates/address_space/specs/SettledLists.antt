@@ -1,6 +1,6 @@
--- Predicates about the results of calls that find settled pages (those in memory), each with its frame, fork mark and D: one
--- page (`IsSettled`), the first of a range (`IsNextSettled`), a list of all pages of a range (`AreSettled`). Also a filler
--- for lists.
+-- Predicates about the results of calls that find settled pages (those in memory), each with its frame, copy-on-write mark and
+-- D: one page (`IsSettled`), the first of a range (`IsNextSettled`), a list of all pages of a range (`AreSettled`). Also a
+-- filler for lists.
 use Rattle.std.specs.Prelude.{◌≡◌, ℕ, ◌+◌, ◌<◌, ◌≤◌, false, List, [], ◌∷◌, Option, None, Some}
 use Rattle.process_model.specs.PageMap.{get}
 use Rattle.process_model.specs.Process.{Page, Process, regions}
@@ -11,20 +11,20 @@ use Rattle.address_space.specs.declared.settled_pages.SettledPage.{SettledPage}
 
 -- filler for an unused place of a fixed-size list
 abbrev pub no_page : SettledPage
-no_page = record { page = 0; frame = record { 0 = 0 }; fork_mark = false; dirty = false }
+no_page = record { page = 0; frame = record { 0 = 0 }; cow = false; dirty = false }
 
 -- no page from `first` up to, and without, `end` is settled
 abbrev pub AreUnsettled : Process → ℕ → ℕ → Type 0
 AreUnsettled p first end = (n : ℕ) → first ≤ n → n < end → get p.settled n ≡ None
 
--- x is a settled page of the process: with its frame, its fork mark, and whether its leaf has D
+-- x is a settled page of the process: with its frame, its copy-on-write mark, and whether its leaf has D
 pub record IsSettledPage (t : Tables) (p : Process) (x : SettledPage) : Type 0 where
   pub page : Page
   pub region : Region
   pub settled : get p.settled x.page ≡ Some page
   pub in_region : region_at (regions p) x.page ≡ Some region
   pub on : IsFrameOfPage t x.page x.frame.0
-  pub fork_mark : x.fork_mark ≡ page.fork_mark
+  pub cow : x.cow ≡ page.cow
   pub dirty : x.dirty ≡ is_dirty_page region page
 
 -- the result for one page: the page if it is settled, else None

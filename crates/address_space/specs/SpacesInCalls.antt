@@ -1,7 +1,7 @@
 -- `IsSpaceInCall`: a space holds this process while a call is in progress, when its seat (an owner's capability at a frame
 -- store) may have credits (reserved frames) and further references; a law that a space between calls is such a one.
 -- Predicates: a page of it is settled (in memory); `RewritesLeaves`, page-table leaves are rewritten, and what stays then
--- (frames named, tables, references, credits); and a fork mark is set (the next store takes the page over first).
+-- (frames named, tables, references, credits); and a copy-on-write mark is set (the next store takes the page over first).
 use Rattle.std.specs.Prelude.{◌≡◌, ℕ, Some}
 use Rattle.std.specs.FinMap.{get}
 use Rattle.frame_store.specs.View.{hold_of, references}
@@ -32,7 +32,8 @@ pub record HasSettledPage (x : Body) (t : Tables) (p : Process) (page : ℕ) (s 
   pub settled : pages.get p.settled page ≡ Some s
 
 -- Leaves were rewritten: each leaf there afterwards names the frame that it named before. The tables are in the frames that
--- they were in. The seat has the same references, credits and tallies, and of each frame that is no table the same known words and sole mark.
+-- they were in. The seat has the same references, credits and tallies, and of each frame that is no table the same known words
+-- and sole mark.
 pub record RewritesLeaves (x y : Body) (t u : Tables) : Type 0 where
   pub on : (n f : ℕ) → IsFrameOfPage u n f → IsFrameOfPage t n f
   pub tables : u.tables ≡ t.tables
@@ -42,7 +43,7 @@ pub record RewritesLeaves (x y : Body) (t u : Tables) : Type 0 where
   pub tallies : y.view.tallies ≡ x.view.tallies
   pub size : y.view.size ≡ x.view.size
 
--- the settled page s got the fork mark if its region grants writing, else it is as it was
+-- the settled page s got the copy-on-write mark if its region grants writing, else it is as it was
 pub record MarksForked (x y : Body) (t u : Tables) (p : Process) (extra : ℕ → ℕ) (page : ℕ) (s : Page) : Type 0 where
   pub forking : IsSpaceInCall y u (with_page p page (marked_page p page s)) extra
   pub turns : RewritesLeaves x y t u

@@ -1,5 +1,5 @@
 -- Conditions and effects of the calls of `Space`, as predicates: settling a page (bringing it into memory), taking one over
--- (copy-on-write), reads and writes, the stored mark (D), the end of a space, a change of its regions. Also counts of frames
+-- (copy-on-write), reads and writes, the dirty mark (D), the end of a space, a change of its regions. Also counts of frames
 -- and credits (reserved frames): credits spent (`SpendsCredits`), frames claimed and reference counts read (`TakesFrames`),
 -- a call that claimed none for want of free frames (`RunsDry`), and how many taking over needs.
 use Rattle.std.specs.Prelude.{◌≡◌, ◌≢◌, ℕ, true, false, not, ◌==◌, ◌+◌, ◌-◌, ◌%◌, ◌<◌, None, Option, Some, List, [], option_to_list}
@@ -49,7 +49,7 @@ pub record CanAdd (v : View) (root trapframe : ℕ) (t : Tables) (p : Process) (
 -- the process with one more settled page: these bytes and zeros after them, copy number `fresh`, no mark
 abbrev pub settled_with : ℕ → List ℕ → Process → ℕ → Process
 settled_with fresh bytes p page = record p {
-  settled = pages.insert p.settled page (record { bytes = padded 4096 bytes; copy = fresh; fork_mark = false; stored_mark = false });
+  settled = pages.insert p.settled page (record { bytes = padded 4096 bytes; copy = fresh; cow = false; dirty = false });
   tabled = pages.insert p.tabled page tt;
 }
 
@@ -85,24 +85,25 @@ pub record Settles (v : View) (x : Body) (t u : Tables) (p : Process) (page : �
 abbrev pub HasSettled : Body → Body → ℕ → List ℕ → Type 0
 HasSettled x y page bytes = (t : Tables) (p : Process) → CanSettle x t p page → (u : Tables) × (f : ℕ) × Settles x.view y t u p page bytes f
 
--- a page with the fork mark is taken over
+-- a page with the copy-on-write mark is taken over
 
 -- how many frames taking over takes, by the reference count of the page's frame: none at 1, else one
 abbrev pub own_need : ℕ → ℕ
 own_need count = take_over_need (not (count == 1))
 
--- the space x is the process p, and its page s is settled, on frame f, with the fork mark, in a region that grants writing
+-- the space x is the process p, and its page s is settled, on frame f, with the copy-on-write mark, in a region that grants
+-- writing
 pub record CanOwn (x : Body) (t : Tables) (p : Process) (page : ℕ) (s : Page) (f : ℕ) : Type 0 where
   pub agrees : IsSpace x t p
   pub settled : pages.get p.settled page ≡ Some s
-  pub marked : s.fork_mark ≡ true
+  pub marked : s.cow ≡ true
   pub region : Region
   pub in_region : region_at (regions p) page ≡ Some region
   pub writes : region.writes ≡ true
   pub on : IsFrameOfPage t page f
 
--- the page has no fork mark, and is on a frame g that the seat is sole holder of: frame f if the count c that was read is 1,
--- else a newly claimed frame with the same bytes. Every other page keeps its leaf
+-- the page has no copy-on-write mark, and is on a frame g that the seat is sole holder of: frame f if the count c that was read
+-- is 1, else a newly claimed frame with the same bytes. Every other page keeps its leaf
 pub record HasOwnPage (v : View) (x : Body) (t u : Tables) (p : Process) (page : ℕ) (s : Page) (f g c : ℕ) : Type 0 where
   pub agrees : (fresh : ℕ) → IsSpace x u (with_page p page (unmarked fresh (not (c == 1)) s))
   pub on : IsFrameOfPage u page g
@@ -132,10 +133,10 @@ pub record CanRead (x : Body) (t : Tables) (p : Process) (page : ℕ) (s : Page)
 pub at_page : {x : Body} {t : Tables} {p : Process} {page : ℕ} {s : Page} → CanRead x t p page s → HasSettledPage x t p page s
 at_page can = record { standing = space_in_call can.agrees; settled = can.settled }
 
--- the page is settled, without fork mark, and in a region that grants writing
+-- the page is settled, without copy-on-write mark, and in a region that grants writing
 pub record CanWrite (x : Body) (t : Tables) (p : Process) (page : ℕ) (s : Page) : Type 0 where
   pub read : CanRead x t p page s
-  pub unmarked : s.fork_mark ≡ false
+  pub unmarked : s.cow ≡ false
   pub region : Region
   pub in_region : region_at (regions p) page ≡ Some region
   pub writes : region.writes ≡ true
@@ -150,9 +151,9 @@ abbrev pub HasStored : Body → Body → ℕ → ℕ → ℕ → (Tables → Typ
 HasStored x y address width value OnFrame = (t : Tables) (p : Process) (s : Page) → CanWrite x t p (page_of address) s → OnFrame t
     → IsSpace y t (stored_at p s address width value)
 
--- a page gets the stored mark, if its stores are written back to a file
+-- a page gets the dirty mark, if its stores are written back to a file
 
--- the page has the stored mark if its stores are written back to a file; it keeps its frame, and every other page its leaf
+-- the page has the dirty mark if its stores are written back to a file; it keeps its frame, and every other page its leaf
 pub record MarksStored (v : View) (x : Body) (t u : Tables) (p : Process) (page : ℕ) (s : Page) : Type 0 where
   pub agrees : IsSpace x u (with_page p page (marked_stored (region_on p page) s))
   -- on the frame that it had

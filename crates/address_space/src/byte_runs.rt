@@ -36,8 +36,8 @@ impl<S: FrameSeat> Space<S> {
         read_run(store, &mut self.seat, frame, va.offset() as usize, bytes);
     }
 
-    /// Stores these bytes from `va` on. All must lie in one page, which is settled, without fork mark, and in a region that
-    /// grants writing. Sets no mark.
+    /// Stores these bytes from `va` on. All must lie in one page, which is settled, without copy-on-write mark, and in a region
+    /// that grants writing. Sets no mark.
     pub fn write_run<F: FrameAccess<Seat = S>>(&mut self, store: &mut F, va: Va, bytes: &[u8])
         requires fits { IsSeatOf F.rule store.old self.old.seat }
         requires ready { (t : Tables) × (p : Process) × (s : Page) × CanWrite (body_of S.view self.old) t p (page_of va.0) s }

@@ -1,5 +1,5 @@
-// `Space::own`, copy-on-write: takes over a settled page (one in memory) with the fork mark, for a store. It removes the
-// mark, and the page keeps its frame if the reference count is 1, else moves to a newly claimed frame with the same bytes.
+// `Space::own`, copy-on-write: takes over a settled page (one in memory) with the copy-on-write mark, for a store. It removes
+// the mark, and the page keeps its frame if the reference count is 1, else moves to a newly claimed frame with the same bytes.
 
 ghost use Rattle.std.specs.Prelude.{[], ◌≡◌, ◌≢◌, ◌∷◌, ◌+◌, ◌-◌, ◌<◌, ◌≤◌, ◌↔◌, ◌==◌, cond, if◌then◌else◌, IfErr, IfOk, is_ok, IsOk, ℕ};
 ghost use Rattle.address_space.specs.Agreement.{body_of, IsSpace};
@@ -19,10 +19,10 @@ use sv39_entry::{FrameNo, Scheme, Vpn};
 use table_walk::protect;
 
 impl<S: FrameSeat> Space<S> {
-    /// Takes over `page` for a store (the xv6 book, "Page-fault exceptions"). It must be settled, with the fork mark, and
-    /// in a region that grants writing. Removes the mark, so that its leaf has W. If the reference count of its frame is
-    /// read as 1, the page keeps the frame. Else it gets a newly claimed frame with the same bytes, and the reference to
-    /// the old frame is dropped. Makes no fence: the caller must.
+    /// Takes over `page` for a store (the xv6 book, "Page-fault exceptions"). It must be settled, with the copy-on-write mark,
+    /// and in a region that grants writing. Removes the mark, so that its leaf has W. If the reference count of its frame is
+    /// read as 1, the page keeps the frame. Else it gets a newly claimed frame with the same bytes, and the reference to the
+    /// old frame is dropped. Makes no fence: the caller must.
     ///
     /// # Errors
     /// `NoFrame`: the count was read as other than 1. The space is then the process that it was, by the same tables, and no
@@ -78,9 +78,9 @@ impl<S: FrameSeat> Space<S> {
     }
 }
 
-/// Moves a page to a newly claimed frame, by a credit, with the bytes of the frame that it was on and without fork mark. The
-/// bytes are copied before the leaf names the new frame, and the leaf changes before the reference to the old frame is
-/// dropped.
+/// Moves a page to a newly claimed frame, by a credit, with the bytes of the frame that it was on and without copy-on-write
+/// mark. The bytes are copied before the leaf names the new frame, and the leaf changes before the reference to the old frame
+/// is dropped.
 fn separate<F: FrameSupply>(
     store: &mut F,
     seat: &mut F::Seat,

@@ -1,6 +1,6 @@
-// Two calls of `Space` that set a mark in the leaf of a settled page (one in memory): `mark_stored` sets the stored mark
-// (D), by which a page of a writable shared mapping is written back to its file; `mark_forked` sets the fork mark (RSW bit
-// 8, W clear), so that the next store takes the page over first (copy-on-write).
+// Two calls of `Space` that set a mark in the leaf of a settled page (one in memory): `mark_stored` sets the dirty mark (D), by
+// which a page of a writable shared mapping is written back to its file; `mark_forked` sets the copy-on-write mark (RSW bit 8,
+// W clear), so that the next store takes the page over first (copy-on-write).
 
 ghost use Rattle.std.specs.Prelude.{◌≡◌, ℕ};
 ghost use Rattle.address_space.specs.Agreement.{body_of};
@@ -19,9 +19,9 @@ use sv39_entry::{Access, Vpn};
 use table_walk::protect;
 
 impl<S: FrameSeat> Space<S> {
-    /// Sets the stored mark (D; RISC-V Privileged Architecture 20211203, 4.3.1) on `page` if its stores are written back to
-    /// a file: if its region is a shared mapping. The page must be settled, without fork mark, and in a region that grants
-    /// writing; in a region of any other kind it has D already, and keeps its leaf. The page keeps its frame. Makes no
+    /// Sets the dirty mark (D; RISC-V Privileged Architecture 20211203, 4.3.1) on `page` if its stores are written back to a
+    /// file: if its region is a shared mapping. The page must be settled, without copy-on-write mark, and in a region that
+    /// grants writing; in a region of any other kind it has D already, and keeps its leaf. The page keeps its frame. Makes no
     /// fence: the caller must.
     pub fn mark_stored<F: FrameAccess<Seat = S>>(&mut self, store: &mut F, page: Vpn)
         requires fits { IsSeatOf F.rule store.old self.old.seat }
@@ -46,10 +46,10 @@ impl<S: FrameSeat> Space<S> {
         protect(store, &mut self.seat, scheme, self.root, page, leaf);
     }
 
-    /// Puts the fork mark on a settled page if its region grants writing: its leaf gets RSW bit 8, loses W and keeps its
-    /// frame, and the next store takes the page over first (the xv6 book, "Page-fault exceptions"). A page of any other
-    /// region stays as it is. `settled` is the page as it is now, with its frame and D, so its leaf is not read again. The
-    /// seat may have credits and further references. Makes no fence: the caller must.
+    /// Puts the copy-on-write mark on a settled page if its region grants writing: its leaf gets RSW bit 8, loses W and keeps
+    /// its frame, and the next store takes the page over first (the xv6 book, "Page-fault exceptions"). A page of any other
+    /// region stays as it is. `settled` is the page as it is now, with its frame and D, so its leaf is not read again. The seat
+    /// may have credits and further references. Makes no fence: the caller must.
     pub fn mark_forked<F: FrameAccess<Seat = S>>(&mut self, store: &mut F, settled: &SettledPage)
         requires fits { IsSeatOf F.rule store.old self.old.seat }
         requires ready { (t : Tables) × (p : Process) × (extra : ℕ → ℕ) × IsSpaceInCall (body_of S.view self.old) t p extra × IsSettledPage t p settled.now }

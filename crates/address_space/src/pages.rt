@@ -81,7 +81,7 @@ pub(crate) fn add_page<F: FrameSupply>(
 
 impl<S: FrameSeat> Space<S> {
     /// Settles `page` on a newly claimed frame, with these bytes, at most 4,096, and zeros after them. The page must be
-    /// unsettled and in a region. It gets no fork mark and no stored mark. The frame and the missing page tables are
+    /// unsettled and in a region. It gets no copy-on-write mark and no dirty mark. The frame and the missing page tables are
     /// reserved together. Makes no fence: the caller must.
     ///
     /// # Errors

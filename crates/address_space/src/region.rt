@@ -71,23 +71,23 @@ impl Region {
         self.first <= page && page - self.first < self.pages
     }
 
-    /// Returns the leaf that maps a page of the region to `frame`, with A set and G clear. With `mark` it has the fork mark
-    /// (RSW bit 8) and lacks W; it has D if `dirty` and the region grants writing. The guard's leaf has R and lacks U: it
-    /// is the kernel's alone. The region's rights must fit a leaf: a guard grants nothing, any other region grants reading,
-    /// or execution without writing.
-    pub fn leaf(&self, frame: FrameNo, mark: bool, dirty: bool) -> Entry
+    /// Returns the leaf that maps a page of the region to `frame`, with A set and G clear. With `cow` it has the copy-on-write
+    /// mark (RSW bit 8) and lacks W; it has D if `dirty` and the region grants writing. The guard's leaf has R and lacks U: it
+    /// is the kernel's alone. The region's rights must fit a leaf: a guard grants nothing, any other region grants reading, or
+    /// execution without writing.
+    pub fn leaf(&self, frame: FrameNo, cow: bool, dirty: bool) -> Entry
         requires leafy { makes_leaf (region_of self.now) ≡ true }
-        ensures leaf { IsPageLeaf result frame.0 (region_of self.now) mark (dirty && (region_of self.now).writes) }
+        ensures leaf { IsPageLeaf result frame.0 (region_of self.now) cow (dirty && (region_of self.now).writes) }
         ensures kind { kind_of result ≡ Leaf }
     {
         if self.kind == RegionKind::Guard {
-            return Entry::leaf(frame, Rights::READ, false, mark, dirty);
+            return Entry::leaf(frame, Rights::READ, false, cow, dirty);
         }
-        Entry::leaf(frame, self.rights, true, mark, dirty)
+        Entry::leaf(frame, self.rights, true, cow, dirty)
     }
 
     /// Returns whether a page's leaf gets D when the page is settled, if the region grants writing: true exactly when the
-    /// region is no shared mapping. In a shared mapping D is the stored mark.
+    /// region is no shared mapping. In a shared mapping D is the dirty mark.
     pub fn is_dirty_from_start(&self) -> bool
         ensures { result ≡ not (model.is_shared_kind (region_of self.now).kind) }
     {

@@ -1,6 +1,6 @@
-// Struct `SettledPage`: a settled page (one in memory) with its frame, its fork mark (the next store takes it over first)
-// and D; and calls of `Space` that find such pages by their leaves: `settled_page` one page, `next_settled` the first of a
-// range, and `next_settled_with_last` one after another, with one walk for those of one page table.
+// Struct `SettledPage`: a settled page (one in memory) with its frame, its copy-on-write mark (the next store takes it over
+// first) and D; and calls of `Space` that find such pages by their leaves: `settled_page` one page, `next_settled` the first of
+// a range, and `next_settled_with_last` one after another, with one walk for those of one page table.
 
 ghost use Rattle.std.specs.FinMap.{get};
 ghost use Rattle.std.specs.Prelude.{◌≡◌, ◌<◌, ◌≤◌, ℕ, IfSome, IsSome, Some};
@@ -21,14 +21,14 @@ use frame_store::{FrameAccess, FrameSeat};
 use sv39_entry::{Entry, EntryFlags, FrameNo, Scheme, Va, Vpn};
 use table_walk::{LastTable, leaf_of, leaf_with_last, next_leaf_before};
 
-/// A settled page: its number, its frame, whether it has the fork mark, and whether its leaf has D (RISC-V Privileged
-/// Architecture 20211203, 4.3.1). In a shared mapping that grants writing D is the stored mark; in any other region that
+/// A settled page: its number, its frame, whether it has the copy-on-write mark, and whether its leaf has D (RISC-V Privileged
+/// Architecture 20211203, 4.3.1). In a shared mapping that grants writing D is the dirty mark; in any other region that
 /// grants writing it is set.
 #[derive(Clone, Copy)]
 pub struct SettledPage {
     pub page: Vpn,
     pub frame: FrameNo,
-    pub fork_mark: bool,
+    pub cow: bool,
     pub dirty: bool,
 }
 
@@ -42,7 +42,7 @@ impl Default for SettledPage {
         SettledPage {
             page: Va(0).page(),
             frame: FrameNo(0),
-            fork_mark: false,
+            cow: false,
             dirty: false,
         }
     }
@@ -124,9 +124,9 @@ impl<S: FrameSeat> Space<S> {
         Some(settled_by(page, leaf))
     }
 
-    /// `next_settled_with_last` from a page on, with the settled page's leaf in place of what it says. So a `SettledPage` is made
-    /// where it is used. One that is passed on through memory has its small fields written one by one and read as one word,
-    /// and a processor waits there for the writes.
+    /// `next_settled_with_last` from a page on, with the settled page's leaf in place of what it says. So a `SettledPage` is
+    /// made where it is used. One that is passed on through memory has its small fields written one by one and read as one
+    /// word, and a processor waits there for the writes.
     #[inline(always)]
     fn next_leaf<F: FrameAccess<Seat = S>>(
         &mut self,
@@ -213,12 +213,12 @@ fn leaf_before<F: FrameAccess>(
     }
 }
 
-/// Returns what the leaf of a page says: its frame, fork mark and D.
+/// Returns what the leaf of a page says: its frame, copy-on-write mark and D.
 fn settled_by(page: Vpn, leaf: Entry) -> SettledPage
     requires { IsSome (frame_at (word.ppn leaf)) }
     ensures page { result.page ≡ page }
     ensures frame { frame_at (word.ppn leaf) ≡ Some result.frame }
-    ensures fork_mark { result.fork_mark ≡ word.has_flag leaf 256 }
+    ensures cow { result.cow ≡ word.has_flag leaf 256 }
     ensures dirty { result.dirty ≡ word.has_flag leaf 128 }
 {
     let Some(frame) = FrameNo::from_ppn(leaf.ppn()) else {
@@ -227,7 +227,7 @@ fn settled_by(page: Vpn, leaf: Entry) -> SettledPage
     SettledPage {
         page,
         frame,
-        fork_mark: leaf.has(EntryFlags::COPY_ON_WRITE),
+        cow: leaf.has(EntryFlags::COW),
         dirty: leaf.has(EntryFlags::DIRTY),
     }
 }

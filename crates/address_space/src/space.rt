@@ -120,8 +120,8 @@ impl<S: FrameSeat> Space<S> {
         read_frame(store, &mut self.seat, frame, bytes);
     }
 
-    /// Stores the `width` lowest bytes of `value`, the lowest first, at `va`. The page must be settled, without fork mark,
-    /// and in a region that grants writing; `width` is 1, 2, 4 or 8, and `va` a multiple of it. Sets no mark.
+    /// Stores the `width` lowest bytes of `value`, the lowest first, at `va`. The page must be settled, without copy-on-write
+    /// mark, and in a region that grants writing; `width` is 1, 2, 4 or 8, and `va` a multiple of it. Sets no mark.
     pub fn write<F: FrameAccess<Seat = S>>(&mut self, store: &mut F, va: Va, width: u64, value: u64)
         requires fits { IsSeatOf F.rule store.old self.old.seat }
         requires ready { (t : Tables) × (p : Process) × (s : Page) × CanWrite (body_of S.view self.old) t p (page_of va.0) s }
@@ -141,8 +141,8 @@ impl<S: FrameSeat> Space<S> {
         self.write_at(store, frame, va, width, value);
     }
 
-    /// Stores the `width` lowest bytes of `value` at `va`, as `write` does, to `frame`: the frame of the page, which the
-    /// caller has from a translation. The page must be settled, without fork mark, and in a region that grants writing;
+    /// Stores the `width` lowest bytes of `value` at `va`, as `write` does, to `frame`: the frame of the page, which the caller
+    /// has from a translation. The page must be settled, without copy-on-write mark, and in a region that grants writing;
     /// `width` is 1, 2, 4 or 8, and `va` a multiple of it. Sets no mark.
     pub fn write_at<F: FrameAccess<Seat = S>>(
         &mut self,

@@ -1,5 +1,5 @@
--- Lemmas for `copy_tree`: the child's leaves have the fork mark (the next store takes the page over) and no W as the model
--- says; the child's tables after one more settled page (one in memory; `copies_more`), and after all (`copies_all`).
+-- Lemmas for `copy_tree`: the child's leaves have the copy-on-write mark (the next store takes the page over) and no W as the
+-- model says; the child's tables after one more settled page (one in memory; `copies_more`), and after all (`copies_all`).
 use Rattle.std.proofs.Common.{◌≡◌, ℕ, ◌+◌, ◌-◌, ◌<◌, ◌≤◌, Bool, true, false, not, ◌&&◌, ◌||◌, Option, Some, inl, inr, refl, ap, sym, subst, ◌∙◌, arith, List, ◌∷◌, drop, length, slice_index_or}
 use Rattle.std.proofs.lemmas.Bool.{cases_eq, cases_lt}
 use Rattle.std.proofs.lemmas.List.{at_drop_all, at_drop_more}
@@ -46,12 +46,12 @@ mark_had mark had writes is had_is = is ∙ had_is ∙ sym (ap (λ b. b || write
 pub mark_new : (mark had lacks writes : Bool) → mark ≡ not lacks → had ≡ false → lacks ≡ not writes → mark ≡ (had || writes)
 mark_new mark had lacks writes is none lacks_is = is ∙ ap not lacks_is ∙ twice writes ∙ sym (ap (λ b. b || writes) none)
 
--- the leaf has the fork mark where the page had it or the region grants writing
-pub child_leaf : (p : Process) (n : ℕ) (s : Page) (r : Region) (x frame : ℕ) (mark dirty : Bool) → region_at (regions p) n ≡ Some r → mark ≡ (s.fork_mark || r.writes) → dirty ≡ not (is_shared_kind r.kind)
-    → IsPageLeaf x frame r mark (dirty && r.writes) → IsPageLeaf x frame r (child_page p n s).fork_mark (is_dirty_page r (child_page p n s))
+-- the leaf has the copy-on-write mark where the page had it or the region grants writing
+pub child_leaf : (p : Process) (n : ℕ) (s : Page) (r : Region) (x frame : ℕ) (mark dirty : Bool) → region_at (regions p) n ≡ Some r → mark ≡ (s.cow || r.writes) → dirty ≡ not (is_shared_kind r.kind)
+    → IsPageLeaf x frame r mark (dirty && r.writes) → IsPageLeaf x frame r (child_page p n s).cow (is_dirty_page r (child_page p n s))
 child_leaf p n s r x frame mark dirty in_region mark_is dirty_is made =
     let grants : grants_write p n ≡ r.writes = ap (λ o. not (lacks_right Store o)) in_region ∙ twice r.writes in
-    let is : mark ≡ (child_page p n s).fork_mark = mark_is ∙ ap (λ b. s.fork_mark || b) (sym grants) in
+    let is : mark ≡ (child_page p n s).cow = mark_is ∙ ap (λ b. s.cow || b) (sym grants) in
     subst (λ m. IsPageLeaf x frame r m (is_dirty_page r (child_page p n s))) is (subst (λ d. IsPageLeaf x frame r mark (d && r.writes)) dirty_is made)
 
 -- so it has no W
@@ -153,7 +153,7 @@ module _ (o v : View) (l : Layout) (t u : Tables) (p : Process) (root trapframe 
       more_needed = let up = tables_up p.scheme done (a.page ∷ done) (λ n h. behind a.page n done h) in omega (arith, up, law)
 
       module _ (w : View) (s : Tables) (x : ℕ) (r : Region) (in_region : region_at (regions p) a.page ≡ Some r)
-          (made : IsPageLeaf x (a.frame).0 r (child_page p a.page (next.3).page).fork_mark (is_dirty_page r (child_page p a.page (next.3).page)))
+          (made : IsPageLeaf x (a.frame).0 r (child_page p a.page (next.3).page).cow (is_dirty_page r (child_page p a.page (next.3).page)))
           (grown : IsGrown p.scheme u s a.page (top_level p.scheme)) (tables : HasTables p.scheme w root (with_leaf s (leaf_node a.page) x)) (changes : ChangesTables v w u s (missing p.scheme u a.page)) (tabled : AreTablesOf p.scheme s (a.page ∷ done)) where
         abbrev after : Tables
         after = with_leaf s (leaf_node a.page) x

@@ -1,5 +1,5 @@
--- Lemmas for `mark_pages`: while the parent's settled pages (those in memory) get the fork mark (the next store takes the
--- page over) one after another, the space remains a process, marked so far; at the end all are marked (`marking_all`).
+-- Lemmas for `mark_pages`: while the parent's settled pages (those in memory) get the copy-on-write mark (the next store takes
+-- the page over) one after another, the space remains a process, marked so far; at the end all are marked (`marking_all`).
 use Rattle.std.proofs.Common.{◌≡◌, ℕ, Bool, true, ◌||◌, ◌+◌, ◌<◌, ◌≤◌, Option, None, Some, List, ◌∷◌, drop, length, slice_index_or, refl, ap, sym, subst, ◌∙◌, inl, inr, arith}
 use Rattle.std.specs.FinMap as finite
 use Rattle.std.specs.Prelude.{option_map}
@@ -66,7 +66,8 @@ turns_on x y z t u w a b = record {
   size = b.size ∙ a.size;
 }
 
--- the settled pages below a place have the fork mark where their regions grant writing, and the others are as they were
+-- the settled pages below a place have the copy-on-write mark where their regions grant writing, and the others are as they
+-- were
 pub record AreMarkedBelow (p : Process) (bound : ℕ) (done : PageMap Page) : Type 0 where
   pub below : (n : ℕ) → n < bound → get done n ≡ option_map (marked_page p n) (get p.settled n)
   pub above : (n : ℕ) → bound ≤ n → get done n ≡ get p.settled n
@@ -101,11 +102,11 @@ module _ (p : Process) (bound : ℕ) (done : PageMap Page) (marks : AreMarkedBel
     above = λ n after. inserted_other k (marked_page p k s) done n (λ same. omega (arith, after, same)) ∙ marks.above n (omega (arith, after, behind));
   }
 
-  marked_same : (k : ℕ) (s : Page) → s.fork_mark ≡ true → marked_page p k s ≡ s
-  marked_same k s has = ap (λ (b : Bool). record s { fork_mark = b || grants_write p k }) has ∙ ap (λ (b : Bool). record s { fork_mark = b }) (sym has)
+  marked_same : (k : ℕ) (s : Page) → s.cow ≡ true → marked_page p k s ≡ s
+  marked_same k s has = ap (λ (b : Bool). record s { cow = b || grants_write p k }) has ∙ ap (λ (b : Bool). record s { cow = b }) (sym has)
 
   -- where it has the mark, it stays as it is
-  marks_passed : (k : ℕ) (s : Page) → bound ≤ k → AreUnsettled p bound k → get p.settled k ≡ Some s → s.fork_mark ≡ true → AreMarkedBelow p (k + 1) done
+  marks_passed : (k : ℕ) (s : Page) → bound ≤ k → AreUnsettled p bound k → get p.settled k ≡ Some s → s.cow ≡ true → AreMarkedBelow p (k + 1) done
   marks_passed k s behind none here has = record {
     below = λ n before. elim (cases_eq n k) [
       | inl same ↦
@@ -175,7 +176,7 @@ module _ (x : Body) (t : Tables) (p : Process) (extra : ℕ → ℕ) (settled : 
         settled = page_there;
         in_region = left.0.3.in_region;
         on = on_yet;
-        fork_mark = left.0.3.fork_mark;
+        cow = left.0.3.cow;
         dirty = left.0.3.dirty;
       }
 
@@ -197,14 +198,14 @@ module _ (x : Body) (t : Tables) (p : Process) (extra : ℕ → ℕ) (settled : 
           }
 
       -- a page that has the mark is passed over
-      pub marking_passed : a.fork_mark ≡ true → IsMarking x y t p extra (drop (i + 1) settled)
+      pub marking_passed : a.cow ≡ true → IsMarking x y t p extra (drop (i + 1) settled)
       marking_passed has = record {
         tables = m.tables;
         bound = a.page + 1;
         done = m.done;
         forking = m.forking;
         turns = m.turns;
-        marks = marks_passed p m.bound m.done m.marks a.page left.0.3.page left.0.0 left.0.2 left.0.3.settled (sym left.0.3.fork_mark ∙ has);
+        marks = marks_passed p m.bound m.done m.marks a.page left.0.3.page left.0.0 left.0.2 left.0.3.settled (sym left.0.3.cow ∙ has);
         left = left.1;
       }
 

@@ -31,10 +31,10 @@ same_bytes : (v w : View) (f : ℕ) (bytes : List ℕ) → (hold_of w f).words �
 same_bytes v w f bytes same has = record { length = has.length; small = has.small; words = λ i low. ap (λ m. finite.get m i) same ∙ has.words i low }
 
 -- the leaf of a marked page is not writable
-no_write : (p : Process) (n : ℕ) (s : Page) (r : Region) → region_at (regions p) n ≡ Some r → (r.writes && not (marked_page p n s).fork_mark) ≡ true → ⊥
+no_write : (p : Process) (n : ℕ) (s : Page) (r : Region) → region_at (regions p) n ≡ Some r → (r.writes && not (marked_page p n s).cow) ≡ true → ⊥
 no_write p n s r in_region writes =
     let grants : grants_write p n ≡ r.writes = ap (λ o. not (lacks_right Store o)) in_region ∙ twice r.writes in
-    go r.writes s.fork_mark (subst (λ g. (r.writes && not (s.fork_mark || g)) ≡ true) grants writes) where
+    go r.writes s.cow (subst (λ g. (r.writes && not (s.cow || g)) ≡ true) grants writes) where
       twice : (b : Bool) → not (not b) ≡ b
       twice true = refl
       twice false = refl
@@ -80,7 +80,7 @@ module _ (v a b : View) (root saved : ℕ) (l : Layout) (t u : Tables) (p : Proc
             let shown = shows.settled page.0 page.1 page.3 in
             let is : shown.leaf ≡ x = one_leaf t n shown.leaf x (ap (finite.get t.leaves) page.2 ∙ shown.mapped) at in
             let was = found_each (marked_page p) p.settled page.0 page.1 page.3 in
-            let written : (shown.region.writes && not (marked_page p page.0 was.0).fork_mark) ≡ true = ap (λ (z : Page). shown.region.writes && not z.fork_mark) was.2 ∙ sym shown.made.write ∙ ap (λ z. has z 2) is ∙ writes in
+            let written : (shown.region.writes && not (marked_page p page.0 was.0).cow) ≡ true = ap (λ (z : Page). shown.region.writes && not z.cow) was.2 ∙ sym shown.made.write ∙ ap (λ z. has z 2) is ∙ writes in
             no_write p page.0 was.0 shown.region shown.in_region written)
       ]
     ]

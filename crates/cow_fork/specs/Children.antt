@@ -19,8 +19,8 @@ use Rattle.address_space.specs.Layouts.{Layout, LaysOut}
 use Rattle.address_space.specs.SettledLists.{AreSettled}
 use Rattle.address_space.specs.declared.settled_pages.SettledPage.{SettledPage}
 
--- page n of the child has a leaf in u, on the frame that it has in the parent's t. W is clear; the fork mark is set if the
--- page had it or its region grants writing; D is set exactly when the region grants writing and is no shared mapping
+-- page n of the child has a leaf in u, on the frame that it has in the parent's t. W is clear; the copy-on-write mark is set if
+-- the page had it or its region grants writing; D is set exactly when the region grants writing and is no shared mapping
 pub record HasChildLeaf (t u : Tables) (p : Process) (n : ℕ) (s : Page) : Type 0 where
   pub region : Region
   pub frame : ℕ
@@ -28,7 +28,7 @@ pub record HasChildLeaf (t u : Tables) (p : Process) (n : ℕ) (s : Page) : Type
   pub in_region : region_at (regions p) n ≡ Some region
   pub on : IsFrameOfPage t n frame
   pub mapped : get u.leaves (leaf_node n) ≡ Some leaf
-  pub made : IsPageLeaf leaf frame region (child_page p n s).fork_mark (is_dirty_page region (child_page p n s))
+  pub made : IsPageLeaf leaf frame region (child_page p n s).cow (is_dirty_page region (child_page p n s))
 
 -- each page that the region holds is in this region of the process
 abbrev pub IsRegionOf : Process → Region → Type 0

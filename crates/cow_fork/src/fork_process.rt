@@ -1,7 +1,7 @@
 // The calls `fork`, `fork_with` and `fork_listed` by copy-on-write (MIT 6.1810, copy-on-write lab); the enum `ForkError`, why
 // one is refused; and the struct `Child`, what the last two make. A fork reserves frames, takes references to those to be
-// shared, builds the child's page tables, sets the parent's fork marks (the next store takes the page over), and splits the
-// child's seat (an owner's capability at a frame store) off the parent's.
+// shared, builds the child's page tables, sets the parent's copy-on-write marks (the next store takes the page over), and
+// splits the child's seat (an owner's capability at a frame store) off the parent's.
 
 ghost use Rattle.std.specs.Prelude.{[], ◌∷◌, ◌≡◌, ◌-◌, ◌↔◌, ◌<◌, ◌≤◌, if◌then◌else◌, IfErr, IfOk, is_ok, length, List, map, ℕ};
 ghost use Rattle.address_space.specs.Agreement.{body, body_of, IsSpace};
@@ -74,12 +74,11 @@ impl From<ForkError> for Refusal {
     }
 }
 
-/// Forks the process in `space` by copy-on-write and returns its child, on a seat that is split off the parent's (MIT
-/// 6.1810, copy-on-write lab). The child has the parent's regions and size, and each settled page (one in memory) on the
-/// parent's frame; no data is copied. In both, each settled page whose region grants writing gets the fork mark: the next
-/// store takes the page over. The child has no stored mark. Takes `fork_need` frames: the child's trapframe, and page
-/// tables for its settled pages, TRAMPOLINE and TRAPFRAME. Makes no fence: the caller must, since leaves of the parent
-/// lose W.
+/// Forks the process in `space` by copy-on-write and returns its child, on a seat that is split off the parent's (MIT 6.1810,
+/// copy-on-write lab). The child has the parent's regions and size, and each settled page (one in memory) on the parent's
+/// frame; no data is copied. In both, each settled page whose region grants writing gets the copy-on-write mark: the next store
+/// takes the page over. The child has no dirty mark. Takes `fork_need` frames: the child's trapframe, and page tables for its
+/// settled pages, TRAMPOLINE and TRAPFRAME. Makes no fence: the caller must, since leaves of the parent lose W.
 ///
 /// # Errors
 /// The space then is the process that it was, by the same page tables.
@@ -238,8 +237,8 @@ fn prepare<S: FrameSeat, F: FrameSupply<Seat = S>>(
     Ok(())
 }
 
-/// Makes the child out of the credits and references that `prepare` took: builds its tables, sets the parent's fork marks, and
-/// splits the child's seat off the parent's.
+/// Makes the child out of the credits and references that `prepare` took: builds its tables, sets the parent's copy-on-write
+/// marks, and splits the child's seat off the parent's.
 fn divide<S: FrameSeat, F: FrameSupply<Seat = S>>(
     space: &mut Space<S>,
     store: &mut F,

@@ -37,7 +37,7 @@ impl PageList {
     }
 
     /// Collects in this list the settled pages (those in memory) of the process in `space`, and returns them as a slice:
-    /// all of them, each once, in ascending order, with frame, fork mark, and whether the leaf has D. Only reads: the
+    /// all of them, each once, in ascending order, with frame, copy-on-write mark, and whether the leaf has D. Only reads: the
     /// store, the space, and the view of its seat (references, credits, known words) stay.
     pub fn settled_pages<S: FrameSeat, F: FrameAccess<Seat = S>>(
         &mut self,

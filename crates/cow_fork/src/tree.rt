@@ -1,5 +1,5 @@
 // Page tables in a fork: `copy_tree` builds the child's from the list of settled pages (those in memory), on the parent's
-// frames; `mark_pages` sets the fork mark (the next store takes the page over) in the parent's leaves.
+// frames; `mark_pages` sets the copy-on-write mark (the next store takes the page over) in the parent's leaves.
 
 ghost use Rattle.std.specs.Prelude.{[], ◌≡◌, ℕ, IsSome, Some};
 ghost use Rattle.address_space.specs.Agreement.{body_of};
@@ -19,8 +19,8 @@ use frame_store::{FrameAccess, FrameSeat, FrameSupply};
 use sv39_entry::{Access, FrameNo, Scheme};
 use table_walk::{map, map_with_last, missing_is_growth, new_table};
 
-/// Builds the child's page tables with credits of the parent's seat and returns the frame of their root. Each settled page
-/// has a leaf on the parent's frame, with the fork mark if the page had it or its region grants writing; `trapframe` is at
+/// Builds the child's page tables with credits of the parent's seat and returns the frame of their root. Each settled page has
+/// a leaf on the parent's frame, with the copy-on-write mark if the page had it or its region grants writing; `trapframe` is at
 /// TRAPFRAME.
 pub(crate) fn copy_tree<S: FrameSeat, F: FrameSupply<Seat = S>>(
     space: &mut Space<S>,
@@ -46,8 +46,8 @@ pub(crate) fn copy_tree<S: FrameSeat, F: FrameSupply<Seat = S>>(
     let mut region = Region::default();
     'pages: for page in settled {
         enter_region(&space.layout, page.page.number(), &mut region);
-        let mark = page.fork_mark || !region.lacks_right(Access::Store);
-        let leaf = region.leaf(page.frame, mark, region.is_dirty_from_start());
+        let cow = page.cow || !region.lacks_right(Access::Store);
+        let leaf = region.leaf(page.frame, cow, region.is_dirty_from_start());
         map_with_last(
             store,
             &mut space.seat,
@@ -99,8 +99,8 @@ fn open_tables<S: FrameSeat, F: FrameSupply<Seat = S>>(
     root
 }
 
-/// Sets the fork mark on the parent's settled pages whose region grants writing. Pages that have it from an earlier fork are
-/// skipped.
+/// Sets the copy-on-write mark on the parent's settled pages whose region grants writing. Pages that have it from an earlier
+/// fork are skipped.
 pub(crate) fn mark_pages<S: FrameSeat, F: FrameAccess<Seat = S>>(
     space: &mut Space<S>,
     store: &mut F,
@@ -117,7 +117,7 @@ pub(crate) fn mark_pages<S: FrameSeat, F: FrameAccess<Seat = S>>(
     ensures free { F.alone → F.free store.new ≡ F.free store.old }
 {
     'pages: for page in settled {
-        if !page.fork_mark {
+        if !page.cow {
             space.mark_forked(store, page);
         }
     }

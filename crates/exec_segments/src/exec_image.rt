@@ -1,5 +1,5 @@
 // The call `exec` (the xv6 book, "Code: exec"): replaces the process in an address space by the process of a program image.
-// Before that, mmap pages with the stored mark (D) are written back to their files.
+// Before that, mmap pages with the dirty mark (D) are written back to their files.
 
 ghost use Rattle.std.specs.Prelude.{[], ◌≡◌, ◌≢◌, ◌<◌, ◌≤◌, IfErr, IfOk, length, ℕ};
 ghost use Rattle.address_space.specs.Agreement.{body_of, IsSpace};
@@ -25,7 +25,7 @@ use mmap_regions::{promise_write_back, write_back};
 use process_model::Refusal;
 
 /// Replaces the process in `space` by the process of `image`, which must have been checked for the scheme of `space` (the
-/// xv6 book, "Code: exec"). First the pages with the stored mark (D) are written back to the files of their mappings, in
+/// xv6 book, "Code: exec"). First the pages with the dirty mark (D) are written back to the files of their mappings, in
 /// order of address; then the old pages and tables are released, and the image's built, on frames of which the seat is
 /// the sole holder. The trapframe keeps its frame and the words known there. Takes `exec_need` frames: the image's pages,
 /// guard and stack too, and their tables. The frames of the old process do not count as free. Makes no fence: the caller

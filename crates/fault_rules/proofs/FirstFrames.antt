@@ -1,4 +1,4 @@
--- Lemmas for `settle_as`: a page that `Space::settle` settled (brought into memory) is as `SettlesAs` says without stored
+-- Lemmas for `settle_as`: a page that `Space::settle` settled (brought into memory) is as `SettlesAs` says without dirty
 -- mark (D), and once `mark_stored` has set that mark, as it says with the mark.
 use Rattle.std.proofs.Common.{◌≡◌, ℕ, true, false, refl, add-zero, ap, sym, subst, ◌∙◌, List, [], Some}
 use Rattle.std.proofs.lemmas.Bool.{and_parts}
@@ -37,7 +37,7 @@ module _ {x y : Body} {t u : Tables} {p : Process} {page f : ℕ} {bytes : List 
     writes = (and_parts can.region.writes (is_shared_kind can.region.kind) here).0
 
     abbrev pub anew : ℕ → Page
-    anew fresh = record { bytes = padded 4096 bytes; copy = fresh; fork_mark = false; stored_mark = false }
+    anew fresh = record { bytes = padded 4096 bytes; copy = fresh; cow = false; dirty = false }
 
     abbrev pub before : Process
     before = settled_with 0 bytes p page

@@ -60,7 +60,7 @@ module _ {x : Body} {t : Tables} {p : Process} {a : Access} {page : ℕ} (can : 
 
   abbrev anew : ℕ → List ℕ → Bool → Process
   anew fresh bytes mark = record p {
-    settled = insert p.settled page (record { bytes = bytes; copy = fresh; fork_mark = false; stored_mark = mark });
+    settled = insert p.settled page (record { bytes = bytes; copy = fresh; cow = false; dirty = mark });
     tabled = insert p.tabled page tt;
   }
 

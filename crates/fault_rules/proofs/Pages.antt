@@ -1,6 +1,6 @@
--- Lemmas on a settled page (one in memory) of a space: if it has no fork mark and its region grants writing, the seat (an
--- owner's capability at a frame store) is the sole holder of its frame (`page_sole`); and the space is also the process with
--- another copy number of the page (which copy of it this is), `recopied`.
+-- Lemmas on a settled page (one in memory) of a space: if it has no copy-on-write mark and its region grants writing, the seat
+-- (an owner's capability at a frame store) is the sole holder of its frame (`page_sole`); and the space is also the process
+-- with another copy number of the page (which copy of it this is), `recopied`.
 use Rattle.std.proofs.Common.{◌≡◌, ℕ, not, ◌&&◌, true, false, inl, inr, ap, sym, ◌∙◌, Some}
 use Rattle.std.proofs.lemmas.Bool.{cases_eq}
 use Rattle.std.proofs.lemmas.Option.{same_Some}
@@ -16,13 +16,13 @@ use Rattle.sv39_entry.specs.Address.{has}
 use Rattle.table_walk.specs.Tables.{Tables}
 
 -- of the frame of a page that may be written the seat is the sole holder
-pub page_sole : (x : Body) (t : Tables) (p : Process) (n : ℕ) (s : Page) (f : ℕ) → IsSpace x t p → get p.settled n ≡ Some s → s.fork_mark ≡ false
+pub page_sole : (x : Body) (t : Tables) (p : Process) (n : ℕ) (s : Page) (f : ℕ) → IsSpace x t p → get p.settled n ≡ Some s → s.cow ≡ false
     → ((r : _) → region_at (regions p) n ≡ Some r → r.writes ≡ true) → IsFrameOfPage t n f → IsSole x.view f
 page_sole x t p n s f space settled unmarked writes on =
     let shown = space.stands.shows.settled n s settled in
     let leaf : shown.leaf ≡ on.0 = same_Some shown.leaf on.0 (sym shown.mapped ∙ on.1) in
     let written : has on.0 2 ≡ true =
-    ap (λ w. has w 2) (sym leaf) ∙ shown.made.write ∙ ap (λ b. b && not s.fork_mark) (writes shown.region shown.in_region) ∙ ap (λ b. true && not b) unmarked in
+    ap (λ w. has w 2) (sym leaf) ∙ shown.made.write ∙ ap (λ b. b && not s.cow) (writes shown.region shown.in_region) ∙ ap (λ b. true && not b) unmarked in
     space.stands.owns.writable f _ on.0 on.1 on.2 written
 
 -- a page with another copy number

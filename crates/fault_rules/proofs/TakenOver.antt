@@ -1,6 +1,6 @@
--- Lemmas for `take_over`, by which a settled page (one in memory) is readied for a store: what the model makes of it and
--- needs; the fork mark (copy-on-write) is removed or was not there; then the stored mark (D) is set (`resides_marked`), or
--- is not due (`resides_dirty`).
+-- Lemmas for `take_over`, by which a settled page (one in memory) is readied for a store: what the model makes of it and needs;
+-- the copy-on-write mark (copy-on-write) is removed or was not there; then the dirty mark (D) is set (`resides_marked`), or is
+-- not due (`resides_dirty`).
 use Rattle.std.proofs.Common.{◌≡◌, ◌≢◌, ℕ, Bool, true, false, not, ◌&&◌, ◌||◌, ◌==◌, ◌+◌, inl, inr, refl, add-zero, ap, sym, subst, ◌∙◌, List, [], ◌∷◌, Option, None, Some}
 use Rattle.std.specs.Prelude.{if◌then◌else◌, is_some, option_to_list}
 use Rattle.std.proofs.lemmas.Bool.{and_parts, cases_eq, eq-eqb, ne_eqb}
@@ -31,14 +31,14 @@ from_not : (b : Bool) → not b ≡ false → b ≡ true
 from_not true lacks = refl
 from_not false lacks = sym lacks
 
--- a page without the fork mark loses nothing
-unmarked_same : (fresh : ℕ) (shared : Bool) (s : Page) → s.fork_mark ≡ false → unmarked fresh shared s ≡ s
+-- a page without the copy-on-write mark loses nothing
+unmarked_same : (fresh : ℕ) (shared : Bool) (s : Page) → s.cow ≡ false → unmarked fresh shared s ≡ s
 unmarked_same fresh shared s none =
-    ap (λ (b : Bool). record s { copy = if b && shared then fresh else s.copy; fork_mark = false }) none ∙ ap (λ (b : Bool). record s { fork_mark = b }) (sym none)
+    ap (λ (b : Bool). record s { copy = if b && shared then fresh else s.copy; cow = false }) none ∙ ap (λ (b : Bool). record s { cow = b }) (sym none)
 
 -- a mark that is there, or that no store needs
-marked_same : (r : Option Region) (s : Page) → (s.stored_mark || not (keeps_stores r)) ≡ true → marked_stored r s ≡ s
-marked_same r s is = ap (λ (b : Bool). record s { stored_mark = b }) (go s.stored_mark (keeps_stores r) is)
+marked_same : (r : Option Region) (s : Page) → (s.dirty || not (keeps_stores r)) ≡ true → marked_stored r s ≡ s
+marked_same r s is = ap (λ (b : Bool). record s { dirty = b }) (go s.dirty (keeps_stores r) is)
   where
     go : (a b : Bool) → (a || not b) ≡ true → (a || b) ≡ a
     go true b is = refl
@@ -51,7 +51,7 @@ module _ (p : Process) (page : ℕ) (s : Page) (settled : get p.settled page ≡
   -- a page that a store goes through to is taken over as it is
   taken_same : (fresh : ℕ) (shared : Bool) → can_complete Store (region_on p page) s ≡ true → with_page p page (taken_over fresh shared (region_on p page) s) ≡ p
   taken_same fresh shared through =
-      let parts = go s.fork_mark (s.stored_mark || not (keeps_stores (region_on p page))) through in
+      let parts = go s.cow (s.dirty || not (keeps_stores (region_on p page))) through in
       let same : taken_over fresh shared (region_on p page) s ≡ s = ap (marked_stored (region_on p page)) (unmarked_same fresh shared s parts.0) ∙ marked_same (region_on p page) s parts.1 in
       ap (λ m. record p { settled = m }) (ap (λ y. insert p.settled page y) same ∙ put_back p.settled page s settled)
     where
@@ -72,9 +72,9 @@ module _ (p : Process) (page : ℕ) (s : Page) (settled : get p.settled page ≡
   part_unless false shared false = refl
 
   pub need_is : (shared : Bool) → resident_need shared p Store page ≡ take_over_need (parts_from shared s)
-  need_is shared = ap (resident_need_of shared p Store page) settled ∙ part_unless s.fork_mark shared (s.stored_mark || not (keeps_stores (region_on p page)))
+  need_is shared = ap (resident_need_of shared p Store page) settled ∙ part_unless s.cow shared (s.dirty || not (keeps_stores (region_on p page)))
 
--- ---- the fork mark goes
+-- ---- the copy-on-write mark goes
 
 -- where the count that was read was 1 the page keeps its frame, else it stands on another one
 placed_by_count : (v w : View) (t u : Tables) (page f g c : ℕ) → IsFrameOfPage t page f → IsFrameOfPage u page g → (c ≡ 1 → g ≡ f) → (c ≢ 1 → references v g ≡ 0) → IsSole w g
@@ -96,21 +96,21 @@ module _ (x : Body) (t : Tables) (p : Process) (settled : SettledPage) (can : Ca
   pub writes : can.region.writes ≡ true
   writes = from_not can.region.writes can.right
 
-  pub can_own : settled.fork_mark ≡ true → CanOwn x t p n is.page settled.frame.0
+  pub can_own : settled.cow ≡ true → CanOwn x t p n is.page settled.frame.0
   can_own marked = record {
     agrees = can.agrees;
     settled = is.settled;
-    marked = sym is.fork_mark ∙ marked;
+    marked = sym is.cow ∙ marked;
     region = can.region;
     in_region = can.in_region;
     writes = writes;
     on = is.on;
   }
 
-  pub by_owning : (y : Body) (IsCount : ℕ → ℕ → Type 0) → settled.fork_mark ≡ true → HasOwned x y n IsCount → UnsharedAt x y t p n is.page IsCount
+  pub by_owning : (y : Body) (IsCount : ℕ → ℕ → Type 0) → settled.cow ≡ true → HasOwned x y n IsCount → UnsharedAt x y t p n is.page IsCount
   by_owning y IsCount marked owned =
       let own = owned t p is.page settled.frame.0 (can_own marked) in
-      let fork : is.page.fork_mark ≡ true = sym is.fork_mark ∙ marked in
+      let fork : is.page.cow ≡ true = sym is.cow ∙ marked in
       let c = own.2 in (
         own.0,
         Some c,
@@ -125,9 +125,9 @@ module _ (x : Body) (t : Tables) (p : Process) (settled : SettledPage) (can : Ca
         λ f d on same. subst (λ k. IsCount k d) (one_frame t n settled.frame.0 f is.on on) (subst (IsCount settled.frame.0) (same_Some c d same) own.4),
       )
 
-  pub by_leaving : (IsCount : ℕ → ℕ → Type 0) → settled.fork_mark ≡ false → UnsharedAt x x t p n is.page IsCount
+  pub by_leaving : (IsCount : ℕ → ℕ → Type 0) → settled.cow ≡ false → UnsharedAt x x t p n is.page IsCount
   by_leaving IsCount unmarked_is =
-      let none : is.page.fork_mark ≡ false = sym is.fork_mark ∙ unmarked_is in (
+      let none : is.page.cow ≡ false = sym is.cow ∙ unmarked_is in (
         t,
         None,
         record {
@@ -143,24 +143,24 @@ module _ (x : Body) (t : Tables) (p : Process) (settled : SettledPage) (can : Ca
 
   -- what it takes
 
-  pub marked_need : (shared : Bool) (count : ℕ → ℕ) → settled.fork_mark ≡ true → ((f : ℕ) → IsFrameOfPage t n f → shared ≡ not (count f == 1)) → resident_need shared p Store n ≡ own_need (count settled.frame.0)
+  pub marked_need : (shared : Bool) (count : ℕ → ℕ) → settled.cow ≡ true → ((f : ℕ) → IsFrameOfPage t n f → shared ≡ not (count f == 1)) → resident_need shared p Store n ≡ own_need (count settled.frame.0)
   marked_need shared count marked told =
-      need_is p n is.page is.settled shared ∙ ap (λ b. take_over_need (b && shared)) (sym is.fork_mark ∙ marked) ∙ ap take_over_need (told settled.frame.0 is.on)
+      need_is p n is.page is.settled shared ∙ ap (λ b. take_over_need (b && shared)) (sym is.cow ∙ marked) ∙ ap take_over_need (told settled.frame.0 is.on)
 
-  pub unmarked_need : (shared : Bool) → settled.fork_mark ≡ false → resident_need shared p Store n ≡ 0
-  unmarked_need shared none = need_is p n is.page is.settled shared ∙ ap (λ b. take_over_need (b && shared)) (sym is.fork_mark ∙ none)
+  pub unmarked_need : (shared : Bool) → settled.cow ≡ false → resident_need shared p Store n ≡ 0
+  unmarked_need shared none = need_is p n is.page is.settled shared ∙ ap (λ b. take_over_need (b && shared)) (sym is.cow ∙ none)
 
-  pub counted_is : settled.fork_mark ≡ true → is_counted Store (get p.settled n) ≡ true
-  counted_is marked = ap (is_counted Store) is.settled ∙ sym is.fork_mark ∙ marked
+  pub counted_is : settled.cow ≡ true → is_counted Store (get p.settled n) ≡ true
+  counted_is marked = ap (is_counted Store) is.settled ∙ sym is.cow ∙ marked
 
-  pub runs_short : (v w : View) (c : ℕ) → settled.fork_mark ≡ true → c ≢ 1 → RunsDry v w 1 (c ∷ [])
+  pub runs_short : (v w : View) (c : ℕ) → settled.cow ≡ true → c ≢ 1 → RunsDry v w 1 (c ∷ [])
       → (count : Option ℕ) × (is_some count ≡ is_counted Store (get p.settled n)) × RunsDry v w (resident_need (is_shared_by count) p Store n) (option_to_list count)
   runs_short v w c marked more dry =
       let need : resident_need (not (c == 1)) p Store n ≡ 1 =
-      need_is p n is.page is.settled (not (c == 1)) ∙ ap (λ b. take_over_need (b && not (c == 1))) (sym is.fork_mark ∙ marked) ∙ ap (λ b. take_over_need (not b)) (ne_eqb c 1 more) in
+      need_is p n is.page is.settled (not (c == 1)) ∙ ap (λ b. take_over_need (b && not (c == 1))) (sym is.cow ∙ marked) ∙ ap (λ b. take_over_need (not b)) (ne_eqb c 1 more) in
       (Some c, sym (counted_is marked), subst (λ k. RunsDry v w k (c ∷ [])) (sym need) dry)
 
--- ---- the stored mark comes
+-- ---- the dirty mark comes
 
 module _ {x y : Body} {t u : Tables} {p : Process} {count : Option ℕ} (settled : SettledPage) (can : CanMakeResident x t p Store settled.page) (is : IsSettledPage t p settled)
     (un : Unshares x.view y t u p settled.page is.page count) where
@@ -170,7 +170,7 @@ module _ {x y : Body} {t u : Tables} {p : Process} {count : Option ℕ} (settled
   abbrev shared : Bool
   shared = is_shared_by count
 
-  -- the page and the process without the fork mark
+  -- the page and the process without the copy-on-write mark
   abbrev pub freed : ℕ → Page
   freed fresh = unmarked fresh shared is.page
 
@@ -186,7 +186,7 @@ module _ {x y : Body} {t u : Tables} {p : Process} {count : Option ℕ} (settled
     writes = writes x t p settled can is;
   }
 
-  settled_is : is_counted Store (get p.settled m) ≡ is.page.fork_mark
+  settled_is : is_counted Store (get p.settled m) ≡ is.page.cow
   settled_is = ap (is_counted Store) is.settled
 
   gets : (sh : Bool) → gets_frame sh Store (get p.settled m) ≡ parts_from sh is.page
@@ -225,12 +225,12 @@ module _ {x y : Body} {t u : Tables} {p : Process} {count : Option ℕ} (settled
   region_is = same_Some is.region can.region (sym is.in_region ∙ can.in_region)
 
   -- no store needs a mark where the leaf is dirty
-  no_mark : settled.dirty ≡ true → (is.page.stored_mark || not (keeps_stores (region_on p m))) ≡ true
+  no_mark : settled.dirty ≡ true → (is.page.dirty || not (keeps_stores (region_on p m))) ≡ true
   no_mark dirty =
-      let here : ((is.page.stored_mark || not (is_shared_kind can.region.kind)) && can.region.writes) ≡ true =
-      ap (λ (r : Region). (is.page.stored_mark || not (is_shared_kind r.kind)) && r.writes) (sym region_is) ∙ sym is.dirty ∙ dirty in
-      ap (λ r. is.page.stored_mark || not (keeps_stores r)) can.in_region
-      ∙ ap (λ b. is.page.stored_mark || not (b && is_shared_kind can.region.kind)) (writes x t p settled can is)
+      let here : ((is.page.dirty || not (is_shared_kind can.region.kind)) && can.region.writes) ≡ true =
+      ap (λ (r : Region). (is.page.dirty || not (is_shared_kind r.kind)) && r.writes) (sym region_is) ∙ sym is.dirty ∙ dirty in
+      ap (λ r. is.page.dirty || not (keeps_stores r)) can.in_region
+      ∙ ap (λ b. is.page.dirty || not (b && is_shared_kind can.region.kind)) (writes x t p settled can is)
       ∙ (and_parts _ _ here).0
 
   pub resides_dirty : (files : List File) → settled.dirty ≡ true → MakesResident x.view y t u p files Store m count

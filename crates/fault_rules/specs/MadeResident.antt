@@ -25,9 +25,9 @@ pub record CanMakeResident (x : Body) (t : Tables) (p : Process) (access : Acces
   pub in_region : region_at (regions p) page ≡ Some region
   pub right : lacks_right access (Some region) ≡ false
 
--- whether the reference count of the page's frame is read: for a store to a settled page with the fork mark
+-- whether the reference count of the page's frame is read: for a store to a settled page with the copy-on-write mark
 abbrev pub is_counted : Access → Option Page → Bool
-is_counted Store (Some s) = s.fork_mark
+is_counted Store (Some s) = s.cow
 is_counted _ _ = false
 
 -- whether the page is taken to be shared: a count was read, and it is not 1
@@ -35,7 +35,7 @@ abbrev pub is_shared_by : Option ℕ → Bool
 is_shared_by None = false
 is_shared_by (Some c) = not (c == 1)
 
--- whether the page gets a frame: it is unsettled, or a store finds the fork mark on it and takes it to be shared
+-- whether the page gets a frame: it is unsettled, or a store finds the copy-on-write mark on it and takes it to be shared
 abbrev pub gets_frame : Bool → Access → Option Page → Bool
 gets_frame shared access None = true
 gets_frame shared Store (Some s) = parts_from shared s

@@ -1,4 +1,4 @@
--- What `settle_as` does, which settles a page (brings it into memory) with the stored mark (D) or without: the process then
+-- What `settle_as` does, which settles a page (brings it into memory) with the dirty mark (D) or without: the process then
 -- (`settled_as`), the page's new frame, the other leaves, and the frames claimed (`SettlesAs`).
 use Rattle.std.specs.Prelude.{◌≡◌, ℕ, Bool, false, List, []}
 use Rattle.address_space.specs.Agreement.{Body, IsFrameOfPage, IsSpace, KeepsOtherLeaves}
@@ -10,11 +10,11 @@ use Rattle.process_model.specs.PageMap.{insert}
 use Rattle.process_model.specs.Process.{Process}
 use Rattle.table_walk.specs.Tables.{Tables}
 
--- the process with one more settled page: these bytes and zeros after them, copy number `fresh`, no fork mark, and the
--- stored mark if `mark`
+-- the process with one more settled page: these bytes and zeros after them, copy number `fresh`, no copy-on-write mark, and the
+-- dirty mark if `mark`
 abbrev pub settled_as : ℕ → List ℕ → Bool → Process → ℕ → Process
 settled_as fresh bytes mark p page = record p {
-  settled = insert p.settled page (record { bytes = padded 4096 bytes; copy = fresh; fork_mark = false; stored_mark = mark });
+  settled = insert p.settled page (record { bytes = padded 4096 bytes; copy = fresh; cow = false; dirty = mark });
   tabled = insert p.tabled page tt;
 }
 

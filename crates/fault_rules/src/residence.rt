@@ -58,11 +58,11 @@ impl From<PromiseError> for ResidenceError {
     }
 }
 
-/// Makes `page` resident for `access`, all at once, so that one fault is enough. The page must be in a region that grants
-/// the access. An unsettled page is settled with its initial bytes: zeros, or what its file has there. For a store, a
-/// settled page with the fork mark is taken over: it loses the mark, and gets a frame of its own if its frame's reference
-/// count is read as other than 1. For a store to a writable shared mapping, the page gets the stored mark. A page of a file
-/// is promised before any frame is taken. Makes no fence: the caller must.
+/// Makes `page` resident for `access`, all at once, so that one fault is enough. The page must be in a region that grants the
+/// access. An unsettled page is settled with its initial bytes: zeros, or what its file has there. For a store, a settled page
+/// with the copy-on-write mark is taken over: it loses the mark, and gets a frame of its own if its frame's reference count is
+/// read as other than 1. For a store to a writable shared mapping, the page gets the dirty mark. A page of a file is promised
+/// before any frame is taken. Makes no fence: the caller must.
 ///
 /// # Errors
 /// `NoFrame`: the space is the process that it was, and no frame was claimed; the bytes of an unsettled page of a file have
@@ -106,7 +106,7 @@ pub fn make_resident<S: FrameSeat, F: FrameSupply<Seat = S>, C: Files>(
 }
 
 /// `make_resident` for an unsettled page: gives it its first frame, with the initial bytes that its region has for it, and
-/// with the stored mark if the access is a store and stores are written back to a file.
+/// with the dirty mark if the access is a store and stores are written back to a file.
 fn settle_initial<S: FrameSeat, F: FrameSupply<Seat = S>, C: Files>(
     space: &mut Space<S>,
     store: &mut F,
@@ -200,7 +200,7 @@ fn settle_from_file<S: FrameSeat, F: FrameSupply<Seat = S>, C: Files>(
 }
 
 /// Settles an unsettled page of a region with the bytes, at most 4,096, with which it begins, and zeros after them; with the
-/// stored mark if the access is a store and stores are written back to a file.
+/// dirty mark if the access is a store and stores are written back to a file.
 ///
 /// # Errors
 /// `NoFrame`: as for `make_resident`.
@@ -243,7 +243,7 @@ fn place_in_file(region: &Region, offset: u64, page: u64) -> usize
     (offset + (page - region.first) * PAGE_SIZE) as usize
 }
 
-/// Whether an unsettled page of the region gets the stored mark for an access that the region grants: for a store to a
+/// Whether an unsettled page of the region gets the dirty mark for an access that the region grants: for a store to a
 /// shared mapping.
 fn is_to_mark(region: &Region, access: Access) -> bool
     requires right { lacks_right access (Some (region_of region.now)) ≡ false }

@@ -1,5 +1,5 @@
 // A call for the crate, for the first frame of a page: `settle_as` settles the page (brings it into memory) with given bytes,
-// with the stored mark (D) or without.
+// with the dirty mark (D) or without.
 
 ghost use Rattle.std.specs.Prelude.{[], ◌≡◌, ◌-◌, ◌≤◌, ◌↔◌, if◌then◌else◌, IfErr, IfOk, is_ok, IsOk, length, true};
 ghost use Rattle.address_space.specs.Agreement.{body_of, IsSpace};
@@ -16,7 +16,7 @@ use address_space::Space;
 use frame_store::{FrameSeat, FrameSupply, NoFrame};
 use sv39_entry::Vpn;
 
-/// Settles an unsettled page of a region, with these bytes, at most 4,096, and zeros after them; with the stored mark if
+/// Settles an unsettled page of a region, with these bytes, at most 4,096, and zeros after them; with the dirty mark if
 /// `mark`, for which stores have to be written back to a file.
 ///
 /// # Errors

@@ -1,5 +1,5 @@
-// `take_over`, a call for the crate: readies a settled page (one in memory) for a store. It removes the fork mark
-// (copy-on-write), with a move to a frame of the process's own if the frame has other references, and sets the stored mark
+// `take_over`, a call for the crate: readies a settled page (one in memory) for a store. It removes the copy-on-write mark
+// (copy-on-write), with a move to a frame of the process's own if the frame has other references, and sets the dirty mark
 // (D) if stores are written back.
 
 ghost use Rattle.std.specs.Prelude.{◌≡◌, ◌-◌, ◌≤◌, ◌↔◌, if◌then◌else◌, IfErr, IfOk, is_ok, IsOk, List};
@@ -16,13 +16,13 @@ ghost use Rattle.table_walk.specs.Tables.{Tables};
 use address_space::{SettledPage, Space};
 use frame_store::{FrameSeat, FrameSupply, NoFrame};
 
-/// Takes a settled page over for a store that its region grants: removes the fork mark, if it has one, and sets the stored
-/// mark, if its stores are written back to a file. Both are done in one service, so that one fault is enough.
+/// Takes a settled page over for a store that its region grants: removes the copy-on-write mark, if it has one, and sets the
+/// dirty mark, if its stores are written back to a file. Both are done in one service, so that one fault is enough.
 ///
 /// # Errors
 /// `NoFrame`: the space is the process that it was, and no frame was claimed. If nobody else changes the store (`alone`):
-/// exactly when the page has the fork mark, its frame's reference count is not 1, and no frame is free. Over shared frames:
-/// only after the free count was read as 0.
+/// exactly when the page has the copy-on-write mark, its frame's reference count is not 1, and no frame is free. Over shared
+/// frames: only after the free count was read as 0.
 pub(crate) fn take_over<S: FrameSeat, F: FrameSupply<Seat = S>>(
     space: &mut Space<S>,
     store: &mut F,
@@ -48,7 +48,7 @@ pub(crate) fn take_over<S: FrameSeat, F: FrameSupply<Seat = S>>(
     Ok(())
 }
 
-/// Removes the fork mark of a settled page, if it has one, by `Space::own`.
+/// Removes the copy-on-write mark of a settled page, if it has one, by `Space::own`.
 fn unshare<S: FrameSeat, F: FrameSupply<Seat = S>>(
     space: &mut Space<S>,
     store: &mut F,
@@ -67,7 +67,7 @@ fn unshare<S: FrameSeat, F: FrameSupply<Seat = S>>(
     ensures layout { space.new.layout ≡ space.old.layout }
     ensures keeps { KeepsSeats F.rule store.old space.old.seat store.new space.new.seat }
 {
-    if settled.fork_mark {
+    if settled.cow {
         return space.own(store, settled.page);
     }
     Ok(())

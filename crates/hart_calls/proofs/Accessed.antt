@@ -179,7 +179,7 @@ module _ (files : List File) (p : Process) (a : AccessRequest) where
 
   most_parts : (shared : Bool) (s : Page) → take_over_need (parts_from shared s) ≤ take_over_need (parts_from true s)
   most_parts true s = omega arith
-  most_parts false s = elim s.fork_mark as (λ b. take_over_need (b && false) ≤ take_over_need (b && true)) [ true ↦ omega arith | false ↦ omega arith ]
+  most_parts false s = elim s.cow as (λ b. take_over_need (b && false) ≤ take_over_need (b && true)) [ true ↦ omega arith | false ↦ omega arith ]
 
   most_through : (shared b : Bool) (s : Page) → unless_through (parts_from shared s) b ≤ unless_through (parts_from true s) b
   most_through shared true s = omega arith

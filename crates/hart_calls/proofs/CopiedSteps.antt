@@ -73,7 +73,7 @@ module _ {Seat Frames Cabinet : Type 0} (l : StoreModel Seat Frames Cabinet)
           let through = ap (is_resident_page Store (region_on g.process (page_of address))) (sym settled) ∙ resident in
           record {
             read = record { agrees = u.space; settled = settled };
-            unmarked = is_not s.fork_mark (and_parts (not s.fork_mark) (s.stored_mark || not (keeps_stores (region_on g.process (page_of address)))) through).0;
+            unmarked = is_not s.cow (and_parts (not s.cow) (s.dirty || not (keeps_stores (region_on g.process (page_of address)))) through).0;
             region = can.region;
             in_region = can.in_region;
             writes = is_so (can.region).writes can.right;

@@ -38,8 +38,8 @@ pages_code x = coded_via (coded_list (coded× coded_ℕ x)) (λ m. m.entries) (�
 
 abbrev pub page_code : Coded Page
 page_code = code_by (List ℕ × (ℕ × (Bool × Bool))) (coded× (coded_list coded_ℕ) (coded× coded_ℕ (coded× coded_bool coded_bool)))
-    (λ p. (p.bytes, (p.copy, (p.fork_mark, p.stored_mark))))
-    (λ c. record { bytes = c.0; copy = c.1.0; fork_mark = c.1.1.0; stored_mark = c.1.1.1 })
+    (λ p. (p.bytes, (p.copy, (p.cow, p.dirty))))
+    (λ c. record { bytes = c.0; copy = c.1.0; cow = c.1.1.0; dirty = c.1.1.1 })
     (λ _. refl)
 
 abbrev pub pending_code : Coded Pending

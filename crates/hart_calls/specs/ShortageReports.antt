@@ -26,7 +26,7 @@ pub record WasDry (v w : View) (need met : ℕ) (counts : List ℕ) : Type 0 whe
   pub looks : w.tallies.looks ≡ v.tallies.looks ++ counts
 
 -- `WasDry` with the need of an access's page. The count of its frame was read exactly if the access is a store and the page
--- has the fork mark; the page counts as shared exactly if that count is not 1
+-- has the copy-on-write mark; the page counts as shared exactly if that count is not 1
 abbrev pub AccessDry : View → View → Process → Access → ℕ → Type 0
 AccessDry v w p access page =
     (count : Option ℕ) × (is_some count ≡ is_counted access (get p.settled page))

@@ -12,10 +12,10 @@ use Rattle.process_model.specs.PageMap.{PageMap, get, insert}
 use Rattle.process_model.specs.Process.{Page, Process}
 use Rattle.process_model.specs.Stale.{is_changed, same_leaf, same_leaves, same_mark}
 
--- what the leaf of a settled page follows from: its copy number, its fork mark, its stored mark
+-- what the leaf of a settled page follows from: its copy number, its copy-on-write mark, its dirty mark
 
 abbrev pub sign : Page → ℕ × Bool × Bool
-sign s = (s.copy, s.fork_mark, s.stored_mark)
+sign s = (s.copy, s.cow, s.dirty)
 
 abbrev pub sign_of : Option Page → Option (ℕ × Bool × Bool)
 sign_of None = None
@@ -61,17 +61,17 @@ mark_of b c e = ap (same_mark b) (sym e) ∙ same_mark_here b
 
 leaf_of : (e f : ℕ × Page) → e.0 ≡ f.0 → sign e.1 ≡ sign f.1 → same_leaf e f ≡ true
 leaf_of e f key is =
-    and_from _ _ (and_from _ _ (and_from _ _ (eq-eqb e.0 f.0 key) (eq-eqb (e.1).copy (f.1).copy (ap (λ t. t.0) is))) (mark_of (e.1).fork_mark (f.1).fork_mark (ap (λ t. t.1) is))) (mark_of (e.1).stored_mark (f.1).stored_mark (ap (λ t. t.2) is))
+    and_from _ _ (and_from _ _ (and_from _ _ (eq-eqb e.0 f.0 key) (eq-eqb (e.1).copy (f.1).copy (ap (λ t. t.0) is))) (mark_of (e.1).cow (f.1).cow (ap (λ t. t.1) is))) (mark_of (e.1).dirty (f.1).dirty (ap (λ t. t.2) is))
 
 one_leaf : (e f : ℕ × Page) → same_leaf e f ≡ true → ◌≡◌ {A = ℕ × (ℕ × Bool × Bool)} (e.0, sign e.1) (f.0, sign f.1)
 one_leaf e f is =
-    let third = and_parts (e.0 == f.0 && (e.1).copy == (f.1).copy && same_mark (e.1).fork_mark (f.1).fork_mark) (same_mark (e.1).stored_mark (f.1).stored_mark) is in
-    let second = and_parts (e.0 == f.0 && (e.1).copy == (f.1).copy) (same_mark (e.1).fork_mark (f.1).fork_mark) third.0 in
+    let third = and_parts (e.0 == f.0 && (e.1).copy == (f.1).copy && same_mark (e.1).cow (f.1).cow) (same_mark (e.1).dirty (f.1).dirty) is in
+    let second = and_parts (e.0 == f.0 && (e.1).copy == (f.1).copy) (same_mark (e.1).cow (f.1).cow) third.0 in
     let first = and_parts (e.0 == f.0) ((e.1).copy == (f.1).copy) second.0 in
     let key = eqb-true e.0 f.0 first.0 in
     let copy = eqb-true (e.1).copy (f.1).copy first.1 in
-    let fork = one_mark (e.1).fork_mark (f.1).fork_mark second.1 in
-    let stored = one_mark (e.1).stored_mark (f.1).stored_mark third.1 in
+    let fork = one_mark (e.1).cow (f.1).cow second.1 in
+    let stored = one_mark (e.1).dirty (f.1).dirty third.1 in
     λ i. (key i, (copy i, fork i, stored i))
 
 leaves_of : (es fs : List (ℕ × Page)) → signs es ≡ signs fs → same_leaves es fs ≡ true

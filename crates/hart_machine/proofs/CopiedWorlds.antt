@@ -322,7 +322,7 @@ module _ (m : Machine) (w : World) (is : IsWorld m w) (h s : ℕ) (k : IsCaller 
           let goes = ap (is_resident_page access.Store (region_on g.process (page_of address))) (sym settled) ∙ resident in
           record {
             read = record { agrees = slot_process.agrees; settled = settled };
-            unmarked = is_not x.fork_mark (and_parts (not x.fork_mark) (x.stored_mark || not (keeps_stores (region_on g.process (page_of address)))) goes).0;
+            unmarked = is_not x.cow (and_parts (not x.cow) (x.dirty || not (keeps_stores (region_on g.process (page_of address)))) goes).0;
             region = can.region;
             in_region = can.in_region;
             writes = is_so (can.region).writes can.right;

@@ -1,6 +1,6 @@
--- Lemmas: if a call leaves each page of a process its copy number (which names one copy of a page in memory) and its marks,
--- it leaves each leaf (`followed_same`); frames that it keeps (`staying_frames`, `followed_frames`, `dropped_frames`); and so the machine
--- keeps its page tables (`slot_keeps`).
+-- Lemmas: if a call leaves each page of a process its copy number (which names one copy of a page in memory) and its marks, it
+-- leaves each leaf (`followed_same`); frames that it keeps (`staying_frames`, `followed_frames`, `dropped_frames`); and so the
+-- machine keeps its page tables (`slot_keeps`).
 use Rattle.std.proofs.Common.{◌≡◌, ℕ, ◌<◌, Bool, true, false, not, length, Option, None, Some, List, refl, ap, sym, subst, ◌∙◌, inl, inr, arith}
 use Rattle.std.specs.Prelude.{slice_get, slice_set}
 use Rattle.std.specs.FinMap as finite
@@ -43,9 +43,9 @@ module _ (p q : Process) (unchanged : is_changed (Some p) (Some q) ≡ false) wh
     go (Some z) is same = (z, is)
 
   -- and a page that is settled was, with the same sign
-  pub was_alike : (n : ℕ) (z : Page) → pages.get q.settled n ≡ Some z → (a : Page) × (pages.get p.settled n ≡ Some a) × (z.copy ≡ a.copy) × (z.fork_mark ≡ a.fork_mark) × (z.stored_mark ≡ a.stored_mark)
+  pub was_alike : (n : ℕ) (z : Page) → pages.get q.settled n ≡ Some z → (a : Page) × (pages.get p.settled n ≡ Some a) × (z.copy ≡ a.copy) × (z.cow ≡ a.cow) × (z.dirty ≡ a.dirty)
   was_alike n z there = go (pages.get p.settled n) refl (same_signs n ∙ ap sign_of there) where
-    go : (o : Option Page) → pages.get p.settled n ≡ o → sign_of o ≡ Some (sign z) → (a : Page) × (pages.get p.settled n ≡ Some a) × (z.copy ≡ a.copy) × (z.fork_mark ≡ a.fork_mark) × (z.stored_mark ≡ a.stored_mark)
+    go : (o : Option Page) → pages.get p.settled n ≡ o → sign_of o ≡ Some (sign z) → (a : Page) × (pages.get p.settled n ≡ Some a) × (z.copy ≡ a.copy) × (z.cow ≡ a.cow) × (z.dirty ≡ a.dirty)
     go None is same = absurd (cc)
     go (Some a) is same = let one = same_Some (sign a) (sign z) same in (a, is, ap (λ t. t.0) (sym one), ap (λ t. t.1) (sym one), ap (λ t. t.2) (sym one))
 
@@ -78,7 +78,7 @@ module _ (x y : SlotProcess) (t u : Tables) (p q : Process) (before : IsSlotProc
         let old = was_alike p q unchanged n z there in
         let below = counted n old.0 old.1 in
         let copy = old.2 in
-        record { before = old.0; settled = old.1; fork_mark = old.3; stored_mark = old.4; on = λ f. on n f z there (omega (arith, below, copy)) }
+        record { before = old.0; settled = old.1; cow = old.3; dirty = old.4; on = λ f. on n f z there (omega (arith, below, copy)) }
 
     pub followed_same : HaveSameLeaves t u
     followed_same number = leaves_stay (body_in x) (body_in y) t u p q before.agrees after.agrees (ap (λ f. f.0) trapframe) schemed same_regions (still_settled p q unchanged) alike number

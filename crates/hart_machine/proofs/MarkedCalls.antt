@@ -1,6 +1,6 @@
 -- Lemmas on which calls change the leaves of a process in the model: sbrk and munmap if and only if they release a settled
 -- page (one in memory); making a page resident if and only if it was not; fork if and only if a page that may be written has
--- no fork mark (the next store takes it over); exec always; mmap and user accesses never.
+-- no copy-on-write mark (the next store takes it over); exec always; mmap and user accesses never.
 use Rattle.std.proofs.Common.{◌≡◌, ℕ, ℤ, suc, Bool, true, false, ◌+◌, ◌<◌, ◌≤◌, inl, inr, refl, ap, sym, subst, ◌∙◌, arith, List, [], ◌∷◌, ◌++◌, Option, None, Some, Result, Ok}
 use Rattle.std.specs.Prelude.{drop, flat_map, not, nat_abs, nat_lt, option_map, ◌&&◌, ◌||◌, ◌%◌, ◌==◌}
 use Rattle.std.proofs.lemmas.Bool.{cases_lt}
@@ -122,7 +122,7 @@ module _ (files : List File) (p : Process) (address len : ℕ) (u : Unmapped) (i
 
 -- ---- a page is made resident
 
--- a page that is taken over loses the fork mark or gets the stored mark
+-- a page that is taken over loses the copy-on-write mark or gets the dirty mark
 marks_apart : (fork stored keeps : Bool) → (not fork && (stored || not keeps)) ≡ false → fork ≡ false → stored ≡ (stored || keeps) → ⊥
 marks_apart true stored keeps goes clear same = cc
 marks_apart false true keeps goes clear same = cc
@@ -132,7 +132,7 @@ marks_apart false false false goes clear same = cc
 taken_apart : (access : Access) (r : Option Region) (fresh : ℕ) (shared : Bool) (s : Page) → can_complete access r s ≡ false → sign s ≡ sign (taken_over fresh shared r s) → ⊥
 taken_apart Fetch r fresh shared s goes same = cc
 taken_apart Load r fresh shared s goes same = cc
-taken_apart Store r fresh shared s goes same = marks_apart s.fork_mark s.stored_mark (keeps_stores r) goes (ap (λ t. t.1) same) (ap (λ t. t.2) same)
+taken_apart Store r fresh shared s goes same = marks_apart s.cow s.dirty (keeps_stores r) goes (ap (λ t. t.1) same) (ap (λ t. t.2) same)
 
 module _ (files : List File) (fresh : ℕ) (shared : Bool) (p : Process) (access : Access) (page : ℕ) where
   resident_from : (o : Option Page) → is_resident_page access (region_on p page) o ≡ true → (made_resident_from files fresh shared p access page o).settled ≡ p.settled
@@ -149,7 +149,7 @@ module _ (files : List File) (fresh : ℕ) (shared : Bool) (p : Process) (access
   made_from : (o : Option Page) → get p.settled page ≡ o → is_resident_page access (region_on p page) o ≡ false
       → sign_of (get p.settled page) ≡ sign_of (get (made_resident_from files fresh shared p access page o).settled page) → ⊥
   made_from None there resident same =
-      let s : Page = record { bytes = initial_page files p page; copy = fresh; fork_mark = false; stored_mark = leaves_mark access (region_on p page) } in
+      let s : Page = record { bytes = initial_page files p page; copy = fresh; cow = false; dirty = leaves_mark access (region_on p page) } in
       none_apart (get p.settled page) (get (made_resident_from files fresh shared p access page None).settled page) s there (inserted_here page s p.settled page refl) same
   made_from (Some s) there resident same =
       let t = taken_over fresh shared (region_on p page) s in
@@ -176,24 +176,24 @@ fork_same false true has = has refl
 fork_same false false has = refl
 
 module _ (p : Process) where
-  -- a page that grants writing gets the fork mark
-  pub fork_changes : (n : ℕ) (s : Page) → get p.settled n ≡ Some s → grants_write p n ≡ true → s.fork_mark ≡ false → changed p (marked p) ≡ true
+  -- a page that grants writing gets the copy-on-write mark
+  pub fork_changes : (n : ℕ) (s : Page) → get p.settled n ≡ Some s → grants_write p n ≡ true → s.cow ≡ false → changed p (marked p) ≡ true
   fork_changes n s there grants clear = sign_changes p (marked p) n (λ same.
       let is = both_there (get p.settled n) (get (marked p).settled n) s (marked_page p n s) there (each_there (marked_page p) p.settled n s there) same in
-      fork_apart s.fork_mark (grants_write p n) grants clear (ap (λ t. t.1) is))
+      fork_apart s.cow (grants_write p n) grants clear (ap (λ t. t.1) is))
 
   -- where every such page has it, nothing changes
-  pub fork_keeps : ((n : ℕ) (s : Page) → get p.settled n ≡ Some s → grants_write p n ≡ true → s.fork_mark ≡ true) → changed p (marked p) ≡ false
+  pub fork_keeps : ((n : ℕ) (s : Page) → get p.settled n ≡ Some s → grants_write p n ≡ true → s.cow ≡ true) → changed p (marked p) ≡ false
   fork_keeps has = signs_stay p (marked p) (λ n. by n (get p.settled n) refl ∙ ap sign_of (sym (each_answer (marked_page p) p.settled n)))
     where
       by : (n : ℕ) (o : Option Page) → get p.settled n ≡ o → sign_of (get p.settled n) ≡ sign_of (option_map (marked_page p n) (get p.settled n))
       by n None there = rw there refl
       by n (Some s) there =
-          rw there (ap (λ (b : Bool). let t : Option (ℕ × Bool × Bool) = Some (s.copy, b, s.stored_mark) in t) (fork_same s.fork_mark (grants_write p n) (has n s there)))
+          rw there (ap (λ (b : Bool). let t : Option (ℕ × Bool × Bool) = Some (s.copy, b, s.dirty) in t) (fork_same s.cow (grants_write p n) (has n s there)))
 
 -- a flag that says whether there is a page without the mark tells whether a leaf changes
-pub tells_marks : (p : Process) (b : Bool) → (b ≡ true → (n : ℕ) × (s : Page) × (get p.settled n ≡ Some s) × (grants_write p n ≡ true) × (s.fork_mark ≡ false))
-    → (b ≡ false → (n : ℕ) (s : Page) → get p.settled n ≡ Some s → grants_write p n ≡ true → s.fork_mark ≡ true) → b ≡ changed p (marked p)
+pub tells_marks : (p : Process) (b : Bool) → (b ≡ true → (n : ℕ) × (s : Page) × (get p.settled n ≡ Some s) × (grants_write p n ≡ true) × (s.cow ≡ false))
+    → (b ≡ false → (n : ℕ) (s : Page) → get p.settled n ≡ Some s → grants_write p n ≡ true → s.cow ≡ true) → b ≡ changed p (marked p)
 tells_marks p true some none = let x = some refl in sym (fork_changes p x.0 x.1 x.2 x.3 x.4)
 tells_marks p false some none = sym (fork_keeps p (none refl))
 
@@ -256,7 +256,7 @@ module _ (p : Process) (fresh : ℕ) (below : (n : ℕ) (a : Page) → get p.set
 
   first_is_new : (q : Process) (e : ℕ × List ℕ) (es : List (ℕ × List ℕ)) → q.settled ≡ from_list (numbered fresh (e ∷ es)) → changed p q ≡ true
   first_is_new q e es is =
-      let s : Page = record { bytes = e.1; copy = fresh; fork_mark = false; stored_mark = false } in
+      let s : Page = record { bytes = e.1; copy = fresh; cow = false; dirty = false } in
       let there : get q.settled e.0 ≡ Some s = ap (λ (m : PageMap Page). get m e.0) is ∙ inserted_here e.0 s (from_list (numbered (fresh + 1) es)) e.0 refl in
       sign_changes p q e.0 (new_apart e.0 (get p.settled e.0) (get q.settled e.0) s refl there refl)
 

@@ -21,7 +21,7 @@ use Rattle.sv39_entry.specs.declared.access.Access.TheVariants.{Fetch, Load, Sto
 keeps_frame : (shared : Bool) (access : Access) (r : Option Region) (s : Page) → can_complete access r s ≡ true → gets_frame shared access (Some s) ≡ false
 keeps_frame shared Fetch r s through = refl
 keeps_frame shared Load r s through = refl
-keeps_frame shared Store r s through = elim s.fork_mark as (λ b. (not b && (s.stored_mark || not (keeps_stores r))) ≡ true → (b && shared) ≡ false) [
+keeps_frame shared Store r s through = elim s.cow as (λ b. (not b && (s.dirty || not (keeps_stores r))) ≡ true → (b && shared) ≡ false) [
   | true ↦ λ never. absurd (cc)
   | false ↦ λ _. refl
 ] through
@@ -80,7 +80,7 @@ module _ (fresh : ℕ) (page : ℕ) where
   same_made files c d p access None same = refl
   same_made files c d p Fetch (Some s) same = refl
   same_made files c d p Load (Some s) same = refl
-  same_made files c d p Store (Some s) same = elim s.fork_mark as (λ b. s.fork_mark ≡ b → made_resident_from files fresh c p Store page (Some s) ≡ made_resident_from files fresh d p Store page (Some s)) [
+  same_made files c d p Store (Some s) same = elim s.cow as (λ b. s.cow ≡ b → made_resident_from files fresh c p Store page (Some s) ≡ made_resident_from files fresh d p Store page (Some s)) [
     | true ↦ λ e. ap (λ (z : Bool). made_resident_from files fresh z p Store page (Some s)) (same e)
     | false ↦ λ e. rw e refl
   ] refl

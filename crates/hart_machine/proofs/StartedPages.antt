@@ -37,7 +37,7 @@ number_of e = e.0
 numbered_by : (fresh : ℕ) (es : List (ℕ × List ℕ)) (n : ℕ) (a : Page) → get (from_list (numbered fresh es)) n ≡ Some a
     → (i : ℕ) × (a.copy ≡ fresh + i) × (slice_get (map number_of es) i ≡ Some n)
 numbered_by fresh [] n a at = absurd (cc)
-numbered_by fresh (e ∷ es) n a at = elim (found_inserted (from_list (numbered (fresh + 1) es)) e.0 n (record { bytes = e.1; copy = fresh; fork_mark = false; stored_mark = false }) a at) [
+numbered_by fresh (e ∷ es) n a at = elim (found_inserted (from_list (numbered (fresh + 1) es)) e.0 n (record { bytes = e.1; copy = fresh; cow = false; dirty = false }) a at) [
   | inl is ↦ (0, (let c : fresh ≡ a.copy = ap (λ (x : Page). x.copy) is.1 in omega (arith, c)), ap Some (sym is.0))
   | inr there ↦ (let r = numbered_by (fresh + 1) es n a there in (suc r.0, omega (arith, r.1), r.2))
 ]

@@ -1,5 +1,5 @@
--- Lemmas on what `leaf_changes` reads of the process in a slot (place in the process table): settled pages (those in
--- memory), fork marks (the next store takes the page over), accesses that are granted, and whether residence (an access
+-- Lemmas on what `leaf_changes` reads of the process in a slot (place in the process table): settled pages (those in memory),
+-- copy-on-write marks (the next store takes the page over), accesses that are granted, and whether residence (an access
 -- succeeds without a fault) changed.
 use Rattle.std.proofs.Common.{◌≡◌, ◌⊎◌, ◌↔◌, ℕ, Bool, true, false, ◌+◌, ◌<◌, ◌≤◌, inl, inr, refl, ap, subst, sym, ◌∙◌, arith, Option, None, Some}
 use Rattle.std.specs.Prelude.{if◌then◌else◌, is_some, min, not, ◌&&◌}
@@ -50,14 +50,14 @@ module _ (t : Tables) (p : Process) (first end last : ℕ) (is : last ≡ min en
       let nothing : ◌≡◌ {A = Option Page} None (Some s) = sym (next n from within) ∙ there in
       cc
 
--- ---- fork marks
+-- ---- copy-on-write marks
 
 -- of the pages below one, each that may be written has the mark
 abbrev pub AreMarkedBelow : Process → ℕ → Type 0
-AreMarkedBelow p first = (n : ℕ) (s : Page) → get p.settled n ≡ Some s → n < first → grants_write p n ≡ true → s.fork_mark ≡ true
+AreMarkedBelow p first = (n : ℕ) (s : Page) → get p.settled n ≡ Some s → n < first → grants_write p n ≡ true → s.cow ≡ true
 
 abbrev pub is_unmarked : Process → SettledPage → Bool
-is_unmarked p x = not x.fork_mark && grants_write p x.page
+is_unmarked p x = not x.cow && grants_write p x.page
 
 marked_or_not : (mark grants : Bool) → (not mark && grants) ≡ false → grants ≡ true → mark ≡ true
 marked_or_not true grants none may = refl
@@ -70,11 +70,11 @@ clear_mark false is = refl
 
 module _ (t : Tables) (p : Process) (first last : ℕ) where
   pub some_unmarked : (x : SettledPage) → IsNextSettled t p first last (Some x) → is_unmarked p x ≡ true
-      → (n : ℕ) × (s : Page) × (get p.settled n ≡ Some s) × (grants_write p n ≡ true) × (s.fork_mark ≡ false)
+      → (n : ℕ) × (s : Page) × (get p.settled n ≡ Some s) × (grants_write p n ≡ true) × (s.cow ≡ false)
   some_unmarked x next is =
       let here : IsSettledPage t p x = next.3 in
-      let parts = and_parts (not x.fork_mark) (grants_write p x.page) is in
-      (x.page, here.page, here.settled, parts.1, sym here.fork_mark ∙ clear_mark x.fork_mark parts.0)
+      let parts = and_parts (not x.cow) (grants_write p x.page) is in
+      (x.page, here.page, here.settled, parts.1, sym here.cow ∙ clear_mark x.cow parts.0)
 
   pub marked_further : (x : SettledPage) → IsNextSettled t p first last (Some x) → is_unmarked p x ≡ false → AreMarkedBelow p first → AreMarkedBelow p (x.page + 1)
   marked_further x next is before n s there less grants = elim (cases_lt n first) [
@@ -83,7 +83,7 @@ module _ (t : Tables) (p : Process) (first last : ℕ) where
       | inl same ↦
           let here : IsSettledPage t p x = next.3 in
           let page : here.page ≡ s = same_Some here.page s (sym here.settled ∙ sym (ap (get p.settled) same) ∙ there) in
-          sym (ap (λ (z : Page). z.fork_mark) page) ∙ sym here.fork_mark ∙ marked_or_not x.fork_mark (grants_write p x.page) is (sym (ap (grants_write p) same) ∙ grants)
+          sym (ap (λ (z : Page). z.cow) page) ∙ sym here.cow ∙ marked_or_not x.cow (grants_write p x.page) is (sym (ap (grants_write p) same) ∙ grants)
       | inr apart ↦ absurd (
           let within : n < x.page = omega (arith, less, apart) in
           let nothing : ◌≡◌ {A = Option Page} None (Some s) = sym (next.2 n from within) ∙ there in
@@ -92,7 +92,7 @@ module _ (t : Tables) (p : Process) (first last : ℕ) where
   ]
 
   pub all_marked : AreLow p → last ≡ (trapframe_page p.scheme) → IsNextSettled t p first last None → AreMarkedBelow p first
-      → (n : ℕ) (s : Page) → get p.settled n ≡ Some s → grants_write p n ≡ true → s.fork_mark ≡ true
+      → (n : ℕ) (s : Page) → get p.settled n ≡ Some s → grants_write p n ≡ true → s.cow ≡ true
   all_marked low is none before n s there grants = elim (cases_lt n first) [
     | inl earlier ↦ before n s there earlier grants
     | inr from ↦ absurd (

@@ -76,7 +76,7 @@ impl Machine {
 
 impl SlotProcess {
     /// Replaces the process by the process of `image`; no access is pending then. The pages
-    /// with the stored mark of the old one are written back to the files of their mappings.
+    /// with the dirty mark of the old one are written back to the files of their mappings.
     ///
     /// # Errors
     /// `NoFrame`: exactly when fewer than `exec_need` frames are free. The process is then what it was, and the files are

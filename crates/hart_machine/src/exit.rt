@@ -1,4 +1,4 @@
-// Step `Exit`, and the end of a process by exit or by a rule (a reason to deny an access): pages with the stored mark (D)
+// Step `Exit`, and the end of a process by exit or by a rule (a reason to deny an access): pages with the dirty mark (D)
 // are written back, all its frames released, and its seat (an owner's capability at a frame store) closed; its slot (place
 // in the process table) is then empty, and the hart idle.
 
@@ -48,7 +48,7 @@ impl Machine {
         }
     }
 
-    /// Ends the process of `slot`, for which `hart` is in the kernel: writes the pages with the stored mark back to the files
+    /// Ends the process of `slot`, for which `hart` is in the kernel: writes the pages with the dirty mark back to the files
     /// of their mappings, in order of address, and releases all its frames. The slot is then empty, and the hart idle.
     pub(crate) fn end(&mut self, hart: usize, slot: usize)
         requires world { (w : World) × (waits : Bool) × IsWorld self.old w × IsInKernel self.old w hart slot waits }
@@ -83,7 +83,7 @@ impl Machine {
 }
 
 impl SlotProcess {
-    /// Ends the process: writes the pages with the stored mark back to the files of their mappings, and releases all its
+    /// Ends the process: writes the pages with the dirty mark back to the files of their mappings, and releases all its
     /// frames. Returns its seat, which holds nothing.
     fn end(self, frames: &mut PlainFrames, files: &mut Cabinet) -> PlainSeat
         requires fits { IsSeatOf PlainStateRule frames.old (view_of self) }

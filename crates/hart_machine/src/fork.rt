@@ -51,7 +51,8 @@ impl Machine {
         }
     }
 
-    /// `fork`, with the slot of the child as the result, and the slot of the parent if one of its pages got the fork mark.
+    /// `fork`, with the slot of the child as the result, and the slot of the parent if one of its pages got the copy-on-write
+    /// mark.
     ///
     /// # Errors
     /// Those of `in_kernel`, then `NoSlot`, then `NoFrame`.

@@ -1,6 +1,6 @@
 // What steps read of the process in a slot (place in the process table) to tell whether they change leaves of its pages, so
-// that buffer (TLB) entries may be stale: settled pages (those in memory) in a range or without a fork mark (the next store
-// takes the page over), and pages resident for an access (no fault). Also the list of settled pages, for `Fork`.
+// that buffer (TLB) entries may be stale: settled pages (those in memory) in a range or without a copy-on-write mark (the next
+// store takes the page over), and pages resident for an access (no fault). Also the list of settled pages, for `Fork`.
 
 ghost use Rattle.std.specs.Prelude.{◌≡◌, ◌↔◌, ◌+◌, ◌<◌, ◌≤◌, ◌&&◌, ℕ, false, min, not, Some, true};
 ghost use Rattle.address_space.specs.Accesses.{IsGranted};
@@ -88,26 +88,27 @@ impl SlotProcess {
         list.settled_pages(&mut self.space, frames)
     }
 
-    /// Whether one of the settled pages, which `settled` lists, may be written and has no fork mark: a fork changes its leaf.
+    /// Whether one of the settled pages, which `settled` lists, may be written and has no copy-on-write mark: a fork changes
+    /// its leaf.
     pub(crate) fn has_unmarked(&self, settled: &[SettledPage]) -> bool
         ensures some { result ≡ true → (t : Tables) (p : Process) → IsSlotProcess self.now t p → AreSettled t p 0 (trapframe_page p.scheme) settled.now →
-            (n : ℕ) × (s : Page) × (get p.settled n ≡ Some s) × (grants_write p n ≡ true) × (s.fork_mark ≡ false) }
+            (n : ℕ) × (s : Page) × (get p.settled n ≡ Some s) × (grants_write p n ≡ true) × (s.cow ≡ false) }
         ensures none { result ≡ false → (t : Tables) (p : Process) → IsSlotProcess self.now t p → AreSettled t p 0 (trapframe_page p.scheme) settled.now →
-            (n : ℕ) (s : Page) → get p.settled n ≡ Some s → grants_write p n ≡ true → s.fork_mark ≡ true }
+            (n : ℕ) (s : Page) → get p.settled n ≡ Some s → grants_write p n ≡ true → s.cow ≡ true }
     {
         'pages: for page in settled {
-            if self.is_unmarked(page.page.number(), page.fork_mark) {
+            if self.is_unmarked(page.page.number(), page.cow) {
                 return true;
             }
         }
         false
     }
 
-    /// Whether the page with this number may be written and `fork_mark` is false.
-    fn is_unmarked(&self, page: u64, fork_mark: bool) -> bool
-        ensures { (t : Tables) (p : Process) → IsSlotProcess self.now t p → result ≡ (not fork_mark && grants_write p page) }
+    /// Whether the page with this number may be written and `cow` is false.
+    fn is_unmarked(&self, page: u64, cow: bool) -> bool
+        ensures { (t : Tables) (p : Process) → IsSlotProcess self.now t p → result ≡ (not cow && grants_write p page) }
     {
-        !fork_mark && self.may_write(page)
+        !cow && self.may_write(page)
     }
 
     /// Whether a region holds the page with this number and grants writing.

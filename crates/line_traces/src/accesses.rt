@@ -1,5 +1,5 @@
-// `AccessLine`: a user access with the region that grants it or the rule that denies it; and `reason`, why an access faults that a
-// region grants.
+// `AccessLine`: a user access with the region that grants it or the rule that denies it; and `reason`, why an access faults
+// that a region grants.
 
 use crate::regions::RegionLine;
 use crate::walks::WalkLine;
@@ -43,8 +43,8 @@ pub fn access_name(access: Access) -> &'static str {
 }
 
 impl AccessLine {
-    /// Returns an access of `width` bytes by the process in a slot, and how its regions decide it; `None` if the slot has no process,
-    /// or `width` is 0.
+    /// Returns an access of `width` bytes by the process in a slot, and how its regions decide it; `None` if the slot has no
+    /// process, or `width` is 0.
     pub fn of(
         machine: &Machine,
         slot: usize,
@@ -111,8 +111,8 @@ impl fmt::Display for AccessLine {
     }
 }
 
-/// Returns why an access faults that the regions grant: by the word of the leaf that it uses, and by how many references the leaf's frame
-/// has. `None` if the leaf permits it.
+/// Returns why an access faults that the regions grant: by the word of the leaf that it uses, and by how many references the
+/// leaf's frame has. `None` if the leaf permits it.
 pub fn reason(access: Access, leaf: Option<u64>, references: Option<u16>) -> Option<&'static str> {
     let Some(word) = leaf else {
         return Some("the page has no leaf: to serve the fault is to give it a frame");
@@ -121,7 +121,7 @@ pub fn reason(access: Access, leaf: Option<u64>, references: Option<u16>) -> Opt
     if access != Access::Store {
         return None;
     }
-    if entry.has(EntryFlags::COPY_ON_WRITE) {
+    if entry.has(EntryFlags::COW) {
         return Some(match references {
             Some(1) =>
                 "the leaf lacks W and has C (copy-on-write), and its frame has no other reference: to serve the fault is to set W again",

@@ -162,7 +162,7 @@ module _ (m : Region) (first : ℕ) where
   pub none_written : stored_file m ≡ None → (end : ℕ) (es : Entries) → all_to m first end es ≡ []
   none_written none end [] = refl
   none_written none end (e ∷ es) =
-      rw (unwritten (keeps_stores (Some m)) m.source (4096 * (e.0 - m.first)) (e.1).bytes none (nat_le first e.0 && nat_lt e.0 end) (e.1).stored_mark, none_written none end es) refl
+      rw (unwritten (keeps_stores (Some m)) m.source (4096 * (e.0 - m.first)) (e.1).bytes none (nat_le first e.0 && nat_lt e.0 end) (e.1).dirty, none_written none end es) refl
 
   -- a page that is dirty is written to its place in the file
   pub page_written : (n offset page : ℕ) (s : Page) → stored_file m ≡ Some (n, offset) → first ≤ page
@@ -171,7 +171,7 @@ module _ (m : Region) (first : ℕ) where
       let file_is = of_file (keeps_stores (Some m)) m.source n offset is in
       let inside : (nat_le first page && nat_lt page (page + 1)) ≡ true = grind (arith, from) in
       let parts = and_parts m.writes (is_shared_kind m.kind) file_is.0 in
-      let dirty : is_dirty_page m s ≡ s.stored_mark = rw (parts.0, parts.1) (dirty_with s.stored_mark) in
+      let dirty : is_dirty_page m s ≡ s.dirty = rw (parts.0, parts.1) (dirty_with s.dirty) in
       rw (inside, file_is.0, file_is.1, dirty) refl
 
 -- of a process

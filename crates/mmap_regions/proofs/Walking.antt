@@ -1,5 +1,5 @@
 -- Lemmas for the loops over the settled pages (those in memory) of a run (pages of one mapping): what a page with or without
--- the stored mark (D) adds to the page writes, when the loop is over, that there are more writes to come, and that offsets
+-- the dirty mark (D) adds to the page writes, when the loop is over, that there are more writes to come, and that offsets
 -- in the file stay in reach.
 use Rattle.std.proofs.Common.{◌≡◌, ℕ, true, false, ◌+◌, ◌-◌, ◌*◌, ◌<◌, ◌≤◌, refl, ap, sym, subst, ◌∙◌, arith, List, [], ◌∷◌, ◌++◌, Option, None, Some, length}
 use Rattle.std.specs.Prelude.{is_some, if◌then◌else◌}

@@ -1,4 +1,4 @@
-// Write-back of pages that have the stored mark (D, in a writable shared mapping) to their files: `promise_write_back`
+// Write-back of pages that have the dirty mark (D, in a writable shared mapping) to their files: `promise_write_back`
 // reserves the file writes, so that they cannot fail; `write_back` writes the pages of all mappings. For the crate also
 // `count_run` and `write_run`, for one run (pages of one mapping).
 
@@ -18,7 +18,7 @@ use file_cabinet::{Files, PromiseError};
 use frame_store::{FrameAccess, FrameSeat};
 use sv39_entry::PAGE_SIZE;
 
-/// Returns how many pages of a run are to be written back: its settled pages with the stored mark (D in the leaf), if stores
+/// Returns how many pages of a run are to be written back: its settled pages with the dirty mark (D in the leaf), if stores
 /// to the mapping are written back to a file, else 0. They are found by the leaves that exist.
 pub(crate) fn count_run<S: FrameSeat, F: FrameAccess<Seat = S>>(
     space: &mut Space<S>,
@@ -51,7 +51,7 @@ pub(crate) fn count_run<S: FrameSeat, F: FrameAccess<Seat = S>>(
     count
 }
 
-/// Writes back the pages of a run that have the stored mark, in ascending order, up to the file's length. `files` has
+/// Writes back the pages of a run that have the dirty mark, in ascending order, up to the file's length. `files` has
 /// promised as many pages. The pages stay, with their marks.
 pub(crate) fn write_run<S: FrameSeat, F: FrameAccess<Seat = S>, C: Files>(
     space: &mut Space<S>,
@@ -119,7 +119,7 @@ pub fn promise_write_back<S: FrameSeat, F: FrameAccess<Seat = S>, C: Files>(
     files.promise(pages)
 }
 
-/// Writes back the pages of all mappings that have the stored mark, in order of address, up to each file's length: what
+/// Writes back the pages of all mappings that have the dirty mark, in order of address, up to each file's length: what
 /// exec, an exit and an end by a rule do before the pages are released. `files` must have promised as many pages
 /// (`promise_write_back`), so none of these writes can fail. The pages stay, with their marks. The seat may have credits.
 pub fn write_back<S: FrameSeat, F: FrameAccess<Seat = S>, C: Files>(

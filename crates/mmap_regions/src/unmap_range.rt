@@ -16,7 +16,7 @@ use frame_store::{FrameAccess, FrameSeat};
 use process_model::Refusal;
 
 /// Unmaps `length` bytes from `address` on, rounded up to whole pages: one mapping, or its front or back (MIT 6.1810, mmap
-/// lab). First, pages with the stored mark are written back in ascending order, up to the file's length; then each leaf is
+/// lab). First, pages with the dirty mark are written back in ascending order, up to the file's length; then each leaf is
 /// removed and the reference to its frame dropped. Page tables stay. Waits for nobody. Makes no fence: the caller must.
 ///
 /// # Errors

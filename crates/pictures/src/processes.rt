@@ -22,14 +22,14 @@ const CELLS: u64 = 226;
 /// What marks a page: C for copy-on-write, D for a stored page of a shared mapping, and how many references its frame has.
 #[derive(Clone, Copy)]
 struct Marks {
-    copy_on_write: bool,
+    cow: bool,
     stored: bool,
     references: u16,
 }
 
 impl fmt::Display for Marks {
     fn fmt<W: fmt::Write>(&self, f: &mut fmt::Formatter<W>) -> fmt::Result {
-        if self.copy_on_write {
+        if self.cow {
             write!(f, " C")?;
         }
         if self.stored {
@@ -58,7 +58,7 @@ fn put_page(
         Hex(entry.ppn()),
     );
     let marks = Marks {
-        copy_on_write: entry.has(EntryFlags::COPY_ON_WRITE),
+        cow: entry.has(EntryFlags::COW),
         stored: kind == Some(RegionKind::SharedMapping) && entry.has(EntryFlags::DIRTY),
         references: reference_count(machine.counts(), Some(leaf.word)).unwrap_or(0),
     };

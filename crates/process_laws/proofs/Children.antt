@@ -1,5 +1,5 @@
 -- Lemmas about the child of a fork: a reply `Forked` gives the lowest free slot (place in the process table), and the
--- process in it then has its parent's regions, heap base and size, waits for nothing, and has no stored mark (D).
+-- process in it then has its parent's regions, heap base and size, waits for nothing, and has no dirty mark (D).
 use Rattle.std.proofs.Common.{◌≡◌, ℕ, Bool, true, false, cond, refl, sym, ap, ◌∙◌, arith, List, [], ◌∷◌, Option, None, Some}
 use Rattle.std.specs.Ordering.{eq_by_cmp, nat_cmp}
 use Rattle.std.specs.FinMap.Entries.{find}
@@ -19,9 +19,9 @@ use Rattle.process_model.specs.declared.step.Reply.{Reply}
 use Rattle.process_model.specs.declared.step.Reply.TheVariants.{Forked}
 use Rattle.process_model.specs.declared.step.Step.TheVariants as step_of
 
-unstored_at : (f : ℕ → Page → Page) → ((n : ℕ) (x : Page) → (f n x).stored_mark ≡ false) → (es : List (ℕ × Page)) (page : ℕ) → has_mark (λ z. z.stored_mark) (find nat_cmp page (each_value f es)) ≡ false
+unstored_at : (f : ℕ → Page → Page) → ((n : ℕ) (x : Page) → (f n x).dirty ≡ false) → (es : List (ℕ × Page)) (page : ℕ) → has_mark (λ z. z.dirty) (find nat_cmp page (each_value f es)) ≡ false
 unstored_at f none [] page = refl
-unstored_at f none (e ∷ es) page = elim (eq_by_cmp nat_cmp page e.0) as (λ b. has_mark (λ z. z.stored_mark) (cond b (Some (f e.0 e.1)) (find nat_cmp page (each_value f es))) ≡ false) [
+unstored_at f none (e ∷ es) page = elim (eq_by_cmp nat_cmp page e.0) as (λ b. has_mark (λ z. z.dirty) (cond b (Some (f e.0 e.1)) (find nat_cmp page (each_value f es))) ≡ false) [
   | true ↦ none e.0 e.1
   | false ↦ unstored_at f none es page
 ]

@@ -1,5 +1,5 @@
 -- Lemmas about write-back, of a run of pages of a mapping and of all mappings: each byte of a file stays or becomes one that
--- the process has at that place, on a page with the stored mark (D) of a writable shared mapping; no file changes its
+-- the process has at that place, on a page with the dirty mark (D) of a writable shared mapping; no file changes its
 -- length, or whether it may be written (`Written`). Of pages that map one place the last is written last (`Above`).
 use Rattle.std.proofs.Common.{◌≡◌, ◌⊎◌, ℕ, zero, suc, Bool, true, false, cond, ◌&&◌, ◌+◌, ◌-◌, ◌*◌, ◌%◌, ◌<◌, ◌≤◌, inl, inr, refl, sym, ap, subst, ◌∙◌, arith, List, [], ◌∷◌, ◌++◌, Option, None, Some, length, take, drop}
 use Rattle.std.specs.Prelude.{T, fold, nat_le, nat_lt, slice_get, slice_set}
@@ -142,7 +142,7 @@ module _ (x : Step) (p : Process) (sized : AllSized p.settled) where
 
     wrote : (low n offset i b : ℕ) → low ≤ 4096 * e.0 + i → m.source ≡ file n offset → i < 4096 → byte_at (e.1).bytes i ≡ b → Above x p low n (offset + 4096 * (e.0 - m.first) + i) b
     wrote low n offset i b high source few is =
-        let both = and_parts (keeps_stores (Some m)) (e.1).stored_mark due in
+        let both = and_parts (keeps_stores (Some m)) (e.1).dirty due in
         let keeps = and_parts m.writes (is_shared_kind m.kind) both.0 in
         let page : page_of (4096 * e.0 + i) ≡ e.0 = omega (arith, few) in
         let place : (4096 * e.0 + i) % 4096 ≡ i = omega (arith, few) in (
@@ -156,7 +156,7 @@ module _ (x : Step) (p : Process) (sized : AllSized p.settled) where
             of_file = ap (λ s. pages_on s (e.0 - m.first)) source;
             place = ap (λ k. offset + 4096 * (e.0 - m.first) + k) place;
             goes = ap (is_page_written_back x) page ∙ goes;
-            stored = ap (has_stored_mark p) page ∙ ap (has_mark (λ x. x.stored_mark)) there ∙ both.1;
+            stored = ap (has_stored_mark p) page ∙ ap (has_mark (λ x. x.dirty)) there ∙ both.1;
             byte = ap (λ k. page_byte (get p.settled k) ((4096 * e.0 + i) % 4096)) page ∙ ap (λ k. page_byte (get p.settled e.0) k) place ∙ ap (λ o. page_byte o i) there ∙ ap Some is;
           },
           high,
@@ -290,7 +290,7 @@ module _ (x : Step) (p : Process) (sized : AllSized p.settled) where
           let same = same_Some _ _ both in
           let writes : m.writes ≡ true = ap (λ (g : Grant). g.writes) same ∙ wb.writes in
           let shared : is_shared_kind m.kind ≡ true = ap (λ (g : Grant). is_shared_kind g.kind) same ∙ ap is_shared_kind wb.shared in
-          let mark : (e.1).stored_mark ≡ true = sym (ap (has_mark (λ x. x.stored_mark)) there) ∙ ap (has_stored_mark p) (sym at) ∙ wb.stored in
+          let mark : (e.1).dirty ≡ true = sym (ap (has_mark (λ x. x.dirty)) there) ∙ ap (has_stored_mark p) (sym at) ∙ wb.stored in
           let due : is_written_back m e.1 ≡ true = rw (writes, shared, mark) refl in
           let low : nat_le from e.0 ≡ true = le-leb from e.0 start in
           let high : nat_lt e.0 end ≡ true = lt-ltb e.0 end stop in
@@ -319,7 +319,7 @@ module _ (x : Step) (p : Process) (sized : AllSized p.settled) where
           later : (e : ℕ × Page) (es : List (ℕ × Page)) → (page_of wb.address ≡ e.0 → ⊥) → find nat_cmp (page_of wb.address) (e ∷ es) ≡ find nat_cmp (page_of wb.address) es
           later e es apart = rw (unsigned_tied (page_of wb.address) e.0, ne_eqb (page_of wb.address) e.0 apart) refl
 
-      marked_there : (o : Option Page) → has_mark (λ x. x.stored_mark) o ≡ true → (v : Page) × (o ≡ Some v)
+      marked_there : (o : Option Page) → has_mark (λ x. x.dirty) o ≡ true → (v : Page) × (o ≡ Some v)
       marked_there None e = absurd cc
       marked_there (Some v) e = (v, refl)
 

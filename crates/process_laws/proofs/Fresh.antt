@@ -73,7 +73,7 @@ pub record IsRow (first n : ℕ) (m : PageMap Page) : Type 0 where
 pub row_of : (first n : ℕ) (es : List (ℕ × List ℕ)) → n ≡ first + length es → IsRow first n (from_list (numbered first es))
 row_of first n [] e = record { fresh = record { below = λ page x e. cc; once = λ a b x y e. cc }; above = λ page x e. cc }
 row_of first n (e ∷ es) is =
-    let v : Page = record { bytes = e.1; copy = first; fork_mark = false; stored_mark = false } in
+    let v : Page = record { bytes = e.1; copy = first; cow = false; dirty = false } in
     let rest = row_of (first + 1) n es (omega arith) in
     let m = from_list (numbered (first + 1) es) in
     record {

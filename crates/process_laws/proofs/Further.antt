@@ -1,6 +1,6 @@
--- `Further`: a process after a change that keeps its regions, size, heap base and stored marks (D) and adds no fork mark
--- (left by a fork: copy first), and that removes fork marks or adds stored marks only on given pages. Lemmas: answered
--- accesses, page-fault service and kernel copies change a process in no other way.
+-- `Further`: a process after a change that keeps its regions, size, heap base and dirty marks (D) and adds no copy-on-write
+-- mark (left by a fork: copy first), and that removes copy-on-write marks or adds dirty marks only on given pages. Lemmas:
+-- answered accesses, page-fault service and kernel copies change a process in no other way.
 use Rattle.std.proofs.Common.{◌≡◌, ◌⊎◌, ◌<◌, ℕ, suc, Bool, true, false, ◌||◌, ◌+◌, ◌%◌, inl, inr, refl, sym, ap, subst, ◌∙◌, arith, List, [], ◌∷◌, length, Option, None, Some}
 use Rattle.std.specs.Prelude.{fold, Result, Ok, Err, zip}
 use Rattle.std.proofs.lemmas.Bool.{cases_eq}
@@ -21,8 +21,8 @@ use Rattle.sv39_entry.specs.declared.access.Access.{Access}
 use Rattle.sv39_entry.specs.declared.access.Access.TheVariants as access
 use Rattle.sv39_entry.specs.declared.rule.Rule.{Rule}
 
--- The regions, among them the mappings, the size and the heap's base are the same, no page has a fork mark anew, and none lost its stored mark; only those that may have
--- a stored mark anew, or lost their fork mark
+-- The regions, among them the mappings, the size and the heap's base are the same, no page has a copy-on-write mark anew, and
+-- none lost its dirty mark; only those that may have a dirty mark anew, or lost their copy-on-write mark
 pub record Further (may : ℕ → Bool) (p q : Process) : Type 0 where
   pub same : regions q ≡ regions p
   pub maps : q.mappings ≡ p.mappings
@@ -46,34 +46,34 @@ further_on may p q r f g = record {
 }
 
 -- a page that is put again
-put_further : (may : ℕ → Bool) (p : Process) (n : ℕ) (x y : Page) → get p.settled n ≡ Some x → (y.fork_mark ≡ true → x.fork_mark ≡ true) → (x.stored_mark ≡ true → y.stored_mark ≡ true)
-    → (y.stored_mark ≡ true → (x.stored_mark ≡ true) ⊎ (may n ≡ true)) → (x.fork_mark ≡ true → (y.fork_mark ≡ true) ⊎ (may n ≡ true)) → Further may p (with_page p n y)
+put_further : (may : ℕ → Bool) (p : Process) (n : ℕ) (x y : Page) → get p.settled n ≡ Some x → (y.cow ≡ true → x.cow ≡ true) → (x.dirty ≡ true → y.dirty ≡ true)
+    → (y.dirty ≡ true → (x.dirty ≡ true) ⊎ (may n ≡ true)) → (x.cow ≡ true → (y.cow ≡ true) ⊎ (may n ≡ true)) → Further may p (with_page p n y)
 put_further may p n x y there fork store goes keep = record {
   same = refl;
   maps = refl;
   size = refl;
   base = refl;
   kept = λ page e. elim (cases_eq page n) [
-    | inl same ↦ elim (keep (sym (mark_at (λ z. z.fork_mark) (get p.settled page) (Some x) (ap (get p.settled) same ∙ there)) ∙ e)) [
-      | inl still ↦ inl (mark_at (λ z. z.fork_mark) (get (with_page p n y).settled page) (Some y) (inserted_here n y p.settled page same) ∙ still)
+    | inl same ↦ elim (keep (sym (mark_at (λ z. z.cow) (get p.settled page) (Some x) (ap (get p.settled) same ∙ there)) ∙ e)) [
+      | inl still ↦ inl (mark_at (λ z. z.cow) (get (with_page p n y).settled page) (Some y) (inserted_here n y p.settled page same) ∙ still)
       | inr here ↦ inr (ap may same ∙ here)
     ]
-    | inr apart ↦ inl (mark_at (λ z. z.fork_mark) (get (with_page p n y).settled page) (get p.settled page) (inserted_other n y p.settled page apart) ∙ e)
+    | inr apart ↦ inl (mark_at (λ z. z.cow) (get (with_page p n y).settled page) (get p.settled page) (inserted_other n y p.settled page apart) ∙ e)
   ];
   forked = λ page e. elim (cases_eq page n) [
-    | inl same ↦ mark_at (λ z. z.fork_mark) (get p.settled page) (Some x) (ap (get p.settled) same ∙ there) ∙ fork (sym (mark_at (λ z. z.fork_mark) (get (with_page p n y).settled page) (Some y) (inserted_here n y p.settled page same)) ∙ e)
-    | inr apart ↦ sym (mark_at (λ z. z.fork_mark) (get (with_page p n y).settled page) (get p.settled page) (inserted_other n y p.settled page apart)) ∙ e
+    | inl same ↦ mark_at (λ z. z.cow) (get p.settled page) (Some x) (ap (get p.settled) same ∙ there) ∙ fork (sym (mark_at (λ z. z.cow) (get (with_page p n y).settled page) (Some y) (inserted_here n y p.settled page same)) ∙ e)
+    | inr apart ↦ sym (mark_at (λ z. z.cow) (get (with_page p n y).settled page) (get p.settled page) (inserted_other n y p.settled page apart)) ∙ e
   ];
   stored = λ page e. elim (cases_eq page n) [
-    | inl same ↦ mark_at (λ z. z.stored_mark) (get (with_page p n y).settled page) (Some y) (inserted_here n y p.settled page same) ∙ store (sym (mark_at (λ z. z.stored_mark) (get p.settled page) (Some x) (ap (get p.settled) same ∙ there)) ∙ e)
-    | inr apart ↦ mark_at (λ z. z.stored_mark) (get (with_page p n y).settled page) (get p.settled page) (inserted_other n y p.settled page apart) ∙ e
+    | inl same ↦ mark_at (λ z. z.dirty) (get (with_page p n y).settled page) (Some y) (inserted_here n y p.settled page same) ∙ store (sym (mark_at (λ z. z.dirty) (get p.settled page) (Some x) (ap (get p.settled) same ∙ there)) ∙ e)
+    | inr apart ↦ mark_at (λ z. z.dirty) (get (with_page p n y).settled page) (get p.settled page) (inserted_other n y p.settled page apart) ∙ e
   ];
   anew = λ page e. elim (cases_eq page n) [
-    | inl same ↦ elim (goes (sym (mark_at (λ z. z.stored_mark) (get (with_page p n y).settled page) (Some y) (inserted_here n y p.settled page same)) ∙ e)) [
-      | inl was ↦ inl (mark_at (λ z. z.stored_mark) (get p.settled page) (Some x) (ap (get p.settled) same ∙ there) ∙ was)
+    | inl same ↦ elim (goes (sym (mark_at (λ z. z.dirty) (get (with_page p n y).settled page) (Some y) (inserted_here n y p.settled page same)) ∙ e)) [
+      | inl was ↦ inl (mark_at (λ z. z.dirty) (get p.settled page) (Some x) (ap (get p.settled) same ∙ there) ∙ was)
       | inr here ↦ inr (ap may same ∙ here)
     ]
-    | inr apart ↦ inl (sym (mark_at (λ z. z.stored_mark) (get (with_page p n y).settled page) (get p.settled page) (inserted_other n y p.settled page apart)) ∙ e)
+    | inr apart ↦ inl (sym (mark_at (λ z. z.dirty) (get (with_page p n y).settled page) (get p.settled page) (inserted_other n y p.settled page apart)) ∙ e)
   ];
 }
 
@@ -92,27 +92,27 @@ leaves_store access.Store r e = refl
 
 anew_further : (may : ℕ → Bool) (files : List File) (fresh : ℕ) (p : Process) (kind : Access) (page : ℕ) → get p.settled page ≡ None → (is_store kind ≡ true → may page ≡ true) → Further may p (settled_anew files fresh p kind page)
 anew_further may files fresh p kind page none goes =
-    let new : Page = record { bytes = initial_page files p page; copy = fresh; fork_mark = false; stored_mark = leaves_mark kind (region_on p page) } in
+    let new : Page = record { bytes = initial_page files p page; copy = fresh; cow = false; dirty = leaves_mark kind (region_on p page) } in
     record {
       same = refl;
       maps = refl;
       size = refl;
       base = refl;
       kept = λ at e. elim (cases_eq at page) [
-        | inl same ↦ absurd (let no : true ≡ false = sym e ∙ mark_at (λ z. z.fork_mark) (get p.settled at) None (ap (get p.settled) same ∙ none) in cc)
-        | inr apart ↦ inl (mark_at (λ z. z.fork_mark) (get (settled_anew files fresh p kind page).settled at) (get p.settled at) (inserted_other page new p.settled at apart) ∙ e)
+        | inl same ↦ absurd (let no : true ≡ false = sym e ∙ mark_at (λ z. z.cow) (get p.settled at) None (ap (get p.settled) same ∙ none) in cc)
+        | inr apart ↦ inl (mark_at (λ z. z.cow) (get (settled_anew files fresh p kind page).settled at) (get p.settled at) (inserted_other page new p.settled at apart) ∙ e)
       ];
       forked = λ at e. elim (cases_eq at page) [
-        | inl same ↦ absurd (let no : true ≡ false = sym e ∙ mark_at (λ z. z.fork_mark) (get (settled_anew files fresh p kind page).settled at) (Some new) (inserted_here page new p.settled at same) in cc)
-        | inr apart ↦ sym (mark_at (λ z. z.fork_mark) (get (settled_anew files fresh p kind page).settled at) (get p.settled at) (inserted_other page new p.settled at apart)) ∙ e
+        | inl same ↦ absurd (let no : true ≡ false = sym e ∙ mark_at (λ z. z.cow) (get (settled_anew files fresh p kind page).settled at) (Some new) (inserted_here page new p.settled at same) in cc)
+        | inr apart ↦ sym (mark_at (λ z. z.cow) (get (settled_anew files fresh p kind page).settled at) (get p.settled at) (inserted_other page new p.settled at apart)) ∙ e
       ];
       stored = λ at e. elim (cases_eq at page) [
-        | inl same ↦ absurd (let no : true ≡ false = sym e ∙ mark_at (λ z. z.stored_mark) (get p.settled at) None (ap (get p.settled) same ∙ none) in cc)
-        | inr apart ↦ mark_at (λ z. z.stored_mark) (get (settled_anew files fresh p kind page).settled at) (get p.settled at) (inserted_other page new p.settled at apart) ∙ e
+        | inl same ↦ absurd (let no : true ≡ false = sym e ∙ mark_at (λ z. z.dirty) (get p.settled at) None (ap (get p.settled) same ∙ none) in cc)
+        | inr apart ↦ mark_at (λ z. z.dirty) (get (settled_anew files fresh p kind page).settled at) (get p.settled at) (inserted_other page new p.settled at apart) ∙ e
       ];
       anew = λ at e. elim (cases_eq at page) [
-        | inl same ↦ inr (ap may same ∙ goes (leaves_store kind (region_on p page) (sym (mark_at (λ z. z.stored_mark) (get (settled_anew files fresh p kind page).settled at) (Some new) (inserted_here page new p.settled at same)) ∙ e)))
-        | inr apart ↦ inl (sym (mark_at (λ z. z.stored_mark) (get (settled_anew files fresh p kind page).settled at) (get p.settled at) (inserted_other page new p.settled at apart)) ∙ e)
+        | inl same ↦ inr (ap may same ∙ goes (leaves_store kind (region_on p page) (sym (mark_at (λ z. z.dirty) (get (settled_anew files fresh p kind page).settled at) (Some new) (inserted_here page new p.settled at same)) ∙ e)))
+        | inr apart ↦ inl (sym (mark_at (λ z. z.dirty) (get (settled_anew files fresh p kind page).settled at) (get p.settled at) (inserted_other page new p.settled at apart)) ∙ e)
       ];
     }
 
@@ -122,7 +122,7 @@ or_more false b e = absurd cc
 
 over_further : (may : ℕ → Bool) (fresh : ℕ) (shared : Bool) (p : Process) (page : ℕ) (x : Page) (b : Bool) → get p.settled page ≡ Some x → (b ≡ false → may page ≡ true) → Further may p (taken_over_unless fresh shared p page x b)
 over_further may fresh shared p page x true there goes = still may p
-over_further may fresh shared p page x false there goes = put_further may p page x (taken_over fresh shared (region_on p page) x) there (λ e. absurd cc) (or_more x.stored_mark _) (λ e. inr (goes refl)) (λ e. inr (goes refl))
+over_further may fresh shared p page x false there goes = put_further may p page x (taken_over fresh shared (region_on p page) x) there (λ e. absurd cc) (or_more x.dirty _) (λ e. inr (goes refl)) (λ e. inr (goes refl))
 
 -- only a store is held back
 held_store : (kind : Access) (r : Option Region) (x : Page) → can_complete kind r x ≡ false → is_store kind ≡ true

@@ -323,17 +323,17 @@ image_given z fresh ls page =
 pub mark_at : (mark : Page → Bool) (o u : Option Page) → o ≡ u → has_mark mark o ≡ has_mark mark u
 mark_at mark o u e = ap (has_mark mark) e
 
-listed_unmarked : (fresh : ℕ) (es : List (ℕ × List ℕ)) (page : ℕ) → (has_mark (λ z. z.fork_mark) (get (from_list (numbered fresh es)) page) ≡ false) × (has_mark (λ z. z.stored_mark) (get (from_list (numbered fresh es)) page) ≡ false)
+listed_unmarked : (fresh : ℕ) (es : List (ℕ × List ℕ)) (page : ℕ) → (has_mark (λ z. z.cow) (get (from_list (numbered fresh es)) page) ≡ false) × (has_mark (λ z. z.dirty) (get (from_list (numbered fresh es)) page) ≡ false)
 listed_unmarked fresh [] page = (refl, refl)
 listed_unmarked fresh (e ∷ es) page =
     let rest = from_list (numbered (fresh + 1) es) in
-    let new : Page = record { bytes = e.1; copy = fresh; fork_mark = false; stored_mark = false } in
+    let new : Page = record { bytes = e.1; copy = fresh; cow = false; dirty = false } in
     let later = listed_unmarked (fresh + 1) es page in
     elim (cases_eq page e.0) [
-      | inl same ↦ let is = inserted_here e.0 new rest page same in (mark_at (λ z. z.fork_mark) (get (insert rest e.0 new) page) (Some new) is, mark_at (λ z. z.stored_mark) (get (insert rest e.0 new) page) (Some new) is)
+      | inl same ↦ let is = inserted_here e.0 new rest page same in (mark_at (λ z. z.cow) (get (insert rest e.0 new) page) (Some new) is, mark_at (λ z. z.dirty) (get (insert rest e.0 new) page) (Some new) is)
       | inr apart ↦ let is = inserted_other e.0 new rest page apart in (
-        mark_at (λ z. z.fork_mark) (get (insert rest e.0 new) page) (get rest page) is ∙ later.0,
-        mark_at (λ z. z.stored_mark) (get (insert rest e.0 new) page) (get rest page) is ∙ later.1,
+        mark_at (λ z. z.cow) (get (insert rest e.0 new) page) (get rest page) is ∙ later.0,
+        mark_at (λ z. z.dirty) (get (insert rest e.0 new) page) (get rest page) is ∙ later.1,
       )
     ]
 

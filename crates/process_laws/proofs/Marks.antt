@@ -1,6 +1,6 @@
--- Lemmas about the stored mark (D: made ready for a store): making a page resident for a fetch or a load sets none; pages
--- without it are not written back; and after a service the page is resident (in memory and ready), for a store without fork
--- mark and, in a writable shared mapping, with the stored mark.
+-- Lemmas about the dirty mark (D: made ready for a store): making a page resident for a fetch or a load sets none; pages
+-- without it are not written back; and after a service the page is resident (in memory and ready), for a store without
+-- copy-on-write mark and, in a writable shared mapping, with the dirty mark.
 use Rattle.std.proofs.Common.{◌≡◌, ◌≢◌, ℕ, Bool, true, false, not, ◌&&◌, ◌||◌, ◌-◌, ◌*◌, ◌<◌, ◌≤◌, inl, inr, refl, ap, sym, ◌∙◌, arith, List, [], ◌∷◌, Option, None, Some, cond}
 use Rattle.std.specs.Prelude.{T, Ok, fold, nat_le, nat_lt}
 use Rattle.std.specs.Ordering.{nat_cmp}
@@ -35,23 +35,23 @@ loads_go_through Load r s other = refl
 loads_go_through Store r s other = absurd (other refl)
 
 abbrev WasMarked : Process → ℕ → Type 0
-WasMarked p at = (o : Page) × (get p.settled at ≡ Some o) × (o.stored_mark ≡ true)
+WasMarked p at = (o : Page) × (get p.settled at ≡ Some o) × (o.dirty ≡ true)
 
 module _ (files : List File) (fresh page at : ℕ) (shared : Bool) (p : Process) (access : Access) (s : Page) (other : access ≢ Store) where
   abbrev new_page : Page
-  new_page = record { bytes = initial_page files p page; copy = fresh; fork_mark = false; stored_mark = leaves_mark access (region_on p page) }
+  new_page = record { bytes = initial_page files p page; copy = fresh; cow = false; dirty = leaves_mark access (region_on p page) }
 
-  marked_from : (o : Option Page) → get p.settled page ≡ o → get (made_resident_from files fresh shared p access page o).settled at ≡ Some s → s.stored_mark ≡ true → WasMarked p at
+  marked_from : (o : Option Page) → get p.settled page ≡ o → get (made_resident_from files fresh shared p access page o).settled at ≡ Some s → s.dirty ≡ true → WasMarked p at
   marked_from None e there mark = elim (cases_eq at page) [
     | inl same ↦ absurd (
         let is : new_page ≡ s = same_Some new_page s (sym (inserted_here page new_page p.settled at same) ∙ there) in
-        let clear : s.stored_mark ≡ false = ap (λ (x : Page). x.stored_mark) (sym is) ∙ no_mark access (region_on p page) other in
+        let clear : s.dirty ≡ false = ap (λ (x : Page). x.dirty) (sym is) ∙ no_mark access (region_on p page) other in
         let both = sym mark ∙ clear in cc)
     | inr apart ↦ (s, sym (inserted_other page new_page p.settled at apart) ∙ there, mark)
   ]
   marked_from (Some x) e there mark = (s, rw (loads_go_through access (region_on p page) x other) at there, mark)
 
-  pub mark_was_there : get (made_resident files fresh shared p access page).settled at ≡ Some s → s.stored_mark ≡ true → WasMarked p at
+  pub mark_was_there : get (made_resident files fresh shared p access page).settled at ≡ Some s → s.dirty ≡ true → WasMarked p at
   mark_was_there there mark = marked_from (get p.settled page) refl there mark
 
 -- pages without the mark are not written back
@@ -62,9 +62,9 @@ never false = refl
 
 module _ (m : Region) (from end : ℕ) where
   abbrev AreClear : List (ℕ × Page) → Type 0
-  AreClear es = (page : ℕ) (s : Page) → find nat_cmp page es ≡ Some s → from ≤ page → page < end → s.stored_mark ≡ false
+  AreClear es = (page : ℕ) (s : Page) → find nat_cmp page es ≡ Some s → from ≤ page → page < end → s.dirty ≡ false
 
-  one_stays : (files : List File) (e : ℕ × Page) → (from ≤ e.0 → e.0 < end → (e.1).stored_mark ≡ false) → with_written m from end files e ≡ files
+  one_stays : (files : List File) (e : ℕ × Page) → (from ≤ e.0 → e.0 < end → (e.1).dirty ≡ false) → with_written m from end files e ≡ files
   one_stays files e clear =
       elim (nat_le from e.0 && nat_lt e.0 end) as (λ b. (nat_le from e.0 && nat_lt e.0 end) ≡ b
       → cond (b && is_written_back m e.1) (page_written m.source files (4096 * (e.0 - m.first)) (e.1).bytes) files ≡ files) [
@@ -83,7 +83,7 @@ module _ (m : Region) (from end : ℕ) where
       let above = found_above e.0 page s es (first _ _ rising) there in
       clear page s (rw (unsigned_tied page e.0, ne_eqb page e.0 (λ same. omega (arith, above, same))) there))
 
-pub clear_pages_stay : (files : List File) (p : Process) (m : Region) (from end : ℕ) → ((page : ℕ) (s : Page) → get p.settled page ≡ Some s → from ≤ page → page < end → s.stored_mark ≡ false)
+pub clear_pages_stay : (files : List File) (p : Process) (m : Region) (from end : ℕ) → ((page : ℕ) (s : Page) → get p.settled page ≡ Some s → from ≤ page → page < end → s.dirty ≡ false)
     → written_back files p m from end ≡ files
 clear_pages_stay files p m from end clear = all_stay m from end p.settled.entries files p.settled.sorted clear
 
@@ -110,5 +110,5 @@ stores_through false false true e = absurd (cc)
 stores_through false false false e = (refl, λ k. absurd (cc))
 
 -- a page that a store goes through to
-pub store_marks : (p : Process) (page : ℕ) (s : Page) → is_resident p Store page ≡ true → get p.settled page ≡ Some s → (s.fork_mark ≡ false) × (keeps_stores (region_on p page) ≡ true → s.stored_mark ≡ true)
-store_marks p page s stands there = stores_through s.fork_mark s.stored_mark (keeps_stores (region_on p page)) (sym (ap (is_resident_page Store (region_on p page)) there) ∙ stands)
+pub store_marks : (p : Process) (page : ℕ) (s : Page) → is_resident p Store page ≡ true → get p.settled page ≡ Some s → (s.cow ≡ false) × (keeps_stores (region_on p page) ≡ true → s.dirty ≡ true)
+store_marks p page s stands there = stores_through s.cow s.dirty (keeps_stores (region_on p page)) (sym (ap (is_resident_page Store (region_on p page)) there) ∙ stands)

@@ -1,5 +1,5 @@
--- Lemmas: a start, an exec, a fork and a service need exactly the frames that `FrameNeeds` counts, and take them if they do not say
--- NoFrame; after an exec that is done the frames of the old pages and tables are free. Only starts, execs, forks, services
+-- Lemmas: a start, an exec, a fork and a service need exactly the frames that `FrameNeeds` counts, and take them if they do not
+-- say NoFrame; after an exec that is done the frames of the old pages and tables are free. Only starts, execs, forks, services
 -- and copies say NoFrame, and a start, an exec and a fork only if nothing else refuses them (`says_only`).
 use Rattle.std.proofs.Common.{◌≡◌, ◌≢◌, ℕ, zero, suc, Bool, true, false, cond, not, ◌&&◌, ◌+◌, ◌<◌, ◌≤◌, inl, inr, refl, sym, ap, subst, ◌∙◌, arith, Option, None, Some, List, [], ◌∷◌, ◌++◌, length, length-set}
 use Rattle.std.specs.Prelude.{nat_lt, Result, Ok, Err, option_map, slice_get, slice_set, sum_by}
@@ -77,7 +77,7 @@ page_need w s p kind page = by (get p.settled page) refl
 
     by : (o : Option Page) → get p.settled page ≡ o → cond (is_resident p kind page) 0 (need_at (environment_of w s) kind page p) ≡ frames_for_page w s p kind page
     by None e = rw e refl
-    by (Some x) e = rw e (rw (can_is kind (region_on p page) x) (elim (can_complete kind (region_on p page) x) as (λ b. cond b 0 (unless_through (parts_from (others_have w s x.copy) x) b) ≡ cond b 0 (cond (x.fork_mark && others_have w s x.copy) 1 0)) [ true ↦ refl | false ↦ refl ]))
+    by (Some x) e = rw e (rw (can_is kind (region_on p page) x) (elim (can_complete kind (region_on p page) x) as (λ b. cond b 0 (unless_through (parts_from (others_have w s x.copy) x) b) ≡ cond b 0 (cond (x.cow && others_have w s x.copy) 1 0)) [ true ↦ refl | false ↦ refl ]))
 
 -- ---- steps
 

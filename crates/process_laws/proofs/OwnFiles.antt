@@ -1,5 +1,5 @@
 -- Lemma: what a process's own step changes in files is write-back by munmap, exec or its end: each byte that changes becomes
--- one that the process had at that place on a page with the stored mark (D) of a writable shared mapping (`Written`).
+-- one that the process had at that place on a page with the dirty mark (D) of a writable shared mapping (`Written`).
 use Rattle.std.proofs.Common.{◌≡◌, ℕ, Bool, true, false, ◌+◌, refl, sym, ap, subst, ◌∙◌, List, Option, None, Some, ◌<◌, ◌≤◌, arith}
 use Rattle.std.specs.Prelude.{nat_le, nat_lt, Result, Ok, Err}
 use Rattle.std.proofs.lemmas.Bool.{and_parts, leb-true, ltb-true}

@@ -145,7 +145,7 @@ module _ (w : World) (h s : ℕ) (p : Process) (on : IsOnHart w h s p) (lone : L
   store_may address width value page none there can =
       let g = granted_by p (record { access = access.Store; address = address; width = width }) none in
       let grants : grants_write p (page_of address) ≡ true = ap (λ o. not (lacks_right access.Store o)) g.has ∙ ap (λ b. not (not b)) g.right in
-      let bare = unmarked page.fork_mark (page.stored_mark || not (keeps_stores (region_on p (page_of address)))) can in
+      let bare = unmarked page.cow (page.dirty || not (keeps_stores (region_on p (page_of address)))) can in
       waiting (with_page p (page_of address) (access_answer access.Store page (address % 4096) width value).1) None
       (put_on w.counter (others_have w s) p p (page_of address) page _ lone (still w.counter (others_have w s) p) there refl bare bare grants).reworks
     where
@@ -312,15 +312,15 @@ module _ (w : World) (h s : ℕ) (p : Process) (on : IsOnHart w h s p) (lone : L
       where
         copies_by : (page copy : ℕ) (y : Page) → get q.settled page ≡ Some y → y.copy ≡ copy → Came w.counter (others_have w s) (get p.settled page) y → (copy_on p page ≡ Some copy) ⊎ (IsNewCopy w copy × IsTaken p q page)
         copies_by page copy y there same (Came.fresh le (inl none)) = inr (is_new copy (omega (arith, same, le)), inl (ap is_some none))
-        copies_by page copy y there same (Came.fresh le (inr t)) = inr (is_new copy (omega (arith, same, le)), inr (ap (has_mark (λ x. x.fork_mark)) t.1 ∙ t.2, ap (has_mark (λ x. x.fork_mark)) there ∙ t.3))
+        copies_by page copy y there same (Came.fresh le (inr t)) = inr (is_new copy (omega (arith, same, le)), inr (ap (has_mark (λ x. x.cow)) t.1 ∙ t.2, ap (has_mark (λ x. x.cow)) there ∙ t.3))
         copies_by page copy y there same (Came.kept x is alike mark bytes) = inl (ap (option_map (λ (z : Page). z.copy)) is ∙ ap Some (sym alike ∙ same))
 
         alone_by : (page copy : ℕ) (y : Page) → get q.settled page ≡ Some y → y.copy ≡ copy → has_fork_mark p page ≡ true → has_fork_mark q page ≡ false → copy_on p page ≡ Some copy → Came w.counter (others_have w s) (get p.settled page) y
             → others_have w s copy ≡ false
         alone_by page copy y there same marked unmarked was (Came.fresh le parted) = absurd (is_new copy (omega (arith, same, le)) s page p on.lives was)
         alone_by page copy y there same marked unmarked was (Came.kept x is alike mark bytes) =
-            elim (mark (sym (ap (has_mark (λ z. z.fork_mark)) is) ∙ marked)) [
-              | inl now ↦ absurd (false≢true (sym unmarked ∙ ap (has_mark (λ z. z.fork_mark)) there ∙ now))
+            elim (mark (sym (ap (has_mark (λ z. z.cow)) is) ∙ marked)) [
+              | inl now ↦ absurd (false≢true (sym unmarked ∙ ap (has_mark (λ z. z.cow)) there ∙ now))
               | inr alone ↦ ap (others_have w s) (sym (sym alike ∙ same)) ∙ alone
             ]
 

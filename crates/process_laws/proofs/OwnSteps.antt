@@ -199,26 +199,26 @@ released_mark mark p first end page e = by (is_between first end page) refl
     by true inside = absurd (let no : true ≡ false = sym e ∙ mark_at mark (get (without_pages p first end).settled page) None (inside_released p first end page inside) in cc)
     by false out = sym (mark_at mark (get (without_pages p first end).settled page) (get p.settled page) (outside_settled p first end page out)) ∙ e
 
-mark_cond : (b : Bool) (x y : Page) (o u : Option Page) → x.stored_mark ≡ y.stored_mark → has_mark (λ z. z.stored_mark) o ≡ has_mark (λ z. z.stored_mark) u
-    → has_mark (λ z. z.stored_mark) (cond b (Some x) o) ≡ has_mark (λ z. z.stored_mark) (cond b (Some y) u)
+mark_cond : (b : Bool) (x y : Page) (o u : Option Page) → x.dirty ≡ y.dirty → has_mark (λ z. z.dirty) o ≡ has_mark (λ z. z.dirty) u
+    → has_mark (λ z. z.dirty) (cond b (Some x) o) ≡ has_mark (λ z. z.dirty) (cond b (Some y) u)
 mark_cond true x y o u e f = e
 mark_cond false x y o u e f = f
 
-marked_stores : (f : ℕ → Page → Page) → ((n : ℕ) (x : Page) → (f n x).stored_mark ≡ x.stored_mark) → (es : List (ℕ × Page)) (page : ℕ)
-    → has_mark (λ z. z.stored_mark) (find nat_cmp page (each_value f es)) ≡ has_mark (λ z. z.stored_mark) (find nat_cmp page es)
+marked_stores : (f : ℕ → Page → Page) → ((n : ℕ) (x : Page) → (f n x).dirty ≡ x.dirty) → (es : List (ℕ × Page)) (page : ℕ)
+    → has_mark (λ z. z.dirty) (find nat_cmp page (each_value f es)) ≡ has_mark (λ z. z.dirty) (find nat_cmp page es)
 marked_stores f same [] page = refl
 marked_stores f same (e ∷ es) page = mark_cond (eq_by_cmp nat_cmp page e.0) (f e.0 e.1) e.1 (find nat_cmp page (each_value f es)) (find nat_cmp page es) (same e.0 e.1) (marked_stores f same es page)
 
 fork_stored : (p : Process) (page : ℕ) → has_stored_mark (marked p) page ≡ has_stored_mark p page
 fork_stored p page = marked_stores (marked_page p) (λ n x. refl) p.settled.entries page
 
-kept_cond : (b : Bool) (x y : Page) (o u : Option Page) → (y.fork_mark ≡ true → x.fork_mark ≡ true) → (has_mark (λ z. z.fork_mark) u ≡ true → has_mark (λ z. z.fork_mark) o ≡ true)
-    → has_mark (λ z. z.fork_mark) (cond b (Some y) u) ≡ true → has_mark (λ z. z.fork_mark) (cond b (Some x) o) ≡ true
+kept_cond : (b : Bool) (x y : Page) (o u : Option Page) → (y.cow ≡ true → x.cow ≡ true) → (has_mark (λ z. z.cow) u ≡ true → has_mark (λ z. z.cow) o ≡ true)
+    → has_mark (λ z. z.cow) (cond b (Some y) u) ≡ true → has_mark (λ z. z.cow) (cond b (Some x) o) ≡ true
 kept_cond true x y o u e f is = e is
 kept_cond false x y o u e f is = f is
 
-marks_kept : (f : ℕ → Page → Page) → ((n : ℕ) (x : Page) → x.fork_mark ≡ true → (f n x).fork_mark ≡ true) → (es : List (ℕ × Page)) (page : ℕ)
-    → has_mark (λ z. z.fork_mark) (find nat_cmp page es) ≡ true → has_mark (λ z. z.fork_mark) (find nat_cmp page (each_value f es)) ≡ true
+marks_kept : (f : ℕ → Page → Page) → ((n : ℕ) (x : Page) → x.cow ≡ true → (f n x).cow ≡ true) → (es : List (ℕ × Page)) (page : ℕ)
+    → has_mark (λ z. z.cow) (find nat_cmp page es) ≡ true → has_mark (λ z. z.cow) (find nat_cmp page (each_value f es)) ≡ true
 marks_kept f keeps [] page is = is
 marks_kept f keeps (e ∷ es) page is = kept_cond (eq_by_cmp nat_cmp page e.0) (f e.0 e.1) e.1 (find nat_cmp page (each_value f es)) (find nat_cmp page es) (keeps e.0 e.1) (marks_kept f keeps es page) is
 
@@ -236,16 +236,16 @@ module _ (w : World) (h s : ℕ) (p : Process) (on : IsOnHart w h s p) where
         waits = λ made. refl;
         stays = λ page out.
             let k = resized_same p size page out in
-            (k.grants, λ e. mark_at (λ z. z.stored_mark) (get (without_pages p (pages_for size) (pages_for p.size)).settled page) (get p.settled page) k.settled ∙ e);
+            (k.grants, λ e. mark_at (λ z. z.dirty) (get (without_pages p (pages_for size) (pages_for p.size)).settled page) (get p.settled page) k.settled ∙ e);
         joined = λ page. resized_joined page p sound.ordered (wanted_size p delta) none;
         remapped = λ page inside. resized_given p sound.ordered page (wanted_size p delta) none inside;
         vacant = λ page inside other. resized_vacant p sound.ordered page (wanted_size p delta) none inside;
         below = λ page inside. resized_base p sound.ordered page (wanted_size p delta) none inside;
-        unforked = λ page out e. inl (mark_at (λ z. z.fork_mark) (get (without_pages p (pages_for size) (pages_for p.size)).settled page) (get p.settled page) (resized_same p size page out).settled ∙ e);
+        unforked = λ page out e. inl (mark_at (λ z. z.cow) (get (without_pages p (pages_for size) (pages_for p.size)).settled page) (get p.settled page) (resized_same p size page out).settled ∙ e);
         base = λ other. refl;
         new_base = λ image e is. absurd cc;
-        forked = λ other page. released_mark (λ z. z.fork_mark) p (pages_for size) (pages_for p.size) page;
-        stored = λ page e. inl (released_mark (λ z. z.stored_mark) p (pages_for size) (pages_for p.size) page e);
+        forked = λ other page. released_mark (λ z. z.cow) p (pages_for size) (pages_for p.size) page;
+        stored = λ page e. inl (released_mark (λ z. z.dirty) p (pages_for size) (pages_for p.size) page e);
         cleared = λ image e is. absurd cc;
         size = resized_size p sound.ordered 0 (wanted_size p delta) none;
       })
@@ -299,16 +299,16 @@ module _ (w : World) (h s : ℕ) (p : Process) (on : IsOnHart w h s p) where
       waits = λ made. refl;
       stays = λ page out.
           let k = unmapped_same p m (pages_for p.size) (trapframe_page p.scheme) first end page (omega arith) out (sound.ordered).above environment_of in
-          (k.grants, λ e. mark_at (λ z. z.stored_mark) (get (without_pages p first end).settled page) (get p.settled page) k.settled ∙ e);
+          (k.grants, λ e. mark_at (λ z. z.dirty) (get (without_pages p first end).settled page) (get p.settled page) k.settled ∙ e);
       joined = λ page. instead_joined page first end (omega arith) (pages_for p.size) (trapframe_page p.scheme) p.mappings m (sound.ordered).above environment_of whole;
       remapped = λ page inside. unmapped_given p sound.ordered page first end inside m environment_of;
       vacant = λ page inside other. inr (unmapped_given p sound.ordered page first end inside m environment_of);
       below = λ page inside. unmapped_above p sound.ordered page first end inside m environment_of;
-      unforked = λ page out e. inl (mark_at (λ z. z.fork_mark) (get (without_pages p first end).settled page) (get p.settled page) (unmapped_same p m (pages_for p.size) (trapframe_page p.scheme) first end page (omega arith) out (sound.ordered).above environment_of).settled ∙ e);
+      unforked = λ page out e. inl (mark_at (λ z. z.cow) (get (without_pages p first end).settled page) (get p.settled page) (unmapped_same p m (pages_for p.size) (trapframe_page p.scheme) first end page (omega arith) out (sound.ordered).above environment_of).settled ∙ e);
       base = λ other. refl;
       new_base = λ image e is. absurd cc;
-      forked = λ other page. released_mark (λ z. z.fork_mark) p first end page;
-      stored = λ page e. inl (released_mark (λ z. z.stored_mark) p first end page e);
+      forked = λ other page. released_mark (λ z. z.cow) p first end page;
+      stored = λ page e. inl (released_mark (λ z. z.dirty) p first end page e);
       cleared = λ image e is. absurd cc;
       size = refl;
     })

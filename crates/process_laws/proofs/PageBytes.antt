@@ -227,8 +227,8 @@ stays_settled files p page x e s = record { same_regions = refl; sized = s; told
 settles_anew : (files : List File) (fresh : ℕ) (p : Process) (access : Access) (page : ℕ) → get p.settled page ≡ None → AllSized p.settled → SettlesPage files page p (settled_anew files fresh p access page)
 settles_anew files fresh p access page e s = record {
   same_regions = refl;
-  sized = put_sized p.settled page (record { bytes = initial_page files p page; copy = fresh; fork_mark = false; stored_mark = leaves_mark access (region_on p page) }) (initial_size files p page) s;
-  told = λ a. ap (λ o. byte_from o (a % 4096)) (contents-insert p.settled page (record { bytes = initial_page files p page; copy = fresh; fork_mark = false; stored_mark = leaves_mark access (region_on p page) }) (page_of a))
+  sized = put_sized p.settled page (record { bytes = initial_page files p page; copy = fresh; cow = false; dirty = leaves_mark access (region_on p page) }) (initial_size files p page) s;
+  told = λ a. ap (λ o. byte_from o (a % 4096)) (contents-insert p.settled page (record { bytes = initial_page files p page; copy = fresh; cow = false; dirty = leaves_mark access (region_on p page) }) (page_of a))
       ∙ cond_is (page == page_of a) (or_start files p a (byte_in p.settled a)) (byte_in p.settled a) (byte_from (cond (page == page_of a) (Some (initial_page files p page)) (contents p.settled (page_of a))) (a % 4096))
       (λ t. let is : page_of a ≡ page = sym (eqb-true page (page_of a) t) in
       ap (λ b. byte_from (cond b (Some (initial_page files p page)) (contents p.settled (page_of a))) (a % 4096)) t
@@ -304,7 +304,7 @@ empty_sized = record { size = λ n bs e. cc }
 
 listed_sized : (fresh : ℕ) (es : List (ℕ × List ℕ)) → AllLong es → AllSized (from_list (numbered fresh es))
 listed_sized fresh [] h = empty_sized
-listed_sized fresh (e ∷ es) h = put_sized (from_list (numbered (fresh + 1) es)) e.0 (record { bytes = e.1; copy = fresh; fork_mark = false; stored_mark = false }) h.0 (listed_sized (fresh + 1) es h.1)
+listed_sized fresh (e ∷ es) h = put_sized (from_list (numbered (fresh + 1) es)) e.0 (record { bytes = e.1; copy = fresh; cow = false; dirty = false }) h.0 (listed_sized (fresh + 1) es h.1)
 
 byte_cond : (b : Bool) (bs : List ℕ) (o : Option (List ℕ)) (i : ℕ) → byte_from (cond b (Some bs) o) i ≡ cond b (Some (byte_at bs i)) (byte_from o i)
 byte_cond true bs o i = refl
@@ -313,7 +313,7 @@ byte_cond false bs o i = refl
 byte_in-listed : (fresh : ℕ) (es : List (ℕ × List ℕ)) (a : ℕ) → byte_in (from_list (numbered fresh es)) a ≡ byte_in_pages es a
 byte_in-listed fresh [] a = refl
 byte_in-listed fresh (e ∷ es) a =
-    ap (λ o. byte_from o (a % 4096)) (contents-insert (from_list (numbered (fresh + 1) es)) e.0 (record { bytes = e.1; copy = fresh; fork_mark = false; stored_mark = false }) (page_of a))
+    ap (λ o. byte_from o (a % 4096)) (contents-insert (from_list (numbered (fresh + 1) es)) e.0 (record { bytes = e.1; copy = fresh; cow = false; dirty = false }) (page_of a))
     ∙ byte_cond (e.0 == page_of a) e.1 (contents (from_list (numbered (fresh + 1) es)) (page_of a)) (a % 4096)
     ∙ ap (cond (e.0 == page_of a) (Some (byte_at e.1 (a % 4096)))) (byte_in-listed (fresh + 1) es a)
 

@@ -1,7 +1,8 @@
 -- Lemmas: what the work of a step inside one process does to its frames. It adds a page table only with a settled page and
--- removes none; each settled page keeps its copy number, which names one copy of a page in memory, or gets a new one (`Reworks`).
--- This holds for a page that is settled or taken over, for a kernel copy, for released pages, and for a fork's parent. Then of
--- processes that begin: all pages of a process of an image are new (`IsAnew`), and a child has its parent's (`child_shares`).
+-- removes none; each settled page keeps its copy number, which names one copy of a page in memory, or gets a new one
+-- (`Reworks`). This holds for a page that is settled or taken over, for a kernel copy, for released pages, and for a fork's
+-- parent. Then of processes that begin: all pages of a process of an image are new (`IsAnew`), and a child has its parent's
+-- (`child_shares`).
 use Rattle.std.proofs.Common.{◌≡◌, ◌⊎◌, ℕ, Bool, true, false, cond, not, ◌&&◌, ◌||◌, ◌+◌, ◌%◌, ◌≤◌, inl, inr, refl, sym, ap, subst, ◌∙◌, arith, List, [], ◌∷◌, Option, None, Some, length, map}
 use Rattle.std.specs.Prelude.{fold, is_some, option_map, Result, Ok, Err, zip}
 use Rattle.std.specs.Ordering.{eq_by_cmp, nat_cmp}
@@ -37,21 +38,21 @@ use Rattle.sv39_entry.specs.declared.scheme.Scheme.{Scheme}
 
 -- ---- one page
 
--- page y, which was o before, was settled, or lost its fork mark
+-- page y, which was o before, was settled, or lost its copy-on-write mark
 abbrev IsParted : Option Page → Page → Type 0
-IsParted o y = (o ≡ None) ⊎ ((x : Page) × (o ≡ Some x) × (x.fork_mark ≡ true) × (y.fork_mark ≡ false))
+IsParted o y = (o ≡ None) ⊎ ((x : Page) × (o ≡ Some x) × (x.cow ≡ true) × (y.cow ≡ false))
 
--- where page y of a process came from, which was o before: its copy number is n or above, and it was settled or lost its fork
--- mark; or it is that of o, and if the fork mark went, or bytes changed, nobody shares it
+-- where page y of a process came from, which was o before: its copy number is n or above, and it was settled or lost its
+-- copy-on-write mark; or it is that of o, and if the copy-on-write mark went, or bytes changed, nobody shares it
 pub data Came (n : ℕ) (shared : ℕ → Bool) (o : Option Page) (y : Page) : Type 0 where
   fresh : n ≤ y.copy → IsParted o y → Came n shared o y
-  kept : (x : Page) → o ≡ Some x → y.copy ≡ x.copy → (x.fork_mark ≡ true → (y.fork_mark ≡ true) ⊎ (shared x.copy ≡ false)) → (y.bytes ≡ x.bytes) ⊎ (shared x.copy ≡ false) → Came n shared o y
+  kept : (x : Page) → o ≡ Some x → y.copy ≡ x.copy → (x.cow ≡ true → (y.cow ≡ true) ⊎ (shared x.copy ≡ false)) → (y.bytes ≡ x.bytes) ⊎ (shared x.copy ≡ false) → Came n shared o y
 
 pub record Reworks (n : ℕ) (shared : ℕ → Bool) (p q : Process) : Type 0 where
   pub tables : (page : ℕ) → has_tables q page ≡ (has_tables p page || (is_settled q page && not (is_settled p page)))
   pub copies : (page : ℕ) (y : Page) → get q.settled page ≡ Some y → Came n shared (get p.settled page) y
 
--- and no page goes, and no fork mark comes
+-- and no page goes, and no copy-on-write mark comes
 pub record Grows (n : ℕ) (shared : ℕ → Bool) (p q : Process) : Type 0 where
   pub reworks : Reworks n shared p q
   pub grows : (page : ℕ) → is_settled p page ≡ true → is_settled q page ≡ true
@@ -74,30 +75,30 @@ two_growths false u v false true true e f g h = f ∙ ap (λ z. z || false) e
 two_growths false u v false true false e f g h = absurd (let no = h refl in cc)
 two_growths false u v false false c e f g h = f ∙ ap (λ z. z || (c && true)) e
 
--- in two steps: no fork mark comes in either
-came_on : (n : ℕ) (shared : ℕ → Bool) (o u : Option Page) (y z : Page) → u ≡ Some y → (y.fork_mark ≡ true → (v : Page) → o ≡ Some v → v.fork_mark ≡ true) → (z.fork_mark ≡ true → y.fork_mark ≡ true) → Came n shared o y → Came n shared u z → Came n shared o z
+-- in two steps: no copy-on-write mark comes in either
+came_on : (n : ℕ) (shared : ℕ → Bool) (o u : Option Page) (y z : Page) → u ≡ Some y → (y.cow ≡ true → (v : Page) → o ≡ Some v → v.cow ≡ true) → (z.cow ≡ true → y.cow ≡ true) → Came n shared o y → Came n shared u z → Came n shared o z
 came_on n shared o u y z there up down f (Came.fresh le (inl none)) = absurd (none_some (sym none ∙ there))
 came_on n shared o u y z there up down f (Came.fresh le (inr t)) = Came.fresh le (by o refl)
   where
     by : (a : Option Page) → o ≡ a → IsParted o z
     by None e = inl e
-    by (Some v) e = let same : t.0 ≡ y = same_Some t.0 y (sym t.1 ∙ there) in inr (v, e, up (ap (λ (x : Page). x.fork_mark) (sym same) ∙ t.2) v e, t.3)
+    by (Some v) e = let same : t.0 ≡ y = same_Some t.0 y (sym t.1 ∙ there) in inr (v, e, up (ap (λ (x : Page). x.cow) (sym same) ∙ t.2) v e, t.3)
 came_on n shared o u y z there up down (Came.fresh le parted) (Came.kept x is same mark bytes) =
     let at : x ≡ y = same_Some x y (sym is ∙ there) in
     let copy : z.copy ≡ y.copy = same ∙ ap (λ (v : Page). v.copy) at in
     Came.fresh (omega (arith, copy, le)) (elim parted [
       | inl none ↦ inl none
-      | inr t ↦ inr (t.0, t.1, t.2, unmarked z.fork_mark refl t.3)
+      | inr t ↦ inr (t.0, t.1, t.2, unmarked z.cow refl t.3)
     ])
   where
-    unmarked : (b : Bool) → z.fork_mark ≡ b → y.fork_mark ≡ false → z.fork_mark ≡ false
+    unmarked : (b : Bool) → z.cow ≡ b → y.cow ≡ false → z.cow ≡ false
     unmarked false e none = e
     unmarked true e none = absurd (false≢true (sym none ∙ down e))
 came_on n shared o u y z there up down (Came.kept v was alike went were) (Came.kept x is same mark bytes) =
     let at : x ≡ y = same_Some x y (sym is ∙ there) in
     let copy : x.copy ≡ v.copy = ap (λ (v : Page). v.copy) at ∙ alike in
     Came.kept v was (same ∙ copy) (λ e. elim (went e) [
-      | inl still ↦ elim (mark (ap (λ (v : Page). v.fork_mark) at ∙ still)) [
+      | inl still ↦ elim (mark (ap (λ (v : Page). v.cow) at ∙ still)) [
         | inl now ↦ inl now
         | inr alone ↦ inr (ap shared (sym copy) ∙ alone)
       ]
@@ -127,8 +128,8 @@ module _ (n : ℕ) (shared : ℕ → Bool) where
     where
       from : (page : ℕ) (z x : Page) → get r.settled page ≡ Some z → get q.settled page ≡ Some x → Came n shared (get q.settled page) z → Came n shared (get p.settled page) z
       from page z x there is came = came_on n shared (get p.settled page) (get q.settled page) x z is
-          (λ e v was. ap (has_mark (λ x. x.fork_mark)) (sym was) ∙ f.marks page (ap (has_mark (λ x. x.fork_mark)) is ∙ e))
-          (λ e. ap (has_mark (λ x. x.fork_mark)) (sym is) ∙ g.marks page (ap (has_mark (λ x. x.fork_mark)) there ∙ e)) (f.reworks.copies page x is) came
+          (λ e v was. ap (has_mark (λ x. x.cow)) (sym was) ∙ f.marks page (ap (has_mark (λ x. x.cow)) is ∙ e))
+          (λ e. ap (has_mark (λ x. x.cow)) (sym is) ∙ g.marks page (ap (has_mark (λ x. x.cow)) there ∙ e)) (f.reworks.copies page x is) came
 
       gone_before : (page : ℕ) (o : Option Page) → get p.settled page ≡ o → get q.settled page ≡ None → get p.settled page ≡ None
       gone_before page None e none = e
@@ -150,12 +151,12 @@ module _ (n : ℕ) (shared : ℕ → Bool) where
   }
 
   -- a mark is that of a settled page
-  marked_at : (o : Option Page) → has_mark (λ x. x.fork_mark) o ≡ true → (z : Page) × (o ≡ Some z) × (z.fork_mark ≡ true)
+  marked_at : (o : Option Page) → has_mark (λ x. x.cow) o ≡ true → (z : Page) × (o ≡ Some z) × (z.cow ≡ true)
   marked_at None e = absurd cc
   marked_at (Some z) e = (z, refl, e)
 
   -- a settled page is put again
-  pub put_grows : (p : Process) (at : ℕ) (x y : Page) → get p.settled at ≡ Some x → Came n shared (Some x) y → (y.fork_mark ≡ true → x.fork_mark ≡ true) → Grows n shared p (with_page p at y)
+  pub put_grows : (p : Process) (at : ℕ) (x y : Page) → get p.settled at ≡ Some x → Came n shared (Some x) y → (y.cow ≡ true → x.cow ≡ true) → Grows n shared p (with_page p at y)
   put_grows p at x y there came still_marked =
       let q = with_page p at y in
       let found : (page : ℕ) (z : Page) → get q.settled page ≡ Some z → Came n shared (get p.settled page) z = λ page z e. elim (found_inserted p.settled at page y z e) [
@@ -175,17 +176,17 @@ module _ (n : ℕ) (shared : ℕ → Bool) where
           | inr apart ↦ ap is_some (inserted_other at y p.settled page apart) ∙ e
         ];
         marks = λ page e. let z = marked_at (get q.settled page) e in elim (found_inserted p.settled at page y z.0 z.1) [
-          | inl here ↦ ap (has_mark (λ x. x.fork_mark)) (ap (get p.settled) here.0 ∙ there) ∙ still_marked (ap (λ (v : Page). v.fork_mark) here.1 ∙ z.2)
-          | inr was ↦ ap (has_mark (λ x. x.fork_mark)) was ∙ z.2
+          | inl here ↦ ap (has_mark (λ x. x.cow)) (ap (get p.settled) here.0 ∙ there) ∙ still_marked (ap (λ (v : Page). v.cow) here.1 ∙ z.2)
+          | inr was ↦ ap (has_mark (λ x. x.cow)) was ∙ z.2
         ];
       }
 
-  -- a page of p that may be written, and has no fork mark, is on no other process's frame
+  -- a page of p that may be written, and has no copy-on-write mark, is on no other process's frame
   abbrev pub Lone : Process → Type 0
-  Lone p = (page : ℕ) (x : Page) → get p.settled page ≡ Some x → grants_write p page ≡ true → x.fork_mark ≡ false → shared x.copy ≡ false
+  Lone p = (page : ℕ) (x : Page) → get p.settled page ≡ Some x → grants_write p page ≡ true → x.cow ≡ false → shared x.copy ≡ false
 
   -- such a page has other bytes
-  pub put_on : (p g : Process) (at : ℕ) (x y : Page) → Lone p → Grows n shared p g → get g.settled at ≡ Some x → y.copy ≡ x.copy → x.fork_mark ≡ false → y.fork_mark ≡ false → grants_write p at ≡ true → Grows n shared p (with_page g at y)
+  pub put_on : (p g : Process) (at : ℕ) (x y : Page) → Lone p → Grows n shared p g → get g.settled at ≡ Some x → y.copy ≡ x.copy → x.cow ≡ false → y.cow ≡ false → grants_write p at ≡ true → Grows n shared p (with_page g at y)
   put_on p g at x y lone f there copy none bare grants = record {
     reworks = record {
       tables = λ page. f.reworks.tables page ∙ ap (λ b. has_tables p page || (b && not (is_settled p page))) (sym (stays page));
@@ -196,8 +197,8 @@ module _ (n : ℕ) (shared : ℕ → Bool) where
     };
     grows = λ page e. stays page ∙ f.grows page e;
     marks = λ page e. let z = marked_at (get (with_page g at y).settled page) e in elim (found_inserted g.settled at page y z.0 z.1) [
-      | inl here ↦ absurd (false≢true (sym bare ∙ ap (λ (v : Page). v.fork_mark) here.1 ∙ z.2))
-      | inr was ↦ f.marks page (ap (has_mark (λ x. x.fork_mark)) was ∙ z.2)
+      | inl here ↦ absurd (false≢true (sym bare ∙ ap (λ (v : Page). v.cow) here.1 ∙ z.2))
+      | inr was ↦ f.marks page (ap (has_mark (λ x. x.cow)) was ∙ z.2)
     ];
   }
     where
@@ -207,14 +208,14 @@ module _ (n : ℕ) (shared : ℕ → Bool) where
         | inr apart ↦ ap is_some (inserted_other at y g.settled page apart)
       ]
 
-      lone_by : (v : Page) → get p.settled at ≡ Some v → (v.fork_mark ≡ true → (x.fork_mark ≡ true) ⊎ (shared v.copy ≡ false)) → (b : Bool) → v.fork_mark ≡ b → shared v.copy ≡ false
+      lone_by : (v : Page) → get p.settled at ≡ Some v → (v.cow ≡ true → (x.cow ≡ true) ⊎ (shared v.copy ≡ false)) → (b : Bool) → v.cow ≡ b → shared v.copy ≡ false
       lone_by v was went true e = elim (went e) [ inl now ↦ absurd (false≢true (sym none ∙ now)) | inr alone ↦ alone ]
       lone_by v was went false e = lone at v was grants e
 
       by : Came n shared (get p.settled at) x → Came n shared (get p.settled at) y
       by (Came.fresh le (inl new)) = Came.fresh (omega (arith, copy, le)) (inl new)
       by (Came.fresh le (inr t)) = Came.fresh (omega (arith, copy, le)) (inr (t.0, t.1, t.2, bare))
-      by (Came.kept v was alike went were) = let alone = lone_by v was went v.fork_mark refl in Came.kept v was (copy ∙ alike) (λ _. inr alone) (inr alone)
+      by (Came.kept v was alike went were) = let alone = lone_by v was went v.cow refl in Came.kept v was (copy ∙ alike) (λ _. inr alone) (inr alone)
 
   -- a page is settled
   or_true : (b : Bool) → true ≡ (b || (true && not false))
@@ -223,7 +224,7 @@ module _ (n : ℕ) (shared : ℕ → Bool) where
 
   anew_grows : (files : List File) (fresh : ℕ) (p : Process) (kind : Access) (at : ℕ) → n ≤ fresh → get p.settled at ≡ None → Grows n shared p (settled_anew files fresh p kind at)
   anew_grows files number p kind at le none =
-      let x : Page = record { bytes = initial_page files p at; copy = number; fork_mark = false; stored_mark = leaves_mark kind (region_on p at) } in
+      let x : Page = record { bytes = initial_page files p at; copy = number; cow = false; dirty = leaves_mark kind (region_on p at) } in
       let q = settled_anew files number p kind at in
       record {
         reworks = record {
@@ -248,16 +249,16 @@ module _ (n : ℕ) (shared : ℕ → Bool) where
           | inr apart ↦ ap is_some (inserted_other at x p.settled page apart) ∙ e
         ];
         marks = λ page e. let z = marked_at (get q.settled page) e in elim (found_inserted p.settled at page x z.0 z.1) [
-          | inl here ↦ absurd (false≢true (ap (λ (v : Page). v.fork_mark) here.1 ∙ z.2))
-          | inr was ↦ ap (has_mark (λ x. x.fork_mark)) was ∙ z.2
+          | inl here ↦ absurd (false≢true (ap (λ (v : Page). v.cow) here.1 ∙ z.2))
+          | inr was ↦ ap (has_mark (λ x. x.cow)) was ∙ z.2
         ];
       }
 
   -- a page is taken over
   over_came : (fresh : ℕ) (r : Option Region) (x : Page) → n ≤ fresh → Came n shared (Some x) (taken_over fresh (shared x.copy) r x)
-  over_came number r x le = by x.fork_mark (shared x.copy) refl refl
+  over_came number r x le = by x.cow (shared x.copy) refl refl
     where
-      by : (f s : Bool) → x.fork_mark ≡ f → shared x.copy ≡ s → Came n shared (Some x) (taken_over number (shared x.copy) r x)
+      by : (f s : Bool) → x.cow ≡ f → shared x.copy ≡ s → Came n shared (Some x) (taken_over number (shared x.copy) r x)
       by true true e is = Came.fresh (rw (e, is) le) (inr (x, refl, e, refl))
       by true false e is = Came.kept _ refl (rw (e, is) refl) (λ _. inr is) (inl refl)
       by false s e is = Came.kept _ refl (rw e refl) (λ f. absurd (false≢true (sym e ∙ f))) (inl refl)
@@ -324,8 +325,8 @@ module _ (n : ℕ) (shared : ℕ → Bool) where
             let has : region_at (regions p) (page_of at) ≡ Some r.0 = ap (λ rs. region_at rs (page_of at)) (sym alike) ∙ r.1 in
             ap (λ o. not (lacks_right access.Store o)) has ∙ ap (λ b. not (not b)) r.2
 
-        unmarked_there : (q : Process) (page : ℕ) (x : Page) → get q.settled page ≡ Some x → is_resident q access.Store page ≡ true → x.fork_mark ≡ false
-        unmarked_there q page x there resident = by x.fork_mark (x.stored_mark || not (keeps_stores (region_on q page))) (ap (is_resident_page access.Store (region_on q page)) (sym there) ∙ resident)
+        unmarked_there : (q : Process) (page : ℕ) (x : Page) → get q.settled page ≡ Some x → is_resident q access.Store page ≡ true → x.cow ≡ false
+        unmarked_there q page x there resident = by x.cow (x.dirty || not (keeps_stores (region_on q page))) (ap (is_resident_page access.Store (region_on q page)) (sym there) ∙ resident)
           where
             by : (a b : Bool) → (not a && b) ≡ true → a ≡ false
             by true b e = absurd cc
@@ -384,7 +385,7 @@ module _ (n : ℕ) (shared : ℕ → Bool) where
         ap is_some y.1);
     copies = λ page z e.
         let y = found_each (marked_page p) p.settled page z e in
-        Came.kept _ y.1 (ap (λ (v : Page). v.copy) (sym y.2)) (λ f. inl (ap (λ (v : Page). v.fork_mark) (sym y.2) ∙ or_more y.0.fork_mark (grants_write p page) f)) (inl (ap (λ (v : Page). v.bytes) (sym y.2)));
+        Came.kept _ y.1 (ap (λ (v : Page). v.copy) (sym y.2)) (λ f. inl (ap (λ (v : Page). v.cow) (sym y.2) ∙ or_more y.0.cow (grants_write p page) f)) (inl (ap (λ (v : Page). v.bytes) (sym y.2)));
   }
     where
       or_more : (a b : Bool) → a ≡ true → (a || b) ≡ true
@@ -404,7 +405,7 @@ put_both k key x y es fs e false = e
 image_tables : (fresh : ℕ) (es : List (ℕ × List ℕ)) (page : ℕ) → contains (numbers (map (λ (e : ℕ × List ℕ). e.0) es)) page ≡ is_some (get (from_list (numbered fresh es)) page)
 image_tables number [] page = refl
 image_tables number (e ∷ es) page =
-    let x : Page = record { bytes = e.1; copy = number; fork_mark = false; stored_mark = false } in
+    let x : Page = record { bytes = e.1; copy = number; cow = false; dirty = false } in
     let ns = numbers (map (λ (e : ℕ × List ℕ). e.0) es) in
     let m = from_list (numbered (number + 1) es) in
     ap is_some (find-put nat_cmp nat_cmp_total page e.0 tt ns.entries)

@@ -32,7 +32,7 @@ same_mark_here false = refl
 
 same_leaf_here : (a : ℕ × Page) → same_leaf a a ≡ true
 same_leaf_here a =
-    and_from _ _ (and_from _ _ (and_from _ _ (eq-eqb a.0 a.0 refl) (eq-eqb (a.1).copy (a.1).copy refl)) (same_mark_here (a.1).fork_mark)) (same_mark_here (a.1).stored_mark)
+    and_from _ _ (and_from _ _ (and_from _ _ (eq-eqb a.0 a.0 refl) (eq-eqb (a.1).copy (a.1).copy refl)) (same_mark_here (a.1).cow)) (same_mark_here (a.1).dirty)
 
 same_leaves_here : (xs : List (ℕ × Page)) → same_leaves xs xs ≡ true
 same_leaves_here [] = refl

@@ -63,7 +63,7 @@ module _ (w : World) (s : ℕ) (p : Process) (full : slice_get w.slots s ≡ Som
 
     settling : (access : Access) (page : ℕ) → get p.settled page ≡ None → Takes (settled_anew w.files w.counter p access page) (settle_need p page)
     settling access page none =
-        let x : Page = record { bytes = initial_page w.files p page; copy = w.counter; fork_mark = false; stored_mark = leaves_mark access (region_on p page) } in
+        let x : Page = record { bytes = initial_page w.files p page; copy = w.counter; cow = false; dirty = leaves_mark access (region_on p page) } in
         let r : Process = settled_anew w.files w.counter p access page in
         let copies : count (numbers (copies_of r ++ others)) ≡ count (numbers (copies_of p ++ others)) + 1 =
         one_more (copies_of r) (longer_only w.counter (copies_of r) (copies_of p) others (put_only page x p.settled.entries none)) (longer_has w.counter (copies_of r) (copies_of p) others (put_has page x p.settled.entries none)) in
@@ -89,7 +89,7 @@ module _ (w : World) (s : ℕ) (p : Process) (full : slice_get w.slots s ≡ Som
     serving : (access : Access) (page : ℕ) (o : Option Page) → get p.settled page ≡ o → is_resident_page access (region_on p page) o ≡ false
         → Takes (made_resident_from w.files w.counter (is_shared_by (others_have w s) o) p access page o) (resident_need_of (is_shared_by (others_have w s) o) p access page o)
     serving access page None is absent = settling access page is
-    serving access page (Some x) is absent = rw absent (taking page x (taken_over w.counter (others_have w s x.copy) (region_on p page) x) (parts_from (others_have w s x.copy) x) is refl (λ e. (and_parts x.fork_mark (others_have w s x.copy) e).1))
+    serving access page (Some x) is absent = rw absent (taking page x (taken_over w.counter (others_have w s x.copy) (region_on p page) x) (parts_from (others_have w s x.copy) x) is refl (λ e. (and_parts x.cow (others_have w s x.copy) e).1))
 
 free_of : World → ℕ → Result Progress Rule → ℕ
 free_of w s (Ok g) = free (with_progress w s g)

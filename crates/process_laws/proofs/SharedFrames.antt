@@ -1,6 +1,6 @@
--- `Shares`: in every run since boot, if two processes have a page on one frame (one copy number), then it is the same page, with
--- the same bytes, and with the fork mark if it may be written. Used for this: how a process's pages become those after its
--- step (`OwnFrames`), and that each settled page has a grant (`GrantedPages`).
+-- `Shares`: in every run since boot, if two processes have a page on one frame (one copy number), then it is the same page,
+-- with the same bytes, and with the copy-on-write mark if it may be written. Used for this: how a process's pages become those
+-- after its step (`OwnFrames`), and that each settled page has a grant (`GrantedPages`).
 use Rattle.std.proofs.Common.{◌≡◌, ◌≢◌, ◌⊎◌, ℕ, zero, suc, Bool, true, false, cond, not, ◌||◌, ◌==◌, ◌≤◌, inl, inr, refl, sym, ap, subst, ◌∙◌, arith, List, [], ◌∷◌, ◌++◌, Option, None, Some}
 use Rattle.std.specs.List.{list_any}
 use Rattle.std.specs.Ordering.{eq_by_cmp, nat_cmp}
@@ -65,7 +65,7 @@ use Rattle.sv39_entry.specs.declared.access.Access.TheVariants as access
 pub record IsOnePage (p : Process) (one two : ℕ) (x y : Page) : Type 0 where
   pub same : one ≡ two
   pub bytes : x.bytes ≡ y.bytes
-  pub marked : grants_write p one ≡ true → x.fork_mark ≡ true
+  pub marked : grants_write p one ≡ true → x.cow ≡ true
 
 pub record Shares (w : World) : Type 0 where
   pub pages : (s t one two : ℕ) (p q : Process) (x y : Page) → s ≢ t → process_in w s ≡ Some p → process_in w t ≡ Some q → get p.settled one ≡ Some x → get q.settled two ≡ Some y → x.copy ≡ y.copy → IsOnePage p one two x y
@@ -116,7 +116,7 @@ module _ (w : World) (s : ℕ) (p : Process) (lives : process_in w s ≡ Some p)
       let apart : s ≢ it.0 = λ same. let none = set_there w.slots s (Some p) None (full_slot (slice_get w.slots s) p lives) in let no = sym none ∙ ap (slice_get (slice_set w.slots s None)) same ∙ it.2 in absurd cc in
       (it.0, it.1, apart, ap flat (sym (get_set_other w.slots s it.0 None apart) ∙ it.2), it.3)
 
-  pub lone_of : Shares w → (page : ℕ) (x : Page) → get p.settled page ≡ Some x → grants_write p page ≡ true → x.fork_mark ≡ false → others_have w s x.copy ≡ false
+  pub lone_of : Shares w → (page : ℕ) (x : Page) → get p.settled page ≡ Some x → grants_write p page ≡ true → x.cow ≡ false → others_have w s x.copy ≡ false
   lone_of f page x there grants none = by (others_have w s x.copy) refl
     where
       by : (b : Bool) → others_have w s x.copy ≡ b → b ≡ false
@@ -143,7 +143,7 @@ others_true w s t k q x apart lives there =
 data KeptPage (w : World) (s : ℕ) (q : Process) (page : ℕ) (y : Page) : Type 0 where
   later : w.counter ≤ y.copy → KeptPage w s q page y
   lone : (p : Process) (x : Page) → process_in w s ≡ Some p → get p.settled page ≡ Some x → y.copy ≡ x.copy → others_have w s x.copy ≡ false → KeptPage w s q page y
-  held : (p : Process) (x : Page) → process_in w s ≡ Some p → get p.settled page ≡ Some x → y.copy ≡ x.copy → y.bytes ≡ x.bytes → (grants_write q page ≡ true → (grants_write p page ≡ true → x.fork_mark ≡ true) → y.fork_mark ≡ true) → KeptPage w s q page y
+  held : (p : Process) (x : Page) → process_in w s ≡ Some p → get p.settled page ≡ Some x → y.copy ≡ x.copy → y.bytes ≡ x.bytes → (grants_write q page ≡ true → (grants_write p page ≡ true → x.cow ≡ true) → y.cow ≡ true) → KeptPage w s q page y
 
 abbrev Origin : World → World → ℕ → Process → Type 0
 Origin w v s q = (t : ℕ) (r : Process) → process_in v t ≡ Some r → ((t ≡ s) × (r ≡ q)) ⊎ ((s ≢ t) × (process_in w t ≡ Some r))
@@ -214,7 +214,7 @@ module _ (w : World) (new : HasNewCopies w) (f : Shares w) where
     parent_page : (page : ℕ) (y : Page) → get (marked p).settled page ≡ Some y → KeptPage w s (marked p) page y
     parent_page page y there =
         let x = found_each (marked_page p) p.settled page y there in
-        KeptPage.held p x.0 lives x.1 (ap (λ (z : Page). z.copy) (sym x.2)) (ap (λ (z : Page). z.bytes) (sym x.2)) (λ g h. ap (λ (z : Page). z.fork_mark) (sym x.2) ∙ ap (λ b. x.0.fork_mark || b) g ∙ or_true x.0.fork_mark)
+        KeptPage.held p x.0 lives x.1 (ap (λ (z : Page). z.copy) (sym x.2)) (ap (λ (z : Page). z.bytes) (sym x.2)) (λ g h. ap (λ (z : Page). z.cow) (sym x.2) ∙ ap (λ b. x.0.cow || b) g ∙ or_true x.0.cow)
 
     parent_shares : Shares w1
     parent_shares =
@@ -257,17 +257,17 @@ module _ (w : World) (new : HasNewCopies w) (f : Shares w) where
               ]
         ]
 
-        from_marked : (one : ℕ) (x : Page) → get (marked p).settled one ≡ Some x → (u : Page) × (get p.settled one ≡ Some u) × (x.copy ≡ u.copy) × (x.bytes ≡ u.bytes) × (grants_write p one ≡ true → x.fork_mark ≡ true)
+        from_marked : (one : ℕ) (x : Page) → get (marked p).settled one ≡ Some x → (u : Page) × (get p.settled one ≡ Some u) × (x.copy ≡ u.copy) × (x.bytes ≡ u.bytes) × (grants_write p one ≡ true → x.cow ≡ true)
         from_marked one x at =
             let u = found_each (marked_page p) p.settled one x at in
-            (u.0, u.1, ap (λ (z : Page). z.copy) (sym u.2), ap (λ (z : Page). z.bytes) (sym u.2), λ g. ap (λ (z : Page). z.fork_mark) (sym u.2) ∙ ap (λ b. u.0.fork_mark || b) g ∙ or_true u.0.fork_mark)
+            (u.0, u.1, ap (λ (z : Page). z.copy) (sym u.2), ap (λ (z : Page). z.bytes) (sym u.2), λ g. ap (λ (z : Page). z.cow) (sym u.2) ∙ ap (λ b. u.0.cow || b) g ∙ or_true u.0.cow)
 
-        from_child : (one : ℕ) (x : Page) → get (child_of p).settled one ≡ Some x → (u : Page) × (get p.settled one ≡ Some u) × (x.copy ≡ u.copy) × (x.bytes ≡ u.bytes) × (grants_write p one ≡ true → x.fork_mark ≡ true)
+        from_child : (one : ℕ) (x : Page) → get (child_of p).settled one ≡ Some x → (u : Page) × (get p.settled one ≡ Some u) × (x.copy ≡ u.copy) × (x.bytes ≡ u.bytes) × (grants_write p one ≡ true → x.cow ≡ true)
         from_child one x at =
             let u = found_each (child_page p) p.settled one x at in
-            (u.0, u.1, ap (λ (z : Page). z.copy) (sym u.2), ap (λ (z : Page). z.bytes) (sym u.2), λ g. ap (λ (z : Page). z.fork_mark) (sym u.2) ∙ ap (λ b. u.0.fork_mark || b) g ∙ or_true u.0.fork_mark)
+            (u.0, u.1, ap (λ (z : Page). z.copy) (sym u.2), ap (λ (z : Page). z.bytes) (sym u.2), λ g. ap (λ (z : Page). z.cow) (sym u.2) ∙ ap (λ b. u.0.cow || b) g ∙ or_true u.0.cow)
 
-        origin : (one : ℕ) (a : Process) (x : Page) → Mine p a → get a.settled one ≡ Some x → (u : Page) × (get p.settled one ≡ Some u) × (x.copy ≡ u.copy) × (x.bytes ≡ u.bytes) × (grants_write a one ≡ true → x.fork_mark ≡ true)
+        origin : (one : ℕ) (a : Process) (x : Page) → Mine p a → get a.settled one ≡ Some x → (u : Page) × (get p.settled one ≡ Some u) × (x.copy ≡ u.copy) × (x.bytes ≡ u.bytes) × (grants_write a one ≡ true → x.cow ≡ true)
         origin one a x (inl is) at =
             let u = from_marked one x (ap (λ (z : Process). get z.settled one) (sym is) ∙ at) in
             (u.0, u.1, u.2, u.3, λ g. u.4 (ap (λ (z : Process). grants_write z one) (sym is) ∙ g))
@@ -325,10 +325,10 @@ module _ (w : World) (h s : ℕ) (p : Process) (on : IsOnHart w h s p) (new : Ha
   came_kept q page y grants (Came.fresh le parted) = KeptPage.later le
   came_kept q page y grants (Came.kept u is copy mark bytes) = elim bytes [
     | inr alone ↦ KeptPage.lone p u on.lives is copy alone
-    | inl same ↦ by u.fork_mark refl same
+    | inl same ↦ by u.cow refl same
   ]
     where
-      by : (b : Bool) → u.fork_mark ≡ b → y.bytes ≡ u.bytes → KeptPage w s q page y
+      by : (b : Bool) → u.cow ≡ b → y.bytes ≡ u.bytes → KeptPage w s q page y
       by true e same = elim (mark e) [
         | inl now ↦ KeptPage.held p u on.lives is copy same (λ g k. now)
         | inr alone ↦ KeptPage.lone p u on.lives is copy alone
@@ -465,5 +465,5 @@ shared_page v f s t one two copy p q apart lives others e g = by (get p.settled 
         record {
           same = k.same;
           bytes = λ i. ap (λ o. page_byte o i) at ∙ ap (λ bs. Some (byte_at bs i)) k.bytes ∙ sym (ap (λ o. page_byte o i) near);
-          marked = λ z has may. ap (has_mark (λ r. r.fork_mark)) at ∙ k.marked (writes_is p one ∙ ap writes_of has ∙ may);
+          marked = λ z has may. ap (has_mark (λ r. r.cow)) at ∙ k.marked (writes_is p one ∙ ap writes_of has ∙ may);
         }

@@ -22,7 +22,7 @@ either : (m : Bool) → (m || not m) ≡ true
 either true = refl
 either false = refl
 
-new_serves : (access : Access) (r : Option Region) (bytes : List ℕ) (copy : ℕ) → can_complete access r (record { bytes = bytes; copy = copy; fork_mark = false; stored_mark = leaves_mark access r }) ≡ true
+new_serves : (access : Access) (r : Option Region) (bytes : List ℕ) (copy : ℕ) → can_complete access r (record { bytes = bytes; copy = copy; cow = false; dirty = leaves_mark access r }) ≡ true
 new_serves Fetch r bytes copy = refl
 new_serves Load r bytes copy = refl
 new_serves Store r bytes copy = either (keeps_stores r)
@@ -36,7 +36,7 @@ marked_either false m = either m
 taken_serves : (access : Access) (fresh : ℕ) (shared : Bool) (r : Option Region) (s : Page) → can_complete access r (taken_over fresh shared r s) ≡ true
 taken_serves Fetch fresh shared r s = refl
 taken_serves Load fresh shared r s = refl
-taken_serves Store fresh shared r s = marked_either s.stored_mark (keeps_stores r)
+taken_serves Store fresh shared r s = marked_either s.dirty (keeps_stores r)
 
 made_there : (files : List File) (fresh : ℕ) (shared : Bool) (p : Process) (access : Access) (page : ℕ) (o : Option Page) → get p.settled page ≡ o → is_resident (made_resident_from files fresh shared p access page o) access page ≡ true
 made_there files fresh shared p access page None e = ap (is_resident_page access (region_on p page)) (put_is_there p.settled page _) ∙ new_serves access (region_on p page) (initial_page files p page) fresh

@@ -33,7 +33,7 @@ key_above : (low fresh : ℕ) (es : List (ℕ × List ℕ)) → Rises low es →
 key_above low fresh [] r k i = absurd i
 key_above low fresh (e ∷ es) r k i =
     let here : low ≤ e.0 = r.0 in
-    elim (insert_has_only (settled_from (fresh + 1) es) e.0 (record { bytes = e.1; copy = fresh; fork_mark = false; stored_mark = false }) k i) [
+    elim (insert_has_only (settled_from (fresh + 1) es) e.0 (record { bytes = e.1; copy = fresh; cow = false; dirty = false }) k i) [
       | inl same ↦ omega (here, same, arith)
       | inr j ↦ let later : e.0 + 1 ≤ k = key_above (e.0 + 1) (fresh + 1) es r.1 k j in omega (here, later, arith)
     ]
@@ -48,7 +48,7 @@ none_yet n fresh es r = elim (find nat_cmp n (settled_from fresh es).entries) as
 -- its copy numbers begin with that one
 copy_above : (low fresh : ℕ) (es : List (ℕ × List ℕ)) → Rises low es → (q : ℕ) → Among q (copies (settled_from fresh es).entries) → fresh ≤ q
 copy_above low fresh [] r q i = absurd i
-copy_above low fresh (e ∷ es) r q i = elim (put_only e.0 (record { bytes = e.1; copy = fresh; fork_mark = false; stored_mark = false }) (settled_from (fresh + 1) es).entries (none_yet e.0 (fresh + 1) es r.1) q i) [
+copy_above low fresh (e ∷ es) r q i = elim (put_only e.0 (record { bytes = e.1; copy = fresh; cow = false; dirty = false }) (settled_from (fresh + 1) es).entries (none_yet e.0 (fresh + 1) es r.1) q i) [
   | inl same ↦ omega (same, arith)
   | inr j ↦ let later : fresh + 1 ≤ q = copy_above (e.0 + 1) (fresh + 1) es r.1 q j in omega (later, arith)
 ]
@@ -58,7 +58,7 @@ count_image : (low fresh : ℕ) (es : List (ℕ × List ℕ)) (ns : List ℕ) �
     → count (numbers (copies (settled_from fresh es).entries ++ ns)) ≡ count (numbers ns) + length es
 count_image low fresh [] ns r below = omega arith
 count_image low fresh (e ∷ es) ns r below =
-    let x : Page = record { bytes = e.1; copy = fresh; fork_mark = false; stored_mark = false } in
+    let x : Page = record { bytes = e.1; copy = fresh; cow = false; dirty = false } in
     let rest : List ℕ = copies (settled_from (fresh + 1) es).entries in
     let all : List ℕ = copies (settled_from fresh (e ∷ es)).entries in
     let none = none_yet e.0 (fresh + 1) es r.1 in

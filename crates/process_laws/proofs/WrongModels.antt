@@ -60,10 +60,10 @@ copy_with_frames m h s address n p q bytes k step is there enough =
     let few = l.few in
     absurd (omega (arith, few, need, enough))
 
--- a copy to a page that leaves the fork mark
-ready_unmarked : (r : Option Region) (o : Option Page) → is_ready_on access.Store r o ≡ true → has_mark (λ (x : Page). x.fork_mark) o ≡ false
+-- a copy to a page that leaves the copy-on-write mark
+ready_unmarked : (r : Option Region) (o : Option Page) → is_ready_on access.Store r o ≡ true → has_mark (λ (x : Page). x.cow) o ≡ false
 ready_unmarked r None e = absurd cc
-ready_unmarked r (Some x) e = by x.fork_mark _ e
+ready_unmarked r (Some x) e = by x.cow _ e
   where
     by : (a b : Bool) → (not a && b) ≡ true → a ≡ false
     by true b f = absurd cc
@@ -115,7 +115,7 @@ no_mark_by_service m h page p q k step none = by (has_fork_mark q page) refl
 pub fault_tells_its_cause : (m : Moment) (h s c : ℕ) (p : Process) (a : UserAccess) → AnswersUser m h s p a → Tries m h s p a → (IsGranted p a → IsResident p a → ⊥) → m.reply ≡ Fault c → c ≡ cause a
 fault_tells_its_cause m h s c p a k t not is = let must = (k.faults t not).0 in cc
 
--- a service for a load that leaves the stored mark, so that the page would be written back
+-- a service for a load that leaves the dirty mark, so that the page would be written back
 pub loaded_page_stays_unmarked : (m : Moment) (h page : ℕ) (p q : Process) → Becomes m h p q → m.step ≡ Serve h → is_store_at p.pending page ≡ false → has_stored_mark p page ≡ false → has_stored_mark q page ≡ false
 loaded_page_stays_unmarked m h page p q k step load none = by (has_stored_mark q page) refl
   where

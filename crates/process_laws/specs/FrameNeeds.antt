@@ -26,8 +26,8 @@ use Rattle.sv39_entry.specs.declared.scheme.Scheme.{Scheme}
 abbrev pub is_settled : Process → ℕ → Bool
 is_settled p page = is_some (get p.settled page)
 
--- the page is tabled: it was settled since the start or exec, or, in a child, at the fork or since; so the page tables on the way
--- to it are there
+-- the page is tabled: it was settled since the start or exec, or, in a child, at the fork or since; so the page tables on the
+-- way to it are there
 abbrev pub has_tables : Process → ℕ → Bool
 has_tables p page = contains p.tabled page
 
@@ -52,7 +52,7 @@ abbrev pub frames_for_child : Process → ℕ
 frames_for_child p = 1 + tables_needed p.scheme (keys p.settled)
 
 -- none for a page that is ready for the access. Else: for a page that is not settled one, and one for each page table that it
--- lacks; for a page with the fork mark one if another process has its copy too; for any other none
+-- lacks; for a page with the copy-on-write mark one if another process has its copy too; for any other none
 abbrev pub frames_for_page : World → ℕ → Process → Access → ℕ → ℕ
 frames_for_page w s p access page =
     if is_ready_page p access page then 0
@@ -79,7 +79,7 @@ pub record SharesFrames (p c : Process) : Type 0 where
   pub tables : (page : ℕ) → has_tables c page ≡ is_settled p page
   pub copies : (page : ℕ) → copy_on c page ≡ copy_on p page
 
--- a page that is settled, or taken over: it loses the fork mark
+-- a page that is settled, or taken over: it loses the copy-on-write mark
 abbrev pub IsTaken : Process → Process → ℕ → Type 0
 IsTaken p q page = (is_settled p page ≡ false) ⊎ ((has_fork_mark p page ≡ true) × (has_fork_mark q page ≡ false))
 
@@ -92,7 +92,7 @@ pub record KeepsFrames (w : World) (s : ℕ) (p q : Process) : Type 0 where
   pub alone : (page copy : ℕ) → has_fork_mark p page ≡ true → has_fork_mark q page ≡ false → copy_on p page ≡ Some copy → copy_on q page ≡ Some copy → others_have w s copy ≡ false
 
 -- page `one` of p and page `two` of q, which are on one frame: it is the same page, with the same bytes, and if p may write it,
--- with the fork mark
+-- with the copy-on-write mark
 pub record IsSharedPage (p q : Process) (one two : ℕ) : Type 0 where
   pub same : one ≡ two
   pub bytes : (i : ℕ) → page_byte (get p.settled one) i ≡ page_byte (get q.settled two) i

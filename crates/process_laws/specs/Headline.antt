@@ -3,13 +3,12 @@
 -- stay, (f) what a process's own step changes, (g) steps that are made. `Holds` joins them; `Headline` says it of each step
 -- of a run.
 --
--- The harts have made any list of steps since boot, and make one more. `past` has the moments before it, the newest first.
--- `m` is the moment of this step: the step, its reply, the world before it and the world after it. The reply of `m` is what
--- the machine answered; worlds, and the replies of the past and of each `moment_of`, are the model's. A world has files and,
--- in its slots, processes; a process has regions, and the bytes of its settled pages (xv6: those with a valid leaf: an
--- image's from the start, others by a service or a copy). `Words` has the words, `Pages` what a region gives to a page,
--- `Latest` the latest byte at an address, `FrameNeeds` what is counted in frames, `CallReplies` what calls reply, and `MadeSteps`
--- part (g).
+-- The harts have made any list of steps since boot, and make one more. `past` has the moments before it, the newest first. `m`
+-- is the moment of this step: the step, its reply, the world before it and the world after it. The reply of `m` is what the
+-- machine answered; worlds, and the replies of the past and of each `moment_of`, are the model's. A world has files and, in its
+-- slots, processes; a process has regions, and the bytes of its settled pages (xv6: those with a valid leaf: an image's from
+-- the start, others by a service or a copy). `Words` has the words, `Pages` what a region gives to a page, `Latest` the latest
+-- byte at an address, `FrameNeeds` what is counted in frames, `CallReplies` what calls reply, and `MadeSteps` part (g).
 use Rattle.std.specs.Prelude.{◌≡◌, ◌≢◌, ◌⊎◌, ℕ, false, true, ◌+◌, ◌-◌, ◌<◌, ◌≤◌, nat_lt, ◌||◌, Option, None, Some, List, [], ◌∷◌, length, option_map, slice_get, take, pos, Ok, if◌then◌else◌}
 use Rattle.std.specs.Borrow.{Bor}
 use Rattle.process_laws.specs.Latest.{AreLatest, byte_had, bytes_in, IsLatest, latest}
@@ -70,19 +69,19 @@ pub record Copies (p : Process) (access : Access) (address n k : ℕ) (Lacks : T
   pub stops : StopsAfter p access address n k Lacks stop
 
 pub record CopiesForKernel (m : Moment) (h s address k : ℕ) (p : Process) : Type 0 where
-  -- CopyIn is such a copy by loads, CopyOut by stores. One that stops early changes what a copy of the first k bytes changes: it
-  -- neither undoes them nor takes a frame for the rest. (`front` has the first k bytes)
+  -- CopyIn is such a copy by loads, CopyOut by stores. One that stops early changes what a copy of the first k bytes changes:
+  -- it neither undoes them nor takes a frame for the rest. (`front` has the first k bytes)
   pub from : (n : ℕ) → m.step ≡ CopyIn h address n → Copies p Load address n k (LacksFrames m.after s Load (address + k)) (stopped_by m.reply)
   pub from_front : (n : ℕ) → m.step ≡ CopyIn h address n → m.after ≡ (moment_of m.before (CopyIn h address k)).after
   pub to : (bytes : Bor (List ℕ)) → m.step ≡ CopyOut h address bytes → Copies p Store address (length bytes.now) k (LacksFrames m.after s Store (address + k)) (stopped_by m.reply)
   pub to_front : (bytes front : Bor (List ℕ)) → m.step ≡ CopyOut h address bytes → front.now ≡ take k bytes.now → m.after ≡ (moment_of m.before (CopyOut h address front)).after
-  -- After a copy to p the page of each copied byte is ready for a store, even if the copy put there what was there: with no frame
-  -- free, `copyout 0 0x1000 00` to a page that is shared since a fork answers `short 9 NoFrame done 0`
+  -- After a copy to p the page of each copied byte is ready for a store, even if the copy put there what was there: with no
+  -- frame free, `copyout 0 0x1000 00` to a page that is shared since a fork answers `short 9 NoFrame done 0`
   pub to_ready : (bytes : Bor (List ℕ)) (q : Process) (i : ℕ) → m.step ≡ CopyOut h address bytes → i < k → process_in m.after s ≡ Some q → IsResident q (byte Store (address + i))
 
--- (c) A reply says NoFrame exactly when fewer frames are free than the step needs, n; and `FrameNeeds` counts n, but for copies.
--- A start of nine pages in the first two megabytes needs 17: these, guard and stack, five page tables and the trapframe; under
--- Sv48 19
+-- (c) A reply says NoFrame exactly when fewer frames are free than the step needs, n; and `FrameNeeds` counts n, but for
+-- copies. A start of nine pages in the first two megabytes needs 17: these, guard and stack, five page tables and the
+-- trapframe; under Sv48 19
 abbrev pub IsDry : Moment → ℕ → Type 0
 IsDry m n = is_no_frame_reply m.reply ≡ nat_lt (free m.before) n
 
@@ -103,11 +102,11 @@ pub record CountsFrames (m : Moment) : Type 0 where
   pub fork : (h s t : ℕ) (p : Process) → IsOnHart m.before h s p → MayCall m.before h p → free_slot m.before ≡ Some t → m.step ≡ Fork h → TakesExactly m (frames_for_child p)
   -- The service of a granted access takes those that its page needs
   pub serve : (h s : ℕ) (p : Process) (a : UserAccess) → Serves m h s p a → IsGranted p a → TakesExactly m (frames_for_page m.before s p a.access (page_of a.address))
-  -- A copy needs a number that is the same for the same step in a memory of any other size ((b) says what the page needs at which
-  -- it stops)
+  -- A copy needs a number that is the same for the same step in a memory of any other size ((b) says what the page needs at
+  -- which it stops)
   pub copy : (h k : ℕ) → CopiesBytes h k m.step → (n : ℕ) × TakesExactly m n × ((frames : ℕ) → TakesExactly (with_frames m frames) n)
-  -- And a copy that does not say NoFrame takes no more frames than are free. Since `free` stops at 0, what it takes is counted in
-  -- a memory of any size: with one frame free, a copy to a page that lacks a page table too answers `short 9 NoFrame done 0`
+  -- And a copy that does not say NoFrame takes no more frames than are free. Since `free` stops at 0, what it takes is counted
+  -- in a memory of any size: with one frame free, a copy to a page that lacks a page table too answers `short 9 NoFrame done 0`
   pub room : (h k : ℕ) → CopiesBytes h k m.step → is_no_frame_reply m.reply ≡ false → (frames : ℕ) → free (in_memory m.before frames) ≤ free (in_memory m.after frames) + free m.before
   -- Only these steps say NoFrame, and no other step takes a frame
   pub only : is_no_frame_reply m.reply ≡ true → MayLackFrames m.before m.step
@@ -116,8 +115,8 @@ pub record CountsFrames (m : Moment) : Type 0 where
 -- What `free` counts of a process: the trapframe, its page tables, and the frames of its settled pages. Two settled pages are
 -- on one frame if they have one copy number
 pub record HoldsFrames (m : Moment) : Type 0 where
-  -- No process has two pages on one frame, and two processes only the same page, with the same bytes, and with the fork mark
-  -- where it may be written: so no store changes what another process has
+  -- No process has two pages on one frame, and two processes only the same page, with the same bytes, and with the
+  -- copy-on-write mark where it may be written: so no store changes what another process has
   pub once : (s one two copy : ℕ) (p : Process) → process_in m.after s ≡ Some p → copy_on p one ≡ Some copy → copy_on p two ≡ Some copy → one ≡ two
   pub shared : (s t one two copy : ℕ) (p q : Process) → s ≢ t → process_in m.after s ≡ Some p → process_in m.after t ≡ Some q → copy_on p one ≡ Some copy → copy_on q two ≡ Some copy → IsSharedPage p q one two
   -- A process that was started is on new frames, and so is one after an exec that is done; a child is on its parent's. By any
@@ -147,13 +146,13 @@ pub record LeavesOthers (m : Moment) : Type 0 where
   -- A hart keeps its process and its phase but for its own switch, trap, next instruction of entry or return (`Next`), fault or
   -- end
   pub harts : (k : ℕ) → moved_hart m.step m.reply ≢ Some k → (slot_on m.after k ≡ slot_on m.before k) × (phase_on m.after k ≡ phase_on m.before k)
-  -- Its buffer has entries of the keys (page and ASID) that it had, but for its own fills, evictions and fences (`keys_after`); a
-  -- fill replies the number of the entry that it added, the last
+  -- Its buffer has entries of the keys (page and ASID) that it had, but for its own fills, evictions and fences (`keys_after`);
+  -- a fill replies the number of the entry that it added, the last
   pub buffers : (k : ℕ) (hart : Hart) → IsMade m.reply → slice_get (m.before).harts k ≡ Some hart → keys_on m.after k ≡ Some (if is_on_hart m.step k then keys_after (m.before).policy hart m.step else hart.keys)
   pub filled : (h address n : ℕ) → m.step ≡ Fill h address → m.reply ≡ Filled n → option_map length (keys_on m.after h) ≡ Some (n + 1)
-  -- With policy `asid`, when a process starts in a slot or the leaves of its process change (`changed_at`), the slot is stale on
-  -- every hart, until that hart's last fence of a return to it. With entry 0 filled for page 1 before a fork, after `fork 0` and
-  -- `leave 0` the access `load 0 0x1000 1 @0` answers `refused 20 NoEntry`
+  -- With policy `asid`, when a process starts in a slot or the leaves of its process change (`changed_at`), the slot is stale
+  -- on every hart, until that hart's last fence of a return to it. With entry 0 filled for page 1 before a fork, after `fork 0`
+  -- and `leave 0` the access `load 0 0x1000 1 @0` answers `refused 20 NoEntry`
   pub stale : (k t : ℕ) (hart : Hart) → IsMade m.reply → slice_get (m.before).harts k ≡ Some hart → stale_on m.after k t ≡ Some (marks_slot (m.before).policy m.before m.after t || (if is_on_hart m.step k then stale_after (m.before).policy hart m.step t else hart.stale t))
   -- A process is on one hart at a time
   pub one_hart : (h k s : ℕ) → slot_on m.after h ≡ Some s → slot_on m.after k ≡ Some s → h ≡ k
@@ -162,8 +161,8 @@ pub record LeavesOthers (m : Moment) : Type 0 where
   pub files : writes_back m.step m.reply ≡ false → (m.after).files ≡ (m.before).files
   pub memory : (m.after).frames ≡ (m.before).frames
   pub slots : length (m.after).slots ≡ length (m.before).slots
-  -- Each process is `IsInOrder`: its regions are in ascending order and apart, parts below the heap, mappings above it, all below
-  -- the trapframe, each part and mapping of a page or more. So no list of 16 empty mappings makes the first mmap answer
+  -- Each process is `IsInOrder`: its regions are in ascending order and apart, parts below the heap, mappings above it, all
+  -- below the trapframe, each part and mapping of a page or more. So no list of 16 empty mappings makes the first mmap answer
   -- MappingsFull
   pub order : (s : ℕ) (q : Process) → process_in m.after s ≡ Some q → IsInOrder q
   -- Scheme and policy stay, and each process has the scheme
@@ -175,19 +174,19 @@ pub record LeavesOthers (m : Moment) : Type 0 where
 pub record Becomes (m : Moment) (h : ℕ) (p q : Process) : Type 0 where
   -- If the step is made, q waits for service exactly when the step faulted
   pub waits : IsMade m.reply → is_unserved_access q.pending ≡ is_fault m.reply
-  -- Each page keeps its grant (rights, kind of region, source of its initial bytes) and its stored mark, but those that
+  -- Each page keeps its grant (rights, kind of region, source of its initial bytes) and its dirty mark, but those that
   -- exec, sbrk, mmap and munmap remap
   pub stays : (page : ℕ) → is_remapped m.step m.reply page ≡ false → (grant q page ≡ grant p page) × (has_stored_mark p page ≡ true → has_stored_mark q page ≡ true)
-  -- A page and the next are in one mapping exactly if they were; but if the step remaps one of them, exactly if it is an mmap of
-  -- both. So no step cuts or merges mappings unasked; after `mmap 0 8192 1 2 0` the two pages are in one
+  -- A page and the next are in one mapping exactly if they were; but if the step remaps one of them, exactly if it is an mmap
+  -- of both. So no step cuts or merges mappings unasked; after `mmap 0 8192 1 2 0` the two pages are in one
   pub joined : (page : ℕ) → are_joined q page ≡ (if is_remapped m.step m.reply page || is_remapped m.step m.reply (page + 1) then joins m.step m.reply page else are_joined p page)
   -- A remapped page has what the call gives; only exec puts one grant in the place of another; sbrk leaves the pages below the
   -- heap as they are, mmap and munmap the heap too
   pub remapped : (page : ℕ) → is_remapped m.step m.reply page ≡ true → grant q page ≡ grant_after (m.before).scheme m.step m.reply page
   pub vacant : (page : ℕ) → is_remapped m.step m.reply page ≡ true → ((image : Image) → m.step ≢ Exec h image) → (grant p page ≡ None) ⊎ (grant q page ≡ None)
   pub below : (page : ℕ) → is_remapped m.step m.reply page ≡ true → may_remap p m.step page ≡ true
-  -- Only a fork adds a fork mark; on a page that is not remapped only the service of a store and a copy to the page remove
-  -- it. These two alone add a stored mark. After exec there is neither mark
+  -- Only a fork adds a copy-on-write mark; on a page that is not remapped only the service of a store and a copy to the page
+  -- remove it. These two alone add a dirty mark. After exec there is neither mark
   pub forked : m.step ≢ Fork h → (page : ℕ) → has_fork_mark q page ≡ true → has_fork_mark p page ≡ true
   pub unforked : (page : ℕ) → is_remapped m.step m.reply page ≡ false → has_fork_mark p page ≡ true → (has_fork_mark q page ≡ true) ⊎ (is_stored_to p m.step page ≡ true)
   pub stored : (page : ℕ) → has_stored_mark q page ≡ true → (has_stored_mark p page ≡ true) ⊎ (is_stored_to p m.step page ≡ true)
@@ -204,13 +203,13 @@ pub record ChangesOwn (m : Moment) (h s : ℕ) (p : Process) : Type 0 where
   pub lives : is_end m.reply ≡ false → (q : Process) × (process_in m.after s ≡ Some q) × Becomes m h p q
   -- After an exit, and after an end by a rule, the slot is empty and the hart idle
   pub gone : is_end m.reply ≡ true → (process_in m.after s ≡ None) × (slot_on m.after h ≡ None) × IsInPhase m.after h Idle
-  -- A byte of a file that changes becomes the byte that p had at that place, on a page with the stored mark of a writable
-  -- shared mapping (of the range, if the step is munmap). No file comes, goes, or changes its length or whether it may be written
+  -- A byte of a file that changes becomes the byte that p had at that place, on a page with the dirty mark of a writable shared
+  -- mapping (of the range, if the step is munmap). No file comes, goes, or changes its length or whether it may be written
   pub files : Written m.step p (m.before).files (m.after).files
   -- And if the step writes back, every byte of such a page is written, up to the file's length, pages in order of address: if
   -- two map one place, the upper one's byte stays
   pub written : writes_back m.step m.reply ≡ true → IsWritten m.step p (m.before).files (m.after).files
-  -- A child has its parent's regions, heap base and size, waits for nothing, and has no stored mark
+  -- A child has its parent's regions, heap base and size, waits for nothing, and has no dirty mark
   pub child : (t : ℕ) → m.step ≡ Fork h → m.reply ≡ Forked t → (c : Process) × (process_in m.after t ≡ Some c) × IsChild p c
 
 -- Parts (a) to (g) hold of a moment, after those of the past

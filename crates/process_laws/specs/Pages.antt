@@ -1,7 +1,7 @@
--- Functions for one page of a process: its `Grant` (rights, kind of region, source of the initial bytes), whether it is
--- ready for an access, its fork mark (left by a fork: copy first) and stored mark (D), and whether one mapping has it and the next
--- (`are_joined`, `joins`); then for one step which pages it remaps, the grants and the process's size after it, and which pages it
--- makes ready for a store.
+-- Functions for one page of a process: its `Grant` (rights, kind of region, source of the initial bytes), whether it is ready
+-- for an access, its copy-on-write mark (left by a fork: copy first) and dirty mark (D), and whether one mapping has it and the
+-- next (`are_joined`, `joins`); then for one step which pages it remaps, the grants and the process's size after it, and which
+-- pages it makes ready for a store.
 use Rattle.std.specs.Prelude.{ℕ, ℤ, pos, ◌+ℤ◌, nat_abs, Bool, true, false, not, ◌+◌, ◌-◌, ◌*◌, ◌/◌, ◌%◌, ◌==◌, nat_le, nat_lt, ◌&&◌, ◌||◌, Option, None, Some, Result, Ok, Err, List, [], ◌∷◌, length, if◌then◌else◌}
 use Rattle.process_model.specs.Bytes.{pages_for}
 use Rattle.process_model.specs.Images.{end_of_loads, end_page, image_loads, LoadSegment}
@@ -40,10 +40,10 @@ grant_in (Some r) page = Some (record { reads = r.reads; writes = r.writes; exec
 abbrev pub grant : Process → ℕ → Option Grant
 grant p page = grant_in (region_at (regions p) page) page
 
--- a page is ready for an access if it is settled and, for a store, has no fork mark and, in a writable shared mapping, has
--- the stored mark
+-- a page is ready for an access if it is settled and, for a store, has no copy-on-write mark and, in a writable shared mapping,
+-- has the dirty mark
 abbrev pub is_ready : Access → Option Region → Page → Bool
-is_ready Store r x = not x.fork_mark && (x.stored_mark || not (keeps_stores r))
+is_ready Store r x = not x.cow && (x.dirty || not (keeps_stores r))
 is_ready _ r x = true
 
 abbrev pub is_ready_on : Access → Option Region → Option Page → Bool
@@ -53,16 +53,16 @@ is_ready_on access r (Some x) = is_ready access r x
 abbrev pub is_ready_page : Process → Access → ℕ → Bool
 is_ready_page p access page = is_ready_on access (region_at (regions p) page) (get p.settled page)
 
--- marks of a settled page: the fork mark, and the stored mark
+-- marks of a settled page: the copy-on-write mark, and the dirty mark
 abbrev pub has_mark : (Page → Bool) → Option Page → Bool
 has_mark mark None = false
 has_mark mark (Some x) = mark x
 
 abbrev pub has_fork_mark : Process → ℕ → Bool
-has_fork_mark p page = has_mark (λ x. x.fork_mark) (get p.settled page)
+has_fork_mark p page = has_mark (λ x. x.cow) (get p.settled page)
 
 abbrev pub has_stored_mark : Process → ℕ → Bool
-has_stored_mark p page = has_mark (λ x. x.stored_mark) (get p.settled page)
+has_stored_mark p page = has_mark (λ x. x.dirty) (get p.settled page)
 
 -- runs of pages
 
@@ -160,8 +160,8 @@ size_after s (Exec h i) Done size = pos (image_size (image_loads s i))
 size_after s (Sbrk h delta) (OldSize n) size = pos size +ℤ delta
 size_after s _ r size = pos size
 
--- the pages that a step may make ready for a store: the page of the store that is served, and all pages of a copy to the process
--- (of one that stops early, those of the bytes before: `to_front` of the headline)
+-- the pages that a step may make ready for a store: the page of the store that is served, and all pages of a copy to the
+-- process (of one that stops early, those of the bytes before: `to_front` of the headline)
 
 abbrev pub is_store : Access → Bool
 is_store Store = true

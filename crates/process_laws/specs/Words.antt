@@ -320,7 +320,7 @@ abbrev pub is_page_written_back : Step → ℕ → Bool
 is_page_written_back (Munmap h address len) page = is_between (page_of address) (page_of address + pages_for len) page
 is_page_written_back x page = true
 
--- b is the byte that p has at an address that maps byte i of file n, in a writable shared mapping, on a page with the stored
+-- b is the byte that p has at an address that maps byte i of file n, in a writable shared mapping, on a page with the dirty
 -- mark that step x writes back (`is_page_written_back`)
 pub record WroteBack (x : Step) (p : Process) (n i b : ℕ) : Type 0 where
   pub address : ℕ

@@ -33,28 +33,27 @@ ghost use Rattle.sv39_entry.specs.declared.rule.Rule.TheVariants.{NoFrame};
 
 /// For any moment of any model: if the part of the headline that a clause names holds of the moment, this does not happen:
 ///
-/// `second_fault`: a granted access of a resident page faults. `other_cause`: an access that is not granted, or whose
-/// page is not resident, faults with another cause than its own. `short_copy`: copyin stops by NoFrame although the
-/// frames that the next byte alone needs are free. `trap`: a trap drops or changes a byte. `released`: a page that sbrk
-/// releases has bytes afterwards. `place`: munmap changes the grant of a page outside its range, such as its place in the
-/// file. `mapped`: a page of a new mapping has another grant than mmap was asked for. `over`: a new mapping lies over a
-/// page that had a grant. `fork_mark`: service sets a fork mark. `stored_mark`: service sets the stored mark on a page to
-/// which the pending access is no store. `child`: a child has other regions than its parent had. `kind`: copyout replies
-/// as copyin does. `bad_image`: a bad image starts. `nobody`: munmap is done on a hart without a process. `start_frames`,
-/// `service_frames`: a start or a service says NoFrame although the frames that it needs are free. `bad_exec`: an exec of
-/// a bad image says NoFrame. `exec_frees`: after an exec some frames of the old process are not free. `heap_base`: exec
-/// keeps the old heap's base. `settled_frame`: service settles a page on a frame that a process has. `unasked_frame`:
-/// copyin gives another frame to a page that it only reads. `shared_frame`: service takes a page over that stays on the
-/// frame of another process. `tables`: munmap takes or gives page tables. `no_range`: munmap is done for an address
-/// inside a page or a length of 0. `below_base`: sbrk is done below the heap's base. `high`: mmap maps below a page at
-/// which the pages fit, or a 17th time. `written`: a byte that had to be written back is not. `one_frame`: two processes
-/// have pages with different bytes on one frame. `order`: a copy of more than 256 bytes gets another refusal than
-/// BadArgument. `phase`: a call outside the kernel gets another one than Impossible with the hart's phase. `copy_mark`: a
-/// page to which copyout puts a byte keeps the fork mark. `count`: a file is added or dropped. `last`: where two pages map
-/// one place of a file, the byte of the lower one is there after write-back. `cut`: the pages of a new mapping are in
-/// several. `no_page`: a process has a mapping of no page. `none_free`: copyin takes frames although none is free. `stale`: a
-/// slot changes, and a hart is not marked for it. `unasked_mark`: a hart that makes no step is marked for a slot that does
-/// not change. `mark_stays`: the last fence of the return leaves the mark.
+/// `second_fault`: a granted access of a resident page faults. `other_cause`: an access that is not granted, or whose page is
+/// not resident, faults with another cause than its own. `short_copy`: copyin stops by NoFrame although the frames that the
+/// next byte alone needs are free. `trap`: a trap drops or changes a byte. `released`: a page that sbrk releases has bytes
+/// afterwards. `place`: munmap changes the grant of a page outside its range, such as its place in the file. `mapped`: a page
+/// of a new mapping has another grant than mmap was asked for. `over`: a new mapping lies over a page that had a grant. `cow`:
+/// service sets a copy-on-write mark. `dirty`: service sets the dirty mark on a page to which the pending access is no store.
+/// `child`: a child has other regions than its parent had. `kind`: copyout replies as copyin does. `bad_image`: a bad image
+/// starts. `nobody`: munmap is done on a hart without a process. `start_frames`, `service_frames`: a start or a service says
+/// NoFrame although the frames that it needs are free. `bad_exec`: an exec of a bad image says NoFrame. `exec_frees`: after an
+/// exec some frames of the old process are not free. `heap_base`: exec keeps the old heap's base. `settled_frame`: service
+/// settles a page on a frame that a process has. `unasked_frame`: copyin gives another frame to a page that it only reads.
+/// `shared_frame`: service takes a page over that stays on the frame of another process. `tables`: munmap takes or gives page
+/// tables. `no_range`: munmap is done for an address inside a page or a length of 0. `below_base`: sbrk is done below the
+/// heap's base. `high`: mmap maps below a page at which the pages fit, or a 17th time. `written`: a byte that had to be written
+/// back is not. `one_frame`: two processes have pages with different bytes on one frame. `order`: a copy of more than 256 bytes
+/// gets another refusal than BadArgument. `phase`: a call outside the kernel gets another one than Impossible with the hart's
+/// phase. `copy_mark`: a page to which copyout puts a byte keeps the copy-on-write mark. `count`: a file is added or dropped.
+/// `last`: where two pages map one place of a file, the byte of the lower one is there after write-back. `cut`: the pages of a
+/// new mapping are in several. `no_page`: a process has a mapping of no page. `none_free`: copyin takes frames although none is
+/// free. `stale`: a slot changes, and a hart is not marked for it. `unasked_mark`: a hart that makes no step is marked for a
+/// slot that does not change. `mark_stays`: the last fence of the return leaves the mark.
 pub fn wrong_models_are_refused()
     ensures second_fault { (m : Moment) (h s cause : ℕ) (p : Process) (a : UserAccess) → AnswersUser m h s p a → Tries m h s p a → IsGranted p a → IsResident p a → m.reply ≢ Fault cause }
     ensures other_cause { (m : Moment) (h s c : ℕ) (p : Process) (a : UserAccess) → AnswersUser m h s p a → Tries m h s p a → (IsGranted p a → IsResident p a → ⊥) → m.reply ≡ Fault c → c ≡ cause a }
@@ -69,8 +68,8 @@ pub fn wrong_models_are_refused()
         → is_between (page_of at) (page_of at + pages_for len) page ≡ true → grant q page ≡ Some (mapping_grant protection flags n (page - page_of at)) }
     ensures over { (m : Moment) (h len protection flags n at page : ℕ) (p q : Process) → Becomes m h p q → m.step ≡ Mmap h len protection flags n → m.reply ≡ MappedAt at
         → is_between (page_of at) (page_of at + pages_for len) page ≡ true → grant p page ≡ None }
-    ensures fork_mark { (m : Moment) (h page : ℕ) (p q : Process) → Becomes m h p q → m.step ≡ Serve h → has_fork_mark p page ≡ false → has_fork_mark q page ≡ false }
-    ensures stored_mark { (m : Moment) (h page : ℕ) (p q : Process) → Becomes m h p q → m.step ≡ Serve h → is_store_at p.pending page ≡ false → has_stored_mark p page ≡ false
+    ensures cow { (m : Moment) (h page : ℕ) (p q : Process) → Becomes m h p q → m.step ≡ Serve h → has_fork_mark p page ≡ false → has_fork_mark q page ≡ false }
+    ensures dirty { (m : Moment) (h page : ℕ) (p q : Process) → Becomes m h p q → m.step ≡ Serve h → is_store_at p.pending page ≡ false → has_stored_mark p page ≡ false
         → has_stored_mark q page ≡ false }
     ensures child { (m : Moment) (h s t : ℕ) (p c : Process) → ChangesOwn m h s p → m.step ≡ Fork h → m.reply ≡ Forked t → process_in m.after t ≡ Some c → regions c ≡ regions p }
     ensures kind { (m : Moment) (h address : ℕ) (bytes : _) (bytes_in : _) → MakesSteps m → m.step ≡ CopyOut h address bytes → m.reply ≢ CopiedIn bytes_in }

@@ -55,7 +55,8 @@ tables_of p = tables_needed p.scheme (keys p.tabled)
 abbrev pub settle_need : Process → ℕ → ℕ
 settle_need p page = 1 + (tables_needed p.scheme (page ∷ keys p.tabled) - tables_of p)
 
--- a page is taken over: one frame if it has the fork mark and another process has its copy number (`parts_from`), else none
+-- a page is taken over: one frame if it has the copy-on-write mark and another process has its copy number (`parts_from`), else
+-- none
 abbrev pub take_over_need : Bool → ℕ
 take_over_need parts = if parts then 1 else 0
 

@@ -50,7 +50,7 @@ page_numbers ls = map (λ e. e.0) (image_pages ls)
 -- each page gets a copy number of its own, from `fresh` on
 abbrev pub numbered : ℕ → List (ℕ × List ℕ) → List (ℕ × Page)
 numbered fresh [] = []
-numbered fresh (e ∷ es) = (e.0, record { bytes = e.1; copy = fresh; fork_mark = false; stored_mark = false }) ∷ numbered (fresh + 1) es
+numbered fresh (e ∷ es) = (e.0, record { bytes = e.1; copy = fresh; cow = false; dirty = false }) ∷ numbered (fresh + 1) es
 
 -- the process of checked segments: its heap is empty and begins at the top of the stack page
 unfoldable pub process_of : Scheme → ℕ → List LoadSegment → Process

@@ -105,10 +105,10 @@ mapped files p len protection flags n =
 
 -- write-back
 
--- whether a settled page of the region is written back to its file: exactly if it has the stored mark and the region is a
+-- whether a settled page of the region is written back to its file: exactly if it has the dirty mark and the region is a
 -- shared mapping that may be written
 abbrev pub is_written_back : Region → Page → Bool
-is_written_back m page = keeps_stores (Some m) && page.stored_mark
+is_written_back m page = keeps_stores (Some m) && page.dirty
 
 abbrev pub page_written : Source → List File → ℕ → List ℕ → List File
 page_written (file n offset) files at bytes = with_page_written files n (offset + at) bytes

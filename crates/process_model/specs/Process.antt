@@ -1,7 +1,7 @@
 -- Records `Process`: its regions, heap, settled pages (in memory) and pending access, no page table and no reference count;
--- `Page`: a settled page, its bytes, copy number (names one copy in memory), fork mark (a store takes the page over first)
--- and stored mark (a shared mapping's page was made ready for a store); `Pending`: an access that faulted. Also the heap as
--- a region, and whether a page's region grants writing.
+-- `Page`: a settled page, its bytes, copy number (names one copy in memory), copy-on-write mark (a store takes the page over
+-- first) and dirty mark (a shared mapping's page was made ready for a store); `Pending`: an access that faulted. Also the heap
+-- as a region, and whether a page's region grants writing.
 use Rattle.std.specs.Prelude.{ℕ, Bool, true, false, not, ◌-◌, Option, None, List, ◌∷◌, ◌++◌}
 use Rattle.process_model.specs.Bytes.{pages_for}
 use Rattle.process_model.specs.PageMap.{PageMap, NumberSet}
@@ -11,15 +11,15 @@ use Rattle.sv39_entry.specs.declared.access.Access.{Access}
 use Rattle.sv39_entry.specs.declared.access.Access.TheVariants.{Store}
 use Rattle.sv39_entry.specs.declared.scheme.Scheme.{Scheme}
 
--- a settled page, with its 4,096 bytes as this process sees them. Copy number: two settled pages are one copy in memory
--- exactly when their copy numbers are equal. Fork mark: left by a fork; the next store takes the page over first (the xv6
--- book, "Page-fault exceptions"). Stored mark: this page of a writable shared mapping was made ready for a store since it
--- was settled (the mmap lab)
+-- a settled page, with its 4,096 bytes as this process sees them. Copy number: two settled pages are one copy in memory exactly
+-- when their copy numbers are equal. Copy-on-write mark: left by a fork; the next store takes the page over first (the xv6
+-- book, "Page-fault exceptions"). Dirty mark: this page of a writable shared mapping was made ready for a store since it was
+-- settled (the mmap lab)
 pub record Page : Type 0 where
   pub bytes : List ℕ
   pub copy : ℕ
-  pub fork_mark : Bool
-  pub stored_mark : Bool
+  pub cow : Bool
+  pub dirty : Bool
 
 -- an access that faulted, and whether the kernel has served it
 pub record Pending : Type 0 where

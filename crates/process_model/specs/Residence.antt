@@ -1,7 +1,7 @@
--- Settled: a page is in memory. Resident for an access: settled and, for a store, without fork mark and, in a writable
--- shared mapping, with the stored mark (`is_resident`). `made_resident`: the process with the page made so, in one fault;
+-- Settled: a page is in memory. Resident for an access: settled and, for a store, without copy-on-write mark and, in a writable
+-- shared mapping, with the dirty mark (`is_resident`). `made_resident`: the process with the page made so, in one fault;
 -- its initial bytes; loads and stores on it; parent and child after a fork (`marked`, `child_of`). Sources: the xv6 book,
--- "Page-fault exceptions"; copy-on-write and mmap labs. Own choice: fork marks on shared mappings too.
+-- "Page-fault exceptions"; copy-on-write and mmap labs. Own choice: copy-on-write marks on shared mappings too.
 use Rattle.std.specs.Prelude.{ℕ, Bool, true, false, not, ◌-◌, ◌+◌, ◌*◌, ◌&&◌, ◌||◌, Option, None, Some, List, [], drop, if◌then◌else◌}
 use Rattle.process_model.specs.Bytes.{padded, number, low_bytes, write_bytes}
 use Rattle.process_model.specs.PageMap.{get, insert, with_values, keys, numbers}
@@ -32,9 +32,9 @@ abbrev pub region_on : Process → ℕ → Option Region
 region_on p page = region_at (regions p) page
 
 -- whether a granted access to a settled page s of region r completes without a fault: a store exactly if the page has no
--- fork mark and, if stores to r are written back, has the stored mark; any other access always
+-- copy-on-write mark and, if stores to r are written back, has the dirty mark; any other access always
 abbrev pub can_complete : Access → Option Region → Page → Bool
-can_complete Store r s = not s.fork_mark && (s.stored_mark || not (keeps_stores r))
+can_complete Store r s = not s.cow && (s.dirty || not (keeps_stores r))
 can_complete _ r s = true
 
 abbrev pub is_resident_page : Access → Option Region → Option Page → Bool
@@ -48,31 +48,31 @@ is_resident p access page = is_resident_page access (region_on p page) (get p.se
 abbrev pub with_page : Process → ℕ → Page → Process
 with_page p n page = record p { settled = insert p.settled n page }
 
--- whether an access leaves the stored mark on a page of the region when it is settled
+-- whether an access leaves the dirty mark on a page of the region when it is settled
 abbrev pub leaves_mark : Access → Option Region → Bool
 leaves_mark Store r = keeps_stores r
 leaves_mark _ r = false
 
--- the process after a page is settled: with its initial bytes, copy number `fresh`, no fork mark, and the stored mark if the
--- access leaves one
+-- the process after a page is settled: with its initial bytes, copy number `fresh`, no copy-on-write mark, and the dirty mark
+-- if the access leaves one
 abbrev pub settled_anew : List File → ℕ → Process → Access → ℕ → Process
 settled_anew files fresh p access page = record p {
-  settled = insert p.settled page (record { bytes = initial_page files p page; copy = fresh; fork_mark = false; stored_mark = leaves_mark access (region_on p page) });
+  settled = insert p.settled page (record { bytes = initial_page files p page; copy = fresh; cow = false; dirty = leaves_mark access (region_on p page) });
   tabled = insert p.tabled page tt;
 }
 
--- whether a page that is taken over needs a copy of its own: it has the fork mark, and another process has its copy number
--- (`shared`)
+-- whether a page that is taken over needs a copy of its own: it has the copy-on-write mark, and another process has its copy
+-- number (`shared`)
 abbrev pub parts_from : Bool → Page → Bool
-parts_from shared s = s.fork_mark && shared
+parts_from shared s = s.cow && shared
 
--- the page without the fork mark; with copy number `fresh` if it had the mark and another process has its copy number
+-- the page without the copy-on-write mark; with copy number `fresh` if it had the mark and another process has its copy number
 abbrev pub unmarked : ℕ → Bool → Page → Page
-unmarked fresh shared s = record s { copy = if parts_from shared s then fresh else s.copy; fork_mark = false }
+unmarked fresh shared s = record s { copy = if parts_from shared s then fresh else s.copy; cow = false }
 
--- the page with the stored mark, if stores to its region are written back
+-- the page with the dirty mark, if stores to its region are written back
 abbrev pub marked_stored : Option Region → Page → Page
-marked_stored r s = record s { stored_mark = s.stored_mark || keeps_stores r }
+marked_stored r s = record s { dirty = s.dirty || keeps_stores r }
 
 -- a page taken over for a store: both in one service, so that one fault is enough
 abbrev pub taken_over : ℕ → Bool → Option Region → Page → Page
@@ -104,19 +104,19 @@ abbrev pub access_answer : Access → Page → ℕ → ℕ → ℕ → Reply × 
 access_answer Store s offset width value = (Stored, stored s offset (low_bytes value width))
 access_answer _ s offset width value = (Value (loaded s offset width), s)
 
--- fork (the xv6 book, "Page-fault exceptions"): parent and child have the fork mark on every settled page whose region
+-- fork (the xv6 book, "Page-fault exceptions"): parent and child have the copy-on-write mark on every settled page whose region
 -- grants writing, a shared mapping's too (own choice)
 abbrev pub marked_page : Process → ℕ → Page → Page
-marked_page p page s = record s { fork_mark = s.fork_mark || grants_write p page }
+marked_page p page s = record s { cow = s.cow || grants_write p page }
 
 abbrev pub marked : Process → Process
 marked p = record p { settled = with_values (marked_page p) p.settled; pending = None }
 
--- a page of the child has no stored mark: what the parent stored, the parent writes back
+-- a page of the child has no dirty mark: what the parent stored, the parent writes back
 abbrev pub child_page : Process → ℕ → Page → Page
-child_page p page s = record (marked_page p page s) { stored_mark = false }
+child_page p page s = record (marked_page p page s) { dirty = false }
 
--- the child has the parent's regions, size and settled pages, with the same copy numbers, and no stored mark; nothing is
+-- the child has the parent's regions, size and settled pages, with the same copy numbers, and no dirty mark; nothing is
 -- pending, and its tabled pages are the settled ones
 abbrev pub child_of : Process → Process
 child_of p = record p { settled = with_values (child_page p) p.settled; tabled = numbers (keys p.settled); pending = None }

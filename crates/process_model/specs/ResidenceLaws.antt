@@ -39,7 +39,7 @@ pub record SettlesPage (access : Access) (page : ℕ) (p q : Process) : Type 0 w
 
 -- an access to a page that was just settled for it can complete
 new_goes : (access : Access) (r : Option Region) (bytes : List ℕ) (copy : ℕ)
-    → can_complete access r (record { bytes = bytes; copy = copy; fork_mark = false; stored_mark = leaves_mark access r }) ≡ true
+    → can_complete access r (record { bytes = bytes; copy = copy; cow = false; dirty = leaves_mark access r }) ≡ true
 new_goes Fetch r bytes copy = refl
 new_goes Load r bytes copy = refl
 new_goes Store r bytes copy = either (keeps_stores r)
@@ -52,7 +52,7 @@ new_goes Store r bytes copy = either (keeps_stores r)
 taken_goes : (access : Access) (r : Option Region) (fresh : ℕ) (shared : Bool) (s : Page) → can_complete access r (taken_over fresh shared r s) ≡ true
 taken_goes Fetch r fresh shared s = refl
 taken_goes Load r fresh shared s = refl
-taken_goes Store r fresh shared s = either s.stored_mark (keeps_stores r)
+taken_goes Store r fresh shared s = either s.dirty (keeps_stores r)
   where
     either : (b c : Bool) → ((b || c) || not c) ≡ true
     either true true = refl
@@ -79,7 +79,7 @@ put_settles access page p s goes = record {
 anew_settles : (files : List File) (fresh : ℕ) (access : Access) (page : ℕ) (p : Process) → SettlesPage access page p (settled_anew files fresh p access page)
 anew_settles files fresh access page p =
     let r = region_on p page in
-    let s : Page = record { bytes = initial_page files p page; copy = fresh; fork_mark = false; stored_mark = leaves_mark access r } in
+    let s : Page = record { bytes = initial_page files p page; copy = fresh; cow = false; dirty = leaves_mark access r } in
     let put = put_settles access page p s (new_goes access r s.bytes fresh) in
     record {
       scheme = refl;

@@ -16,7 +16,7 @@ same_mark false b = not b
 -- not be compared: a call changes those of a settled page only if it releases the page or, as exec, gives new copy numbers
 abbrev pub same_leaf : ℕ × Page → ℕ × Page → Bool
 same_leaf a b =
-    a.0 == b.0 && (a.1).copy == (b.1).copy && same_mark (a.1).fork_mark (b.1).fork_mark && same_mark (a.1).stored_mark (b.1).stored_mark
+    a.0 == b.0 && (a.1).copy == (b.1).copy && same_mark (a.1).cow (b.1).cow && same_mark (a.1).dirty (b.1).dirty
 
 abbrev pub same_leaves : List (ℕ × Page) → List (ℕ × Page) → Bool
 same_leaves [] [] = true

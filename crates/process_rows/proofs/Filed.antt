@@ -228,7 +228,7 @@ loaded_page_stays_away : Plays (
 unfolding number low_bytes digits item_line line_of elf_loads segment_loads process_of tables_needed on_hart with_its_process resident_at sbrk_result mapped unmapped copied_in copied_out step
 loaded_page_stays_away = refl
 
--- a page that was loaded and then forked wants both marks changed: one fault is enough, and the stored mark takes no frame
+-- a page that was loaded and then forked wants both marks changed: one fault is enough, and the dirty mark takes no frame
 one_fault_for_both_marks : Plays (
     silent "file 16 rw -"
     ∷ silent "image 0x0:0x1000:rx:13050000 0x1000:0x1800:rw:-"

@@ -90,7 +90,7 @@ entry_that_is_kept : Plays (
 unfolding number low_bytes digits item_line line_of elf_loads segment_loads process_of tables_needed on_hart with_its_process resident_at sbrk_result mapped unmapped copied_in copied_out step
 entry_that_is_kept = refl
 
--- the stored mark is in the leaf too
+-- the dirty mark is in the leaf too
 first_store_leaves_no_old_entry : Plays (
     silent "file 16 rw -"
     ∷ silent "image 0x0:0x1000:rx:13050000 0x1000:0x1800:rw:-"

@@ -66,17 +66,17 @@ pointer_word frame = ppn_of frame * 2 ^ 10 + 1
 
 -- w has the fields of the leaf that the kernel writes for a frame, with these rights and flags. It is a Leaf if the rights
 -- have R, or X without W
-pub record IsLeafOf (w frame rights : ℕ) (user cow dirty : Bool) : Type 0 where
+pub record IsLeafOf (w frame rights : ℕ) (user is_cow dirty : Bool) : Type 0 where
   pub names : ppn w ≡ ppn_of frame
   pub valid : has w 0 ≡ true
   pub read : has w 1 ≡ reads rights
-  pub write : has w 2 ≡ (writes rights && not cow)
+  pub write : has w 2 ≡ (writes rights && not is_cow)
   pub execute : has w 3 ≡ executes rights
   pub for_user : has w 4 ≡ user
   pub global : has w 5 ≡ false
   pub accessed : has w 6 ≡ true
   pub modified : has w 7 ≡ (dirty && writes rights)
-  pub copy_on_write : has w 8 ≡ cow
+  pub cow : has w 8 ≡ is_cow
   pub unused : has w 9 ≡ false
   pub readable : reads rights ≡ true → kind_of w ≡ Leaf
   pub executable : executes rights ≡ true → writes rights ≡ false → kind_of w ≡ Leaf

@@ -157,7 +157,7 @@ fn leaf_flags(read: bool, write: bool, execute: bool, user: bool, cow: bool, dir
 {
     let writable = if cow { false } else { write };
     let modified = if dirty { write } else { false };
-    EntryFlags::COPY_ON_WRITE.only_if(cow)
+    EntryFlags::COW.only_if(cow)
         + EntryFlags::DIRTY.only_if(modified)
         + EntryFlags::ACCESSED.bits()
         + EntryFlags::USER.only_if(user)

@@ -21,7 +21,7 @@ bitflag_items! {
         const GLOBAL = 32;
         const ACCESSED = 64;
         const DIRTY = 128;
-        const COPY_ON_WRITE = 256;
+        const COW = 256;
     }
 }
 
@@ -30,7 +30,7 @@ impl Flags for EntryFlags {
 
     ghost exact = { ⊤ };
 
-    ghost table = { (codes "VALID", 1) ∷ (codes "READ", 2) ∷ (codes "WRITE", 4) ∷ (codes "EXECUTE", 8) ∷ (codes "USER", 16) ∷ (codes "GLOBAL", 32) ∷ (codes "ACCESSED", 64) ∷ (codes "DIRTY", 128) ∷ (codes "COPY_ON_WRITE", 256) ∷ [] };
+    ghost table = { (codes "VALID", 1) ∷ (codes "READ", 2) ∷ (codes "WRITE", 4) ∷ (codes "EXECUTE", 8) ∷ (codes "USER", 16) ∷ (codes "GLOBAL", 32) ∷ (codes "ACCESSED", 64) ∷ (codes "DIRTY", 128) ∷ (codes "COW", 256) ∷ [] };
 
     ghost set_of = { λ flags. flags.0 };
 

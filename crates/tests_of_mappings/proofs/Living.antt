@@ -84,7 +84,7 @@ module _ (x y : Body) (n : ℕ) (bytes : List ℕ) where
   can_write (Err _) ok there t p can writes = absurd (cc)
   can_write (Ok _) ok there t p can writes =
       let made = ok t p can in
-      let page : Page = record { bytes = padded 4096 bytes; copy = 0; fork_mark = false; stored_mark = false } in (
+      let page : Page = record { bytes = padded 4096 bytes; copy = 0; cow = false; dirty = false } in (
         made.0,
         settled_with 0 bytes p n,
         page,

@@ -1,5 +1,5 @@
 // `serve`: the service of a page fault in a story (test case): settles a page of a mapping (brings it into memory) with the
-// bytes of its file, and for a store sets the page's stored mark (D).
+// bytes of its file, and for a store sets the page's dirty mark (D).
 
 ghost use Rattle.std.specs.Prelude.{◌≡◌, false, None, true};
 ghost use Rattle.address_space.specs.Agreement.{body_of, IsSpace};
@@ -38,7 +38,7 @@ fn is_settled<S: FrameSeat, F: FrameAccess<Seat = S>>(
     }
 }
 
-/// Settles an unsettled page with these bytes, and sets its stored mark if `stored`. `NoFrame` if too few frames are free.
+/// Settles an unsettled page with these bytes, and sets its dirty mark if `stored`. `NoFrame` if too few frames are free.
 fn fill<S: FrameSeat, F: FrameSupply<Seat = S>>(
     space: &mut Space<S>,
     store: &mut F,
@@ -61,7 +61,7 @@ fn fill<S: FrameSeat, F: FrameSupply<Seat = S>>(
 }
 
 /// `fill` for an access that the page's region grants: `BadArgument` if it does not, or if the page is settled. A store sets
-/// the stored mark.
+/// the dirty mark.
 fn settle<S: FrameSeat, F: FrameSupply<Seat = S>>(
     space: &mut Space<S>,
     store: &mut F,
@@ -97,7 +97,7 @@ fn place_in_file<S: FrameSeat>(space: &Space<S>, page: u64) -> Option<(usize, us
     Some((file as usize, offset.saturating_add(before) as usize))
 }
 
-/// Settles a page of a mapping with the 4,096 bytes of its file, zeros past the file's end. For a store it sets the stored
+/// Settles a page of a mapping with the 4,096 bytes of its file, zeros past the file's end. For a store it sets the dirty
 /// mark.
 ///
 /// # Errors

@@ -12,7 +12,7 @@ pub(crate) enum Operation {
     /// munmap: the address and the length.
     Unmap(u64, u64),
     /// Settles the page of an address with the bytes of its file, as the service of a fault by this access does. For a store
-    /// it sets the stored mark too.
+    /// it sets the dirty mark too.
     Serve(Access, u64),
     /// A user fetch of the four bytes at an address.
     Fetch(u64),

@@ -55,7 +55,7 @@ fn leaves_what_was_only_loaded(rt: HostRuntime) -> Result<(), Fail> {
         (Serve(Access::Load, 0x3fffffd000), Reply::Ready),
         (Serve(Access::Store, 0x3fffffc000), Reply::Ready),
         (Serve(Access::Store, 0x3fffffb000), Reply::Ready),
-        // a store page fault: this page of a writable shared mapping was loaded from, and lacks the stored mark
+        // a store page fault: this page of a writable shared mapping was loaded from, and lacks the dirty mark
         (Store(0x3fffffd000, 8, 1), Reply::Fault(15)),
         (Store(0x3fffffc100, 2, 0x0202), Reply::Stored),
         (Store(0x3fffffb200, 2, 0x0303), Reply::Stored),
@@ -95,7 +95,7 @@ fn writes_all_mappings(rt: HostRuntime) -> Result<(), Fail> {
         (WriteBack, Reply::Done),
         (Look(0, 4_096), Reply::Value(0x10101010101010d1)),
         (Look(2, 10_000), Reply::Value(0xf6f7f8)),
-        // the pages stay settled, with their stored marks
+        // the pages stay settled, with their dirty marks
         (Load(0x3fffffb710, 8), Reply::Value(0xf1f2f3f4f5f6f7f8)),
         (Store(0x3fffffd001, 1, 0xd2), Reply::Stored),
         (Look(0, 4_096), Reply::Value(0x10101010101010d1)),

@@ -29,7 +29,7 @@ use Rattle.address_space.specs.declared.part.Part.{Part}
 
 -- ---- a page is written
 
-module _ (p : Process) (m : ℕ) (s : Page) (unmarked : s.fork_mark ≡ false) where
+module _ (p : Process) (m : ℕ) (s : Page) (unmarked : s.cow ≡ false) where
   pub still_writable : (n : ℕ) → IsWritable p n → IsWritable (with_page p m s) n
   still_writable n w = elim (cases_eq n m) [
     | inl same ↦ record { page = s; settled = inserted_here m s p.settled n same; unmarked = unmarked; region = w.region; in_region = w.in_region; writes = w.writes }
@@ -76,7 +76,7 @@ module _ (v w : View) (root trapframe : ℕ) (l : Layout) (root_after trapframe_
   -- a page that may be written was written
   pub lives_kept : (k : ℕ) (settled : Bool) → (lives : Lives v root trapframe l n settled) → IsWritable lives.process k
       → ((t : Tables) (p : Process) → IsSpace (body v root trapframe l) t p → IsWritable p k
-      → (s : Page) × (s.fork_mark ≡ false) × IsSpace (body w root_after trapframe_after m) t (with_page p k s))
+      → (s : Page) × (s.cow ≡ false) × IsSpace (body w root_after trapframe_after m) t (with_page p k s))
       → Lives w root_after trapframe_after m n settled
   lives_kept k settled lives writable kept =
       let after = kept lives.tables lives.process lives.agrees writable in
@@ -137,10 +137,10 @@ Pages = List (ℕ × List ℕ)
 abbrev page_numbers : Pages → List ℕ
 page_numbers es = map (λ (e : ℕ × List ℕ). e.0) es
 
-begun : (es : Pages) (fresh k : ℕ) → Contains (page_numbers es) k → (s : Page) × (pages.get (from_list (numbered fresh es)) k ≡ Some s) × (s.fork_mark ≡ false)
+begun : (es : Pages) (fresh k : ℕ) → Contains (page_numbers es) k → (s : Page) × (pages.get (from_list (numbered fresh es)) k ≡ Some s) × (s.cow ≡ false)
 begun [] fresh k h = absurd (omega (arith, h.1))
 begun (e ∷ es) fresh k h =
-    let first : Page = record { bytes = e.1; copy = fresh; fork_mark = false; stored_mark = false } in
+    let first : Page = record { bytes = e.1; copy = fresh; cow = false; dirty = false } in
     elim (cases_eq k e.0) [
       | inl same ↦ (first, inserted_here e.0 first (from_list (numbered (fresh + 1) es)) k same, refl)
       | inr apart ↦ elim (first_or e.0 k (page_numbers es) h) [
@@ -154,7 +154,7 @@ begun (e ∷ es) fresh k h =
 begun_back : (es : Pages) (fresh k : ℕ) (s : Page) → pages.get (from_list (numbered fresh es)) k ≡ Some s → Contains (page_numbers es) k
 begun_back [] fresh k s at = absurd (cc)
 begun_back (e ∷ es) fresh k s at =
-    let first : Page = record { bytes = e.1; copy = fresh; fork_mark = false; stored_mark = false } in
+    let first : Page = record { bytes = e.1; copy = fresh; cow = false; dirty = false } in
     elim (cases_eq k e.0) [
       | inl same ↦ subst (λ x. Contains (x ∷ page_numbers es) k) same (in_front k (page_numbers es))
       | inr apart ↦ behind e.0 k (page_numbers es)
@@ -164,7 +164,7 @@ begun_back (e ∷ es) fresh k s at =
 none_begun : (es : Pages) (fresh k : ℕ) → (Contains (page_numbers es) k → ⊥) → pages.get (from_list (numbered fresh es)) k ≡ None
 none_begun [] fresh k out = refl
 none_begun (e ∷ es) fresh k out =
-    let first : Page = record { bytes = e.1; copy = fresh; fork_mark = false; stored_mark = false } in
+    let first : Page = record { bytes = e.1; copy = fresh; cow = false; dirty = false } in
     inserted_other e.0 first (from_list (numbered (fresh + 1) es)) k (λ same. out (subst (λ x. Contains (x ∷ page_numbers es) k) same (in_front k (page_numbers es))))
     ∙ none_begun es (fresh + 1) k (λ later. out (behind e.0 k (page_numbers es) later))
 

@@ -20,11 +20,11 @@ standard_regions =
     ∷ stack_at 4
     ∷ []
 
--- page n is settled, without fork mark, and its region grants writing
+-- page n is settled, without copy-on-write mark, and its region grants writing
 pub record IsWritable (p : Process) (n : ℕ) : Type 0 where
   pub page : Page
   pub settled : pages.get p.settled n ≡ Some page
-  pub unmarked : page.fork_mark ≡ false
+  pub unmarked : page.cow ≡ false
   pub region : Region
   pub in_region : region_at (regions p) n ≡ Some region
   pub writes : region.writes ≡ true

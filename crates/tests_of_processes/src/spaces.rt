@@ -128,7 +128,7 @@ fn kept<S: FrameSeat, F: FrameAccess<Seat = S>>(
     requires ready { (t : Tables) × (p : Process) × IsSpace (body_of S.view space.old) t p × IsWritable p (page_of va.0) }
     requires aligned { va.0 % 8 ≡ 0 }
     ensures agrees { (t : Tables) (p : Process) → IsSpace (body_of S.view space.old) t p → IsWritable p (page_of va.0) →
-        (s : Page) × (s.fork_mark ≡ false) × IsSpace (body_of S.view space.new) t (with_page p (page_of va.0) s) }
+        (s : Page) × (s.cow ≡ false) × IsSpace (body_of S.view space.new) t (with_page p (page_of va.0) s) }
     ensures layout { space.new.layout ≡ space.old.layout }
     ensures keeps { KeepsSeats F.rule store.old space.old.seat store.new space.new.seat }
 {

@@ -13,7 +13,7 @@ use process_model::Report;
 use std::alloc::{AllocError, Global};
 use sv39_entry::FrameNo;
 
-/// A settled page: its number, its frame, and whether it has the fork mark, and D.
+/// A settled page: its number, its frame, and whether it has the copy-on-write mark, and D.
 type Settled = (u64, FrameNo, bool, bool);
 
 /// The heap's size, the regions, the settled pages with their bytes, the bytes of the file, and the store's report.
@@ -92,7 +92,7 @@ fn see_pages<S: FrameSeat, F: FrameAccess<Seat = S>>(
         let number = found.page.number();
         picture
             .pages
-            .push((number, found.frame, found.fork_mark, found.dirty))?;
+            .push((number, found.frame, found.cow, found.dirty))?;
         picture.bytes.extend_from_slice(&bytes)?;
         from = number + 1;
     }

@@ -95,7 +95,7 @@ need_most shared p access page = by (get p.settled page)
 
     by : (o : Option Page) → resident_need_of shared p access page o ≤ resident_need_of true p access page o
     by None = omega arith
-    by (Some s) = unless (parts_from shared s) (parts_from true s) (can_complete access (region_on p page) s) (both s.fork_mark shared)
+    by (Some s) = unless (parts_from shared s) (parts_from true s) (can_complete access (region_on p page) s) (both s.cow shared)
 
 -- a resident page is settled
 settled_there : (access : Access) (p : Process) (page : ℕ) (o : Option Page) → get p.settled page ≡ o → is_resident_page access (region_on p page) o ≡ true → (s : Page) × (get p.settled page ≡ Some s)
@@ -458,7 +458,7 @@ module _ {Seat Frames Cabinet : Type 0} (l : StoreModel Seat Frames Cabinet) (co
       let goes = ap (is_resident_page Store (region_on held (page_of to))) (sym there) ∙ c.after.resident n (omega (arith, some)) in
       record {
         read = record { agrees = c.space; settled = there };
-        unmarked = not-true s.fork_mark (and_parts (not s.fork_mark) (s.stored_mark || not (keeps_stores (region_on held (page_of to)))) goes).0;
+        unmarked = not-true s.cow (and_parts (not s.cow) (s.dirty || not (keeps_stores (region_on held (page_of to)))) goes).0;
         region = can.region;
         in_region = can.in_region;
         writes = not-false (can.region).writes can.right;

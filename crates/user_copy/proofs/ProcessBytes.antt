@@ -78,7 +78,7 @@ module _ (files : List File) (fresh : ℕ) (shared : Bool) (access : Access) (pa
 
   made_page : (o : Option Page) → get p.settled page ≡ o → page_after (made_resident_from files fresh shared p access page o) ≡ page_bytes files p page o
   made_page None there =
-      let s : Page = record { bytes = initial_page files p page; copy = fresh; fork_mark = false; stored_mark = leaves_mark access (region_on p page) } in
+      let s : Page = record { bytes = initial_page files p page; copy = fresh; cow = false; dirty = leaves_mark access (region_on p page) } in
       ap (page_bytes files (made_resident_from files fresh shared p access page None) page) (inserted_here page s p.settled page refl)
   made_page (Some s) there = taken_page s (can_complete access (region_on p page) s) there
 

@@ -89,7 +89,7 @@ module _ {Seat Frames Cabinet : Type 0} (l : StoreModel Seat Frames Cabinet) (a 
       unmarked true is = absurd (cc)
       unmarked false is = refl
 
-      own : (q : Process) (s : Page) → get q.settled (page_of address) ≡ Some s → is_resident q access.Store (page_of address) ≡ true → s.fork_mark ≡ false
+      own : (q : Process) (s : Page) → get q.settled (page_of address) ≡ Some s → is_resident q access.Store (page_of address) ≡ true → s.cow ≡ false
       own q s settled resident =
           let goes = ap (is_resident_page access.Store (region_on q (page_of address))) (sym settled) ∙ resident in
-          unmarked s.fork_mark (and_parts (not s.fork_mark) (s.stored_mark || not (keeps_stores (region_on q (page_of address)))) goes).0
+          unmarked s.cow (and_parts (not s.cow) (s.dirty || not (keeps_stores (region_on q (page_of address)))) goes).0

@@ -55,7 +55,8 @@ module _ {Seat Frames Cabinet : Type 0} (l : StoreModel Seat Frames Cabinet) whe
     pub files : b.files ≡ a.files
     pub keeps : KeepsSeats l.rule a.store a.space.seat b.store b.space.seat
 
-  -- bytes were stored at an address of a settled page without fork mark whose region grants writing, and no frame was taken
+  -- bytes were stored at an address of a settled page without copy-on-write mark whose region grants writing, and no frame was
+  -- taken
   pub record Puts (a b : Place Seat Frames Cabinet) (address : ℕ) (bytes : List ℕ) : Type 0 where
     pub agrees : (t : Tables) (p : Process) (s : Page) → CanWrite (body_at l a) t p (page_of address) s
         → IsSpace (body_at l b) t (with_page p (page_of address) (stored s (address % 4096) bytes))

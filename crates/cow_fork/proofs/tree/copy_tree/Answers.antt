@@ -88,12 +88,12 @@ map_with_last-requires-clause-backed g c =
     let a = c.page-item.result in
     let writes = (region_of c.enter_region.new.region).writes in
     let next = (next_left r.0 r.1 k.1 c.pages.page-index c.args.settled.now k.4 a c.pages-test.true c.page-item.is).0 in
-    let mark : c.if-page.mark ≡ (a.fork_mark || writes) = elim c.if-page.branch [
-      | then-page w ↦ mark_had c.if-page.mark a.fork_mark writes w.mark-is w.if-page.true
-      | else-page w ↦ mark_new c.if-page.mark a.fork_mark w.lacks_right.result writes w.mark-is w.if-page.false w.lacks_right.ensures
+    let mark : c.if-page.cow ≡ (a.cow || writes) = elim c.if-page.branch [
+      | then-page w ↦ mark_had c.if-page.cow a.cow writes w.cow-is w.if-page.true
+      | else-page w ↦ mark_new c.if-page.cow a.cow w.lacks_right.result writes w.cow-is w.if-page.false w.lacks_right.ensures
     ] in
     page_backed _ _ _ _ _ _ c.leaf-leaf.ensures.leaf (page_known _ _ _ r.0 k.0 r.1 _ _ k.1 k.2 _ r.2 k.3 a next)
-    (λ allowed. absurd (child_unwritable writes a.fork_mark c.if-page.mark mark allowed))
+    (λ allowed. absurd (child_unwritable writes a.cow c.if-page.cow mark allowed))
 
 pub pages-preserved : goal.pages-preserved
 pages-preserved g c =
@@ -101,9 +101,9 @@ pages-preserved g c =
     let m = c.map_with_last.ensures in
     let a = c.page-item.result in
     let r = region_of c.enter_region.new.region in
-    let mark_is : c.if-page.mark ≡ (a.fork_mark || r.writes) = elim c.if-page.branch [
-      | then-page w ↦ mark_had c.if-page.mark a.fork_mark r.writes w.mark-is w.if-page.true
-      | else-page w ↦ mark_new c.if-page.mark a.fork_mark w.lacks_right.result r.writes w.mark-is w.if-page.false w.lacks_right.ensures
+    let mark_is : c.if-page.cow ≡ (a.cow || r.writes) = elim c.if-page.branch [
+      | then-page w ↦ mark_had c.if-page.cow a.cow r.writes w.cow-is w.if-page.true
+      | else-page w ↦ mark_new c.if-page.cow a.cow w.lacks_right.result r.writes w.cow-is w.if-page.false w.lacks_right.ensures
     ] in
     record {
       root = i.root;
@@ -121,8 +121,8 @@ pages-preserved g c =
           let small = page_low _ _ _ t k.0 p _ _ k.1 k.2 _ can k.3 a next in
           let law = c.missing_is_growth.ensures.missing p.scheme k.0 k.2 a.page k.3.tabled low small in
           let at = here g (goal.at.pages-preserved g c).After-enter_region t p can in
-          let mark_was = mark_is ∙ ap (λ b. b || r.writes) (next.3).fork_mark in
-          let made = child_leaf p a.page (next.3).page r c.leaf-leaf.result (a.frame).0 c.if-page.mark c.is_dirty_from_start.result at mark_was c.is_dirty_from_start.ensures c.leaf-leaf.ensures.leaf in
+          let mark_was = mark_is ∙ ap (λ b. b || r.writes) (next.3).cow in
+          let made = child_leaf p a.page (next.3).page r c.leaf-leaf.result (a.frame).0 c.if-page.cow c.is_dirty_from_start.result at mark_was c.is_dirty_from_start.ensures c.leaf-leaf.ensures.leaf in
           let same = can.lays.scheme ∙ sym c.scheme-scheme.ensures in
           let n = maps_near p.scheme c.scheme-scheme.result _ _ _ k.0 a.page c.leaf-leaf.result c.map_with_last.new.last same small
           (m.tables k.0 (tables_of_scheme same k.3.tables) (last_of_scheme k.0 c.pages.last same far.1)) in

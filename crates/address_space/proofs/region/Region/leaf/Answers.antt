@@ -17,6 +17,6 @@ returns-clause-leaf c =
       global = made.global;
       accessed = made.accessed;
       dirty = made.modified;
-      copy_on_write = made.copy_on_write;
+      cow = made.cow;
       unused = made.unused;
     }

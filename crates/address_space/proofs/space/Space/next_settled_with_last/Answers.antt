@@ -23,4 +23,4 @@ returns-clause-page g c t p space k =
     let low = low_page _ _ _ _ t p space c.args.first c.args.end c.args.end c.in_ok-page.page c.in_ok-page.leaf found (omega arith) up in
     let x = c.settled_by.ensures in
     next_is _ _ _ _ t p space c.args.first c.args.end c.args.end c.in_ok-page.page c.in_ok-page.leaf found (omega arith) up c.settled_by.result x.page
-    (page_is _ _ _ _ t p space c.in_ok-page.page c.in_ok-page.leaf low found.2 c.settled_by.result x.page x.frame x.fork_mark x.dirty)
+    (page_is _ _ _ _ t p space c.in_ok-page.page c.in_ok-page.leaf low found.2 c.settled_by.result x.page x.frame x.cow x.dirty)

@@ -23,7 +23,7 @@ returns-clause-page g c t p space =
     let low = below_trapframe space.lays.scheme c.requires.low in
     let leaf = sym (rw (number_is c.args.page same low) at (c.in_ok-leaf.ensures.leaf t (tables_of_scheme same space.stands.tables))) in
     let x = c.settled_by.ensures in
-    (x.page, page_is _ _ _ _ t p space c.args.page c.in_ok-leaf.leaf low leaf c.settled_by.result x.page x.frame x.fork_mark x.dirty)
+    (x.page, page_is _ _ _ _ t p space c.args.page c.in_ok-leaf.leaf low leaf c.settled_by.result x.page x.frame x.cow x.dirty)
 
 pub leaf_of-requires-clause-held : goal.leaf_of-requires-clause-held
 leaf_of-requires-clause-held g c = let r = c.requires.ready in (r.0, tables_of_scheme (r.2.lays.scheme ∙ sym c.scheme-scheme.ensures) r.2.stands.tables)

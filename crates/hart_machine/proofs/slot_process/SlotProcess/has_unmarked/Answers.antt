@@ -24,7 +24,7 @@ pages-preserved c = record {
       let i = c.pages.invariant.marked t p slot_process are in
       let x = c.page-item.result in
       let left = listed t p i.0 c.args.settled.now c.pages.page-index x c.pages-test.true c.page-item.is i.2 in
-      let is = sym (c.is_unmarked.ensures t p slot_process ∙ ap (λ (k : ℕ). not x.fork_mark && grants_write p k) c.number.ensures.value) ∙ c.if-is_unmarked.false in
+      let is = sym (c.is_unmarked.ensures t p slot_process ∙ ap (λ (k : ℕ). not x.cow && grants_write p k) c.number.ensures.value) ∙ c.if-is_unmarked.false in
       (x.page + 1, marked_further t p i.0 (trapframe_page p.scheme) x left.0 is i.1, left.1);
 }
 
@@ -33,7 +33,7 @@ returns-then-is_unmarked-clause-some c = λ told t p slot_process are.
     let i = c.pages.invariant.marked t p slot_process are in
     let x = c.page-item.result in
     let left = listed t p i.0 c.args.settled.now c.pages.page-index x c.pages-test.true c.page-item.is i.2 in
-    let is = sym (c.is_unmarked.ensures t p slot_process ∙ ap (λ (k : ℕ). not x.fork_mark && grants_write p k) c.number.ensures.value) ∙ c.if-is_unmarked.true in
+    let is = sym (c.is_unmarked.ensures t p slot_process ∙ ap (λ (k : ℕ). not x.cow && grants_write p k) c.number.ensures.value) ∙ c.if-is_unmarked.true in
     some_unmarked t p i.0 (trapframe_page p.scheme) x left.0 is
 
 pub returns-clause-none : goal.returns-clause-none
