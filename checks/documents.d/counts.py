@@ -67,7 +67,6 @@ def about(count):
     return lambda sources: range(int(0.95 * count(sources)), int(1.05 * count(sources)) + 1)
 
 
-CONFIG, CALL = "crates/process_model/src/config.rt", "crates/process_model/src/call.rt"
 TABLE, HEADER = "crates/script_reader/src/table.rt", "crates/xv6vm_c/include/xv6vm.h"
 EXACT = ("SCRIPTS.md", "CONTRACTS.md", "DEFINITIONS.md", "ARCHITECTURE.md", "MMU.md", "WORKBENCH.md")
 # A piece of a script has 32,768 bytes; a line of 2,097,664 has 1,048,830 of a file; the client of MMU.md makes 50,000 accesses.
@@ -94,24 +93,24 @@ RULES = [
     (rf"each of {N} is found", occurrences("checks/programs", r'^    \(".*", ".*", \w+.*\),$')),
     (rf"\[Row; {N}\]", lambda sources: set(map(int, re.findall(r"\[Row; (\d+)\]", sources.text(TABLE))))),
     (rf"first of {N} rules", variants("Rule", less=1)),
-    (rf"(?:1 to|up to) {N} harts", found(CONFIG, r"1\.\.=(\d+)\)\.contains\(&self\.harts")),
-    (rf"harts, 16 to {N} frames", found(CONFIG, r"16\.\.=(\d+)\)\.contains\(&self\.frames")),
-    (rf"`pool FRAMES SLOTS` \| 16 to {N} frames", found(CALL, r"16\.\.=(\d+)\)\.contains\(&self\.frames")),
-    (rf"(?: 1 to|at most|up to) {N} slots", found(CONFIG, r"1\.\.=(\d+)\)\.contains\(&self\.slots")),
+    (rf"(?:1 to|up to) {N} harts", constant("MOST_HARTS")),
+    (rf"harts, 16 to {N} frames", constant("MOST_FRAMES")),
+    (rf"`pool FRAMES SLOTS` \| 16 to {N} frames", constant("MOST_SHARED_FRAMES")),
+    (rf"(?: 1 to|at most|up to) {N} slots", constant("MOST_SLOTS")),
     (rf"at most {N} history entries", constant("MOST_USES")),
     (rf"all processes together have {N} pages", constant("MOST_USES")),
-    (rf"(?:buffer|TLB) (?:holds|has at most) {N} entries", constant("buffer_size")),
+    (rf"(?:buffer|TLB) (?:holds|has at most) {N} entries", constant("BUFFER_SIZE")),
     (rf"chooses {N} \(`BUFFER_SIZE`", constant("BUFFER_SIZE")),
     (rf"{N} entries are kept", constant("PLACES")),
-    (rf"the process has {N} mappings?\b", constant("most_mappings")),
-    (rf"1 to {N} segments", constant("most_segments")),
-    (rf"at most {N} files, \d+ images", constant("most_files")),
-    (rf"at most \d+ files, {N} images", constant("most_images")),
-    (rf"images, and {N} lines after `boot`", constant("most_commands")),
-    (rf"A script has at most {N} bytes", constant("longest_script")),
-    (rf"a line at most {N} without its end", constant("longest_line")),
-    (rf"are its own, at most {N}\b", constant("most_calls")),
-    (rf"journal, of at most {N} entries", constant("most_entries")),
+    (rf"the process has {N} mappings?\b", constant("MOST_MAPPINGS")),
+    (rf"1 to {N} segments", constant("MOST_SEGMENTS")),
+    (rf"at most {N} files, \d+ images", constant("MOST_FILES")),
+    (rf"at most \d+ files, {N} images", constant("MOST_IMAGES")),
+    (rf"images, and {N} lines after `boot`", constant("MOST_COMMANDS")),
+    (rf"A script has at most {N} bytes", constant("LONGEST_SCRIPT")),
+    (rf"a line at most {N} without its end", constant("LONGEST_LINE")),
+    (rf"are its own, at most {N}\b", constant("MOST_CALLS")),
+    (rf"journal, of at most {N} entries", constant("MOST_ENTRIES")),
     (rf"A piece of at most {N} bytes is read", found("crates/audit_player/src/transfer.rt", r"\[0u8; (\d+)\]")),
     (rf"which is written at {N} bytes", constant("PAGE")),
     (rf"`PackedCommand` of {N} bytes", found("crates/script_reader/src/commands.rt", r"size_of::<PackedCommand>\(\) == (\d+)")),
@@ -120,7 +119,7 @@ RULES = [
     (rf"Above {N} frames, free frames", constant("MOST_UNFOLDED")),
     (rf"At most {N} pages of a", constant("MOST_PAGES")),
     (rf"and {N} cells of frames", constant("MOST_CELLS")),
-    (rf"cop[iy][^.|:]{{0,60}}at most {N}(?! pages)", constant("longest_copy")),
+    (rf"cop[iy][^.|:]{{0,60}}at most {N}(?! pages)", constant("LONGEST_COPY")),
 ]
 
 
