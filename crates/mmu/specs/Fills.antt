@@ -1,11 +1,10 @@
 -- What a fill does to the TLB of an `Mmu`, and which number its new entry has (`Filled`).
 use Rattle.std.specs.Prelude.{◌≡◌, ℕ, ◌+◌, Option, None, Some, IfNone, IfSome, [], ◌∷◌, ◌++◌, length}
-use Rattle.sv39_entry.specs.Satp.{asid, root_ppn}
+use Rattle.sv39_entry.specs.Satp.{asid, root_ppn, scheme_of}
 use Rattle.sv39_entry.specs.declared.scheme.Scheme.{Scheme}
 use Rattle.hart_tlb.specs.Buffer.{newest_entries}
 use Rattle.hart_tlb.specs.Outcome.{EndsInAccessFault, IsOutcome}
 use Rattle.hart_tlb.specs.declared.entry.TlbEntry.{TlbEntry}
-use Rattle.mmu.specs.Outcomes.{scheme_of}
 use Rattle.mmu.specs.Sparse.{word_of}
 use Rattle.mmu.specs.Words.{extent_of, memory_of}
 use Rattle.mmu.specs.declared.unit.Mmu.{Mmu}

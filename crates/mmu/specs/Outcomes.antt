@@ -4,11 +4,10 @@ use Rattle.std.specs.Prelude.{◌≡◌, ℕ, ◌%◌, ◌==◌, ◌&&◌, ◌||
 use Rattle.std.specs.List.{filter_map, range_with_len}
 use Rattle.sv39_entry.specs.Address.{page_of}
 use Rattle.sv39_entry.specs.Causes.{access_fault_cause, misaligned_cause}
-use Rattle.sv39_entry.specs.Satp.{asid, mode, root_ppn}
+use Rattle.sv39_entry.specs.Satp.{asid, mode, root_ppn, scheme_of}
 use Rattle.sv39_entry.specs.declared.access.Access.{Access}
 use Rattle.sv39_entry.specs.declared.access.Mode.{Mode}
 use Rattle.sv39_entry.specs.declared.scheme.Scheme.{Scheme}
-use Rattle.sv39_entry.specs.declared.scheme.Scheme.TheVariants.{Sv39, Sv48}
 use Rattle.table_walk.specs.Leaves.{Leaf, answer}
 use Rattle.table_walk.specs.Memory.{Extent, has_byte}
 use Rattle.table_walk.specs.Walk.{Translates}
@@ -27,10 +26,6 @@ bytes width.One = 1
 bytes width.Two = 2
 bytes width.Four = 4
 bytes width.Eight = 8
-
--- the scheme that a word of satp selects; None: Bare (the standard, 4.1.11)
-abbrev pub scheme_of : ℕ → Option Scheme
-scheme_of satp = if mode satp == 8 then Some Sv39 else (if mode satp == 9 then Some Sv48 else None)
 
 -- satp after a write of a word: Bare has no other field that is not 0, and other modes are not written (the standard, 4.1.11)
 abbrev pub satp_after : ℕ → ℕ → ℕ

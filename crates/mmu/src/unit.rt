@@ -5,12 +5,11 @@ ghost use Rattle.hart_tlb.specs.Entries.{is_fenced};
 ghost use Rattle.hart_tlb.specs.Outcome.{IsOutcome};
 ghost use Rattle.hart_tlb.specs.declared.entry.TlbEntry.{TlbEntry};
 ghost use Rattle.mmu.specs.Fills.{Filled};
-ghost use Rattle.mmu.specs.Outcomes.{AreOutcomes, bare, by_entries, by_entry, if_may_serve, inside, may_serve, satp_after, scheme_of, serving};
+ghost use Rattle.mmu.specs.Outcomes.{AreOutcomes, bare, by_entries, by_entry, if_may_serve, inside, may_serve, satp_after, serving};
 ghost use Rattle.mmu.specs.Sparse.{word_of};
 ghost use Rattle.mmu.specs.Words.{added, extent_of, written};
 ghost use Rattle.mmu.specs.declared.outcome.Outcome.TheVariants as outcome;
 ghost use Rattle.sv39_entry.specs.Satp as satps;
-ghost use Rattle.sv39_entry.specs.Schemes.{mode_of};
 ghost use Rattle.sv39_entry.specs.declared.scheme.Scheme.{Scheme};
 ghost use Rattle.table_walk.specs.Memory.{Extent, Memory};
 ghost use Rattle.table_walk.specs.Walk.{Translates};
@@ -20,7 +19,7 @@ use crate::memory::SparseMemory;
 use crate::outcome::{Outcome, Width};
 use hart_tlb::{Buffer, TlbEntry};
 use std::alloc::{AllocError, Global};
-use sv39_entry::{Access, Mode, Satp, Scheme, Va};
+use sv39_entry::{Access, Mode, Satp, Va};
 use table_walk::{Walk, has_byte, translate};
 
 /// How many entries the TLB has at most.
@@ -32,18 +31,6 @@ pub struct Mmu {
     memory: SparseMemory,
     satp: Satp,
     buffer: Buffer<PLACES>,
-}
-
-/// Returns the scheme that satp selects; `None` for Bare.
-fn scheme_of(satp: Satp) -> Option<Scheme>
-    ensures scheme { result ≡ scheme_of satp }
-    ensures mode { IfSome result (λ s. satps.mode satp ≡ mode_of s) }
-{
-    match satp.mode() {
-        8 => Some(Scheme::Sv39),
-        9 => Some(Scheme::Sv48),
-        _ => None,
-    }
 }
 
 /// Whether an entry may serve an access to an address under an ASID: its leaf maps the address or, if it records none, it is for
@@ -131,7 +118,7 @@ impl Mmu {
         ensures satp { self.new.satp ≡ satp_after self.old.satp satp }
         ensures others { (self.new.memory ≡ self.old.memory) × (self.new.buffer ≡ self.old.buffer) }
     {
-        if satp.to_word() == 0 || scheme_of(satp).is_some() {
+        if satp.to_word() == 0 || satp.scheme().is_some() {
             self.satp = satp;
         }
     }
@@ -143,7 +130,7 @@ impl Mmu {
         ensures filled { Filled self.old va.0 self.new result }
         ensures others { (self.new.memory ≡ self.old.memory) × (self.new.satp ≡ self.old.satp) }
     {
-        let Some(scheme) = scheme_of(self.satp) else {
+        let Some(scheme) = self.satp.scheme() else {
             return None;
         };
         // a TLB of one place tells whether the walk has an outcome
@@ -178,7 +165,7 @@ impl Mmu {
         ensures { OnOk result (found.new.items ≡ serving self.now.satp self.now.buffer va.0) }
     {
         found.clear();
-        if scheme_of(self.satp).is_none() {
+        if self.satp.scheme().is_none() {
             return Ok(());
         }
         'entries: for n in 0..self.buffer.len() {
@@ -291,7 +278,7 @@ impl Mmu {
         if va.0 % width.bytes() != 0 {
             return push(found, Outcome::Misaligned(access.misaligned_cause()));
         }
-        let Some(scheme) = scheme_of(self.satp) else {
+        let Some(scheme) = self.satp.scheme() else {
             return push(found, self.bare(va, access));
         };
         let root = self.satp.ppn();

@@ -1,7 +1,7 @@
-// Struct `Satp`, a value of the satp register: made of a scheme, an ASID and the frame of a root table, or of 64 bits; and
-// its fields MODE, ASID and PPN.
+// Struct `Satp`, a value of the satp register: made of a scheme, an ASID and the frame of a root table, or of 64 bits; its
+// fields MODE, ASID and PPN, and the scheme that MODE selects.
 
-ghost use Rattle.std.specs.Prelude.{◌≡◌};
+ghost use Rattle.std.specs.Prelude.{◌≡◌, IfSome};
 ghost use Rattle.sv39_entry.specs.Frame.{ppn_of};
 ghost use Rattle.sv39_entry.specs.Satp as words;
 ghost use Rattle.sv39_entry.specs.Schemes.{mode_of};
@@ -61,6 +61,19 @@ impl Satp {
         ensures { result ≡ words.mode self }
     {
         self.word >> 60
+    }
+
+    /// Returns the scheme that MODE selects: Sv39 by 8, Sv48 by 9. `None`: MODE is 0 (Bare, no translation), or a mode that is
+    /// not supported here.
+    pub fn scheme(self) -> Option<Scheme>
+        ensures scheme { result ≡ words.scheme_of self }
+        ensures mode { IfSome result (λ s. words.mode self ≡ mode_of s) }
+    {
+        match self.mode() {
+            8 => Some(Scheme::Sv39),
+            9 => Some(Scheme::Sv48),
+            _ => None,
+        }
     }
 
     /// Returns the ASID field, bits 59 to 44: the address-space identifier.

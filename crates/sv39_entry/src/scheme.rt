@@ -28,14 +28,20 @@ impl Scheme {
         }
     }
 
+    /// Returns the highest bit of the table indices in an address: 38 under Sv39, 47 under Sv48. There are nine bits for each
+    /// level, above the 12 bits of the offset.
+    fn sign_bit(self) -> u32
+        ensures value { result ≡ words.sign_bit self }
+        ensures few { 11 ≤ result × (result < 48) }
+    {
+        9 * (self.top_level() + 1) + 11
+    }
+
     /// Returns how many pages the table indices of all levels distinguish: 2^27 under Sv39, 2^36 under Sv48.
     pub fn page_limit(self) -> u64
         ensures value { result ≡ words.page_limit self }
     {
-        match self {
-            Scheme::Sv39 => 1 << 27,
-            Scheme::Sv48 => 1 << 36,
-        }
+        1 << (self.sign_bit() - 11)
     }
 
     /// Returns the MODE of satp for the scheme: 8 for Sv39, 9 for Sv48 (the standard, 4.1.11).
@@ -54,10 +60,7 @@ impl Scheme {
     pub fn maxva(self) -> Va
         ensures { result.0 ≡ words.maxva self }
     {
-        match self {
-            Scheme::Sv39 => Va(1 << 38),
-            Scheme::Sv48 => Va(1 << 47),
-        }
+        Va(1 << self.sign_bit())
     }
 
     /// Returns TRAMPOLINE, the address of the trampoline page in every address space: the highest page below MAXVA (the xv6
@@ -65,10 +68,7 @@ impl Scheme {
     pub fn trampoline(self) -> Va
         ensures { result.0 ≡ 4096 * words.trampoline_page self }
     {
-        match self {
-            Scheme::Sv39 => Va((1 << 38) - 4096),
-            Scheme::Sv48 => Va((1 << 47) - 4096),
-        }
+        Va(self.maxva().0 - PAGE_SIZE)
     }
 
     /// Returns TRAPFRAME, the address of a process's trapframe: the page below the trampoline (the xv6 book, "Process
@@ -76,10 +76,7 @@ impl Scheme {
     pub fn trapframe(self) -> Va
         ensures { result.0 ≡ 4096 * words.trapframe_page self }
     {
-        match self {
-            Scheme::Sv39 => Va((1 << 38) - 2 * 4096),
-            Scheme::Sv48 => Va((1 << 47) - 2 * 4096),
-        }
+        Va(self.maxva().0 - 2 * PAGE_SIZE)
     }
 
     /// Returns KSTACK(slot), the address of a slot's kernel stack: 2 * (slot + 1) pages below the trampoline, so that one
@@ -102,15 +99,8 @@ impl Scheme {
     fn has_equal_upper_bits(self, va: Va) -> bool
         ensures { result ≡ words.is_canonical self va.0 }
     {
-        match self {
-            Scheme::Sv39 => {
-                let upper = va.0 >> 38;
-                upper == 0 || upper == 0x3ff_ffff
-            }
-            Scheme::Sv48 => {
-                let upper = va.0 >> 47;
-                upper == 0 || upper == 0x1_ffff
-            }
-        }
+        let sign_bit = self.sign_bit();
+        let upper = va.0 >> sign_bit;
+        upper == 0 || upper == u64::MAX >> sign_bit
     }
 }

@@ -8,7 +8,7 @@ mod plain;
 mod tables;
 
 use crate::plain::plain_walk;
-use crate::tables::{PAGES, ROOT, TALL_ROOT, addresses, scheme_of, words};
+use crate::tables::{PAGES, ROOT, TALL_ROOT, addresses, root_scheme, words};
 use std::io;
 use std::time::{Duration, Instant};
 use sv39_entry::{Access, FrameNo, Mode, Scheme, Va};
@@ -39,7 +39,7 @@ fn proved_round(scheme: Scheme, words: &[u64], root: u16, addresses: &[u64]) -> 
 /// Makes all rounds with `translate`, by the tables below a root; returns the sum of the physical
 /// addresses found, modulo 2^64.
 fn proved_rounds(words: &[u64], root: u16, addresses: &[u64]) -> u64 {
-    let scheme = scheme_of(words, root);
+    let scheme = root_scheme(words, root);
     let mut sum = 0u64;
     for _ in 0..ROUNDS {
         sum = sum.wrapping_add(proved_round(scheme, words, root, addresses));

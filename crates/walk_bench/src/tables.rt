@@ -1,5 +1,5 @@
 // Builds the input of the benchmark: the words of page tables for Sv39 and Sv48 that map 1,000 pages, and the virtual
-// addresses, one on each page, in the order of the walks; and finds the scheme of a root (`scheme_of`).
+// addresses, one on each page, in the order of the walks; and finds the scheme of a root (`root_scheme`).
 
 use std::alloc::{AllocError, Global};
 use sv39_entry::{Entry, FrameNo, Rights, Scheme};
@@ -15,7 +15,7 @@ pub(crate) const TALL_ROOT: u16 = 1005;
 
 /// Returns the scheme of a root by its entry 0, so that the compiler does not know the scheme: Sv48 if
 /// that points to the Sv39 root.
-pub(crate) fn scheme_of(words: &[u64], root: u16) -> Scheme {
+pub(crate) fn root_scheme(words: &[u64], root: u16) -> Scheme {
     if words.get(usize::from(root) * 512) == Some(&Entry::pointer(FrameNo(ROOT)).to_word()) {
         Scheme::Sv48
     } else {

@@ -3,7 +3,7 @@ use Rattle.std.proofs.Common.{◌≡◌, ℕ, Option, None, Some, Bool, true, fa
 use Rattle.std.specs.Prelude.{◌==◌, ◌&&◌, is_some, not}
 use Rattle.std.proofs.lemmas.Bool.{eq-eqb}
 use Rattle.lent_memory.specs.Memory.{Lent, lent_extent, lent_memory}
-use Rattle.sv39_entry.specs.Satp.{root_ppn}
+use Rattle.sv39_entry.specs.Satp.{root_ppn, scheme_of}
 use Rattle.sv39_entry.specs.declared.access.Access.{Access}
 use Rattle.sv39_entry.specs.declared.access.Mode.{Mode}
 use Rattle.sv39_entry.specs.declared.scheme.Scheme.{Scheme}
@@ -11,7 +11,7 @@ use Rattle.table_walk.specs.Memory.{Extent, Memory}
 use Rattle.table_walk.specs.Walk.{Translates}
 use Rattle.table_walk.specs.declared.walk.Walk.{Walk}
 use Rattle.xv6vm_c.specs.Answers.{IsTranslation}
-use Rattle.xv6vm_c.specs.Codes.{access_of, is_bare, mode_of, outcome_of, scheme_of}
+use Rattle.xv6vm_c.specs.Codes.{access_of, is_bare, mode_of, outcome_of}
 use Rattle.xv6vm_c.specs.declared.codes.Outcome.{Outcome}
 
 -- the law that a walk has one outcome

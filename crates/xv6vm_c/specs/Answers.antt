@@ -6,7 +6,7 @@ use Rattle.hart_tlb.specs.declared.entry.TlbEntry.{TlbEntry}
 use Rattle.lent_memory.specs.Memory.{Lent, lent_extent, lent_memory}
 use Rattle.lent_memory.specs.Entries.{entry_at}
 use Rattle.lent_memory.specs.declared.entry.LentEntry.{LentEntry}
-use Rattle.sv39_entry.specs.Satp.{asid, root_ppn}
+use Rattle.sv39_entry.specs.Satp.{asid, root_ppn, scheme_of}
 use Rattle.sv39_entry.specs.declared.access.Access.{Access}
 use Rattle.sv39_entry.specs.declared.access.Mode.{Mode}
 use Rattle.sv39_entry.specs.declared.scheme.Scheme.{Scheme}
@@ -14,7 +14,7 @@ use Rattle.sv39_entry.specs.declared.address.Va.{Va}
 use Rattle.table_walk.specs.Leaves.{answer}
 use Rattle.table_walk.specs.Walk.{Translates}
 use Rattle.table_walk.specs.declared.walk.Walk.{Walk}
-use Rattle.xv6vm_c.specs.Codes.{access_of, bare_outcome, is_bare, mode_of, no_entry, outcome_of, scheme_of, unknown}
+use Rattle.xv6vm_c.specs.Codes.{access_of, bare_outcome, is_bare, mode_of, no_entry, outcome_of, unknown}
 use Rattle.xv6vm_c.specs.declared.codes.Outcome.{Outcome}
 
 pub record IsTranslation (m : Lent) (satp address access mode : ℕ) (o : Outcome) : Type 0 where

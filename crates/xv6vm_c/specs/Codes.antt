@@ -1,12 +1,10 @@
--- The numbers by which C programs name accesses, privilege modes, schemes of translation and outcomes.
+-- The numbers by which C programs name accesses, privilege modes and outcomes.
 use Rattle.std.specs.Prelude.{ℕ, ◌==◌, Bool, Option, Some, None, if◌then◌else◌}
 use Rattle.sv39_entry.specs.Satp as satps
 use Rattle.sv39_entry.specs.declared.access.Access.{Access}
 use Rattle.sv39_entry.specs.declared.access.Access.TheVariants as access
 use Rattle.sv39_entry.specs.declared.access.Mode.{Mode}
 use Rattle.sv39_entry.specs.declared.access.Mode.TheVariants as mode
-use Rattle.sv39_entry.specs.declared.scheme.Scheme.{Scheme}
-use Rattle.sv39_entry.specs.declared.scheme.Scheme.TheVariants.{Sv39, Sv48}
 use Rattle.table_walk.specs.Memory.{physical_address}
 use Rattle.table_walk.specs.declared.walk.Found.{Found}
 use Rattle.table_walk.specs.declared.walk.Found.TheVariants as found
@@ -22,10 +20,6 @@ access_of code = if code == 0 then Some access.Fetch else (if code == 1 then Som
 -- the privilege mode with a code; None if the code names none
 abbrev pub mode_of : ℕ → Option Mode
 mode_of code = if code == 0 then Some mode.User else (if code == 1 then Some mode.Supervisor else None)
-
--- the scheme of a satp: MODE 8 is Sv39, 9 is Sv48; None for every other MODE
-abbrev pub scheme_of : ℕ → Option Scheme
-scheme_of satp = if satps.mode satp == 8 then Some Sv39 else (if satps.mode satp == 9 then Some Sv48 else None)
 
 -- MODE 0 is Bare: no translation
 abbrev pub is_bare : ℕ → Bool

@@ -4,7 +4,7 @@
 ghost use Rattle.std.specs.Prelude.{◌≡◌, ◌≤◌};
 ghost use Rattle.xv6vm_c.specs.Codes as codes;
 
-use sv39_entry::{Access, Entry, Mode, Satp, Scheme, Va};
+use sv39_entry::{Access, Entry, Mode, Satp, Va};
 use table_walk::{Walk, physical_address};
 
 /// The outcome of the translation of an access. What does not belong to its status is 0.
@@ -59,17 +59,6 @@ pub(crate) fn mode_of(code: u32) -> Option<Mode>
     match code {
         0 => Some(Mode::User),
         1 => Some(Mode::Supervisor),
-        _ => None,
-    }
-}
-
-/// Returns the scheme of a satp; `None` if its MODE is that of neither.
-pub(crate) fn scheme_of(satp: Satp) -> Option<Scheme>
-    ensures { result ≡ codes.scheme_of satp }
-{
-    match satp.mode() {
-        8 => Some(Scheme::Sv39),
-        9 => Some(Scheme::Sv48),
         _ => None,
     }
 }

@@ -12,16 +12,16 @@ ghost use Rattle.hart_tlb.specs.Outcome.{EndsInAccessFault, IsOutcome};
 ghost use Rattle.hart_tlb.specs.declared.entry.TlbEntry.{TlbEntry};
 ghost use Rattle.lent_memory.specs.Entries.{entries_of, entry_at, entry_in, unfenced, IsLast};
 ghost use Rattle.lent_memory.specs.Memory.{lent_extent, lent_memory, Lent};
-ghost use Rattle.sv39_entry.specs.Satp.{asid, root_ppn};
+ghost use Rattle.sv39_entry.specs.Satp.{asid, root_ppn, scheme_of};
 ghost use Rattle.sv39_entry.specs.declared.scheme.Scheme.{Scheme};
 ghost use Rattle.table_walk.specs.Walk.{Finds};
 ghost use Rattle.table_walk.specs.declared.walk.Found.{Found};
-ghost use Rattle.xv6vm_c.specs.Codes.{bare_leaf, is_bare, leaf_of, scheme_of, unknown_leaf};
+ghost use Rattle.xv6vm_c.specs.Codes.{bare_leaf, is_bare, leaf_of, unknown_leaf};
 ghost use Rattle.xv6vm_c.specs.Answers.{address_if, asid_if, Caches, IsCached, IsTranslation, IsUse};
 
 use crate::codes::{
     access_of, bare_leaf, bare_outcome, is_bare, leaf_at, mode_of, no_entry, no_leaf, outcome_of,
-    outside, scheme_of, unknown, unknown_leaf,
+    outside, unknown, unknown_leaf,
 };
 pub use codes::{Leaf, Outcome};
 use lent_memory::{LentEntry, LentWords, evict, fence, fill, next_match, use_entry};
@@ -54,7 +54,7 @@ pub extern "C" fn xv6vm_translate(
     if is_bare(satp) {
         return bare_outcome(address);
     }
-    let Some(scheme) = scheme_of(satp) else {
+    let Some(scheme) = satp.scheme() else {
         return unknown(3);
     };
     let mut memory = LentWords::new(base_ppn, words);
@@ -73,7 +73,7 @@ pub extern "C" fn xv6vm_lookup(words: &[u64], base_ppn: u64, satp: u64, address:
     if is_bare(satp) {
         return bare_leaf(address);
     }
-    let Some(scheme) = scheme_of(satp) else {
+    let Some(scheme) = satp.scheme() else {
         return unknown_leaf();
     };
     let mut memory = LentWords::new(base_ppn, words);
@@ -113,7 +113,7 @@ pub extern "C" fn xv6vm_tlb_fill(
     if is_bare(satp) {
         return 3;
     }
-    let Some(scheme) = scheme_of(satp) else {
+    let Some(scheme) = satp.scheme() else {
         return 6;
     };
     let mut memory = LentWords::new(base_ppn, words);
@@ -225,7 +225,7 @@ pub extern "C" fn xv6vm_permits(
         return 1;
     }
     let satp = Satp::from_word(satp);
-    if scheme_of(satp).is_none() {
+    if satp.scheme().is_none() {
         return 0;
     }
     let (Some(access), Some(mode)) = (access_of(access), mode_of(mode)) else {

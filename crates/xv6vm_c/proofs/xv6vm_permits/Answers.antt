@@ -1,11 +1,10 @@
 use Rattle.std.proofs.Common.{◌≡◌, inr, true, false, ap, sym, subst, ◌∙◌, ℕ}
 use Rattle.std.proofs.lemmas.Option.{same_Some}
 use Rattle.lent_memory.specs.Entries.{entry_at}
-use Rattle.sv39_entry.specs.Satp.{asid}
+use Rattle.sv39_entry.specs.Satp.{asid, scheme_of}
 use Rattle.sv39_entry.specs.declared.access.Access.{Access}
 use Rattle.sv39_entry.specs.declared.access.Mode.{Mode}
 use Rattle.xv6vm_c.specs.Answers.{Caches}
-use Rattle.xv6vm_c.specs.Codes.{scheme_of}
 use Rattle.xv6vm_c.proofs.Permits.{all_equal, one_translation, some_scheme}
 use Rattle.xv6vm_c.proofs.xv6vm_permits.Goals as goal
 
@@ -18,11 +17,11 @@ returns-then-is_none-clause-not_now c = λ _ now.
 pub returns-then-is_cached-clause-yes : goal.returns-then-is_cached-clause-yes
 returns-then-is_cached-clause-yes c = λ _.
     let found = c.is_cached.ensures.yes c.if-is_cached.true in
-    let s = some_scheme c.scheme_of.result c.is_none.result c.is_none.ensures c.if-is_none.false in
+    let s = some_scheme c.scheme.result c.is_none.result c.is_none.ensures c.if-is_none.false in
     let space : c.asid.result ≡ asid c.args.satp = c.asid.ensures ∙ ap asid c.from_word-satp.ensures in
     inr (record {
       scheme = s.0;
-      in_scheme = sym (c.scheme_of.ensures ∙ ap scheme_of c.from_word-satp.ensures) ∙ s.1;
+      in_scheme = sym (c.scheme.ensures.scheme ∙ ap scheme_of c.from_word-satp.ensures) ∙ s.1;
       kind = c.in-Some-Some.access;
       of_kind = sym c.access_of.ensures ∙ c.in-Some-Some.is-0;
       privilege = c.in-Some-Some.mode;

@@ -35,7 +35,7 @@ returns-then-len-eq0-clause-filled c =
       bare = λ is. (refl, none.1);
       added = λ s is. tt;
       fault = λ s is.
-          let same = ap (λ o. unwrap_or o s) (sym c.in-Some.is ∙ c.scheme_of.ensures.scheme ∙ is) in
+          let same = ap (λ o. unwrap_or o s) (sym c.in-Some.is ∙ c.scheme.ensures.scheme ∙ is) in
           (subst (Ends satp c.args.va.0 m) same none.0, none.1);
     }
 
@@ -59,9 +59,9 @@ returns-clause-filled c =
     let added = one_added small large (omega (arith, c.len.ensures.value, c.if-len-eq0.false)) in
     let some = some_newest PLACES c.args.self.now.buffer added.0 (omega arith) in
     record {
-      bare = λ is. let none = sym c.in-Some.is ∙ c.scheme_of.ensures.scheme ∙ is in absurd (cc);
+      bare = λ is. let none = sym c.in-Some.is ∙ c.scheme.ensures.scheme ∙ is in absurd (cc);
       added = λ s is.
-          let same = ap (λ o. unwrap_or o s) (sym c.in-Some.is ∙ c.scheme_of.ensures.scheme ∙ is) in
+          let same = ap (λ o. unwrap_or o s) (sym c.in-Some.is ∙ c.scheme.ensures.scheme ∙ is) in
           let under = subst (Adds satp c.args.va.0 m c.args.self.now.buffer c.fill-2.new.self) same added in
           (under.0, under.1, under.2, omega (arith, c.len-2.ensures.value, ap length added.2, some));
       fault = λ s is. tt;
