@@ -1,4 +1,4 @@
--- The relation `IsSpace`: a space in memory is this process of the model. Its parts: the references that the seat (an
+-- The relation `IsSpace`: a space in memory is this process of the model (`IsAlive`: some process). Its parts: the references that the seat (an
 -- owner's capability at a frame store) has; leaf, frame and bytes of each settled page (one in memory); which page tables
 -- there are. Also what a seat holds before a build and after a teardown, record `Body` (a space as contracts see it), the
 -- leaf of a region's page, and what a step keeps of the leaves; with two small laws.
@@ -154,6 +154,10 @@ pub record IsSpace (x : Body) (t : Tables) (p : Process) : Type 0 where
   pub lays : LaysOut x.layout p
   pub stands : IsInMemory x.view x.root x.trapframe no_extra t p
   pub credits : x.view.credits ≡ 0
+
+-- the space is some process of the model, by some page tables
+abbrev pub IsAlive : Body → Type 0
+IsAlive x = (t : Tables) × (p : Process) × IsSpace x t p
 
 -- steps
 

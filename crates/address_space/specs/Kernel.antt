@@ -1,8 +1,10 @@
 -- Predicates of the kernel's page table (the xv6 book, "Kernel address space"; no device is mapped): to which frame and by
 -- which rights a page is mapped (frames at their own addresses, the trampoline, a stack for each slot of the process table);
 -- the outcome of a kernel access; which tables this needs, and how many; what the seat (an owner's capability at a frame
--- store) holds; and the whole table, `IsKernelTable`. No leaf is for the user.
+-- store) holds; and the whole table, `IsKernelTable`. No leaf is for the user. With one law.
 use Rattle.std.specs.Prelude.{◌≡◌, ℕ, zero, suc, Bool, true, false, ◌+◌, ◌-◌, ◌*◌, ◌/◌, ◌%◌, ◌^◌, ◌<◌, ◌≤◌, ◌==◌, ◌&&◌, ◌||◌, nat_le, nat_lt, if◌then◌else◌, Option, None, Some, option_map, is_some, List, [], ◌∷◌, length, slice_get}
+use Rattle.std.proofs.Common.{subst}
+use Rattle.std.proofs.lemmas.Bool.{ne_eqb}
 use Rattle.std.specs.FinMap.{FinMap, get}
 use Rattle.std.specs.Ordering.{nat_cmp}
 use Rattle.frame_store.specs.View.{View, IsSole, references}
@@ -10,7 +12,7 @@ use Rattle.sv39_entry.specs.Address.{page_of, page_offset}
 use Rattle.sv39_entry.specs.Causes.{page_fault_cause}
 use Rattle.sv39_entry.specs.Frame.{ppn_of}
 use Rattle.sv39_entry.specs.Rights.{grants}
-use Rattle.sv39_entry.specs.Word.{leaf_word}
+use Rattle.sv39_entry.specs.Word.{IsLeafOf, leaf_word}
 use Rattle.sv39_entry.specs.declared.access.Access.{Access}
 use Rattle.sv39_entry.specs.Schemes.{page_limit, top_level, trampoline_page}
 use Rattle.sv39_entry.specs.declared.scheme.Scheme.{Scheme}
@@ -117,3 +119,7 @@ pub record IsKernelTable (z : Scheme) (v : View) (root frames slots : ℕ) (stac
   pub few_frames : frames ≤ MOST_FRAMES
   pub few_slots : slots ≤ MOST_SLOTS
   pub credits : v.credits ≡ 0
+
+-- the leaf for the kernel of a frame other than 0 is one for data
+pub data_leaf : (x trapframe : ℕ) → (trapframe ≡ 0 → ⊥) → IsLeafOf x trapframe (frame_rights trapframe) false false true → IsLeafOf x trapframe data_rights false false true
+data_leaf x trapframe apart made = subst (λ b. IsLeafOf x trapframe (if b then code_rights else data_rights) false false true) (ne_eqb trapframe 0 apart) made

@@ -3,6 +3,7 @@ pub mod Agreement
 pub mod SeatExtras
 pub mod SpaceTeardown
 pub mod SpacesInCalls
+pub mod Kept
 pub mod Kernel
 pub mod Layouts
 pub mod Parts

@@ -13,15 +13,15 @@ ghost use Rattle.process_model.specs.Process.{Process};
 ghost use Rattle.table_walk.specs.Tables.{Tables};
 
 use crate::frame_need::frames_needed;
+use crate::kernel::leaf_for_kernel;
 use crate::layout::Layout;
 use crate::pages::add_page;
 use crate::part::Part;
 use crate::space::Space;
 use crate::teardown::{drop_run, release_emptied};
-use bitflags::Flags;
 use frame_bytes::fill_frame;
 use frame_store::{FrameAccess, FrameSeat, FrameSupply, NoFrame};
-use sv39_entry::{Entry, FrameNo, PAGE_SIZE, Rights, Scheme, Va};
+use sv39_entry::{FrameNo, PAGE_SIZE, Scheme, Va};
 use table_walk::{map, missing_is_growth, new_table};
 
 /// The frame that TRAMPOLINE maps in every space: frame 0, which has the trampoline's code.
@@ -140,9 +140,7 @@ fn open_tables<F: FrameSupply>(
 {
     missing_is_growth();
     let root = new_table(store, seat);
-    let mut code = Rights::READ;
-    code.insert(Rights::EXECUTE);
-    let trampoline = Entry::leaf(TRAMPOLINE_FRAME, code, false, false, true);
+    let trampoline = leaf_for_kernel(TRAMPOLINE_FRAME);
     map(
         store,
         seat,
@@ -151,9 +149,7 @@ fn open_tables<F: FrameSupply>(
         scheme.trampoline().page(),
         trampoline,
     );
-    let mut data = Rights::READ;
-    data.insert(Rights::WRITE);
-    let saved = Entry::leaf(trapframe, data, false, false, true);
+    let saved = leaf_for_kernel(trapframe);
     map(store, seat, scheme, root, scheme.trapframe().page(), saved);
     root
 }

@@ -3,6 +3,7 @@
 
 ghost use Rattle.std.specs.Prelude.{[], ◌≡◌, ◌+◌, ◌%◌, ◌≤◌, ℕ, drop, length, take};
 ghost use Rattle.address_space.specs.Agreement.{body_of, IsSpace};
+ghost use Rattle.address_space.specs.Kept.{KeepsPlace, OnlyReads};
 ghost use Rattle.address_space.specs.Steps.{CanRead, CanWrite, TakesFrames};
 ghost use Rattle.frame_store.specs.Laws.{IsSeatOf, KeepsSeats};
 ghost use Rattle.frame_store.specs.View.{IsSole};
@@ -25,11 +26,7 @@ impl<S: FrameSeat> Space<S> {
         requires inside { va.0 % 4096 + length bytes.old ≤ 4096 }
         ensures bytes { (t : Tables) (p : Process) (s : Page) → CanRead (body_of S.view self.old) t p (page_of va.0) s →
             bytes.new ≡ take (length bytes.new) (drop (va.0 % 4096) s.bytes) }
-        ensures root { self.new.root ≡ self.old.root }
-        ensures trapframe { self.new.trapframe ≡ self.old.trapframe }
-        ensures layout { self.new.layout ≡ self.old.layout }
-        ensures view { S.view self.new.seat ≡ S.view self.old.seat }
-        ensures same { store.new ≡ store.old }
+        ensures reads { OnlyReads S.view self.old self.new store.old store.new }
         ensures keeps { KeepsSeats F.rule store.old self.old.seat store.new self.new.seat }
     {
         let frame = self.page_frame(store, va.page());
@@ -45,9 +42,7 @@ impl<S: FrameSeat> Space<S> {
         ensures agrees { (t : Tables) (p : Process) (s : Page) → CanWrite (body_of S.view self.old) t p (page_of va.0) s →
             IsSpace (body_of S.view self.new) t (with_page p (page_of va.0) (stored s (va.0 % 4096) bytes.now)) }
         ensures soles { (f : ℕ) → IsSole (S.view self.old.seat) f → IsSole (S.view self.new.seat) f }
-        ensures root { self.new.root ≡ self.old.root }
-        ensures trapframe { self.new.trapframe ≡ self.old.trapframe }
-        ensures layout { self.new.layout ≡ self.old.layout }
+        ensures place { KeepsPlace self.old self.new }
         ensures tallies { TakesFrames (S.view self.old.seat) (S.view self.new.seat) 0 [] }
         ensures keeps { KeepsSeats F.rule store.old self.old.seat store.new self.new.seat }
         ensures free { F.alone → F.free store.new ≡ F.free store.old }

@@ -19,11 +19,11 @@ pub fn frames_needed(scheme: Scheme, parts: &[Part]) -> usize
 {
     // A table of level 2 is for 2^27 pages, one of level 1 for 2^18, and one of level 0 for 2^9 (RISC-V Privileged Architecture
     // 20211203, 4.4.1 and 4.5.1).
-    let lower = table_count(scheme, parts, 1 << 18) + table_count(scheme, parts, 1 << 9);
+    let lower = tables_of_parts(scheme, parts, 1 << 18) + tables_of_parts(scheme, parts, 1 << 9);
     let frames = 2 + page_count(scheme, parts) + lower;
     match scheme {
         Scheme::Sv39 => frames as usize,
-        Scheme::Sv48 => (frames + table_count(scheme, parts, 1 << 27)) as usize,
+        Scheme::Sv48 => (frames + tables_of_parts(scheme, parts, 1 << 27)) as usize,
     }
 }
 
@@ -41,7 +41,7 @@ fn page_count(scheme: Scheme, parts: &[Part]) -> u64
 }
 
 /// Returns how many tables of `pages` pages each the parts need with TRAMPOLINE and TRAPFRAME: adjacent parts can share one.
-fn table_count(scheme: Scheme, parts: &[Part], pages: u64) -> u64
+fn tables_of_parts(scheme: Scheme, parts: &[Part], pages: u64) -> u64
     requires parts { AreParts scheme parts.now }
     requires some { 0 < pages }
     requires top { trampoline_page scheme / pages ≡ trapframe_page scheme / pages }

@@ -127,7 +127,10 @@ pub fn leaf_for_kernel(frame: FrameNo) -> Entry
     } else {
         rights.insert(Rights::WRITE);
     }
-    Entry::leaf(frame, rights, false, false, true)
+    let user = false;
+    let cow = false;
+    let dirty = true;
+    Entry::leaf(frame, rights, user, cow, dirty)
 }
 
 /// Makes a root table that maps the trampoline, by one credit for each level.

@@ -5,6 +5,7 @@ ghost use Rattle.std.specs.Prelude.{[], ◌≡◌, ◌≢◌, ◌∷◌, ◌+◌
 ghost use Rattle.address_space.specs.Agreement.{body_of, IsSpace};
 ghost use Rattle.address_space.specs.Layouts.{region_of};
 ghost use Rattle.address_space.specs.CopyOnWrite.{CanSeparate, Separates};
+ghost use Rattle.address_space.specs.Kept.{KeepsPlace};
 ghost use Rattle.address_space.specs.Steps.{CanOwn, HasOwned, own_need, RunsDry, WhenOwnable};
 ghost use Rattle.frame_store.specs.Laws.{IsSeatOf, KeepsSeats};
 ghost use Rattle.process_model.specs.Process.{Page, Process};
@@ -39,9 +40,7 @@ impl<S: FrameSeat> Space<S> {
         ensures exact { F.alone → WhenOwnable (body_of S.view self.old) page (λ f. IsOk result ↔ (own_need (F.count store.old f) ≤ F.free store.old)) }
         ensures free { F.alone → WhenOwnable (body_of S.view self.old) page (λ f.
             F.free store.new ≡ F.free store.old - (if is_ok result then own_need (F.count store.old f) else 0)) }
-        ensures root { self.new.root ≡ self.old.root }
-        ensures trapframe { self.new.trapframe ≡ self.old.trapframe }
-        ensures layout { self.new.layout ≡ self.old.layout }
+        ensures place { KeepsPlace self.old self.new }
         ensures keeps { KeepsSeats F.rule store.old self.old.seat store.new self.new.seat }
     {
         let scheme = self.layout.scheme();

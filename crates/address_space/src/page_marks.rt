@@ -4,6 +4,7 @@
 
 ghost use Rattle.std.specs.Prelude.{◌≡◌, ℕ};
 ghost use Rattle.address_space.specs.Agreement.{body_of};
+ghost use Rattle.address_space.specs.Kept.{KeepsPlace};
 ghost use Rattle.address_space.specs.SettledLists.{IsSettledPage};
 ghost use Rattle.address_space.specs.SpacesInCalls.{HasMarkedForked, IsSpaceInCall};
 ghost use Rattle.address_space.specs.Steps.{CanWrite, MarksStored};
@@ -28,9 +29,7 @@ impl<S: FrameSeat> Space<S> {
         requires ready { (t : Tables) × (p : Process) × (s : Page) × CanWrite (body_of S.view self.old) t p page s }
         ensures marked { (t : Tables) (p : Process) (s : Page) → CanWrite (body_of S.view self.old) t p page s →
             (u : Tables) × MarksStored (S.view self.old.seat) (body_of S.view self.new) t u p page s }
-        ensures root { self.new.root ≡ self.old.root }
-        ensures trapframe { self.new.trapframe ≡ self.old.trapframe }
-        ensures layout { self.new.layout ≡ self.old.layout }
+        ensures place { KeepsPlace self.old self.new }
         ensures keeps { KeepsSeats F.rule store.old self.old.seat store.new self.new.seat }
         ensures free { F.alone → F.free store.new ≡ F.free store.old }
         ensures counts { F.alone → (f : ℕ) → F.count store.new f ≡ F.count store.old f }
@@ -54,9 +53,7 @@ impl<S: FrameSeat> Space<S> {
         requires fits { IsSeatOf F.rule store.old self.old.seat }
         requires ready { (t : Tables) × (p : Process) × (extra : ℕ → ℕ) × IsSpaceInCall (body_of S.view self.old) t p extra × IsSettledPage t p settled.now }
         ensures marked { HasMarkedForked (body_of S.view self.old) (body_of S.view self.new) settled.now }
-        ensures root { self.new.root ≡ self.old.root }
-        ensures trapframe { self.new.trapframe ≡ self.old.trapframe }
-        ensures layout { self.new.layout ≡ self.old.layout }
+        ensures place { KeepsPlace self.old self.new }
         ensures keeps { KeepsSeats F.rule store.old self.old.seat store.new self.new.seat }
         ensures free { F.alone → F.free store.new ≡ F.free store.old }
         ensures counts { F.alone → (f : ℕ) → F.count store.new f ≡ F.count store.old f }

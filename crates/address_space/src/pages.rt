@@ -5,6 +5,7 @@
 ghost use Rattle.std.specs.FinMap.{get};
 ghost use Rattle.std.specs.Prelude.{[], ◌≡◌, ◌+◌, ◌-◌, ◌^◌, ◌<◌, ◌≤◌, ◌↔◌, ◌==◌, false, if◌then◌else◌, IfErr, IfOk, is_ok, IsOk, length, option_and_then, option_map, Some, ℕ};
 ghost use Rattle.address_space.specs.Agreement.{body_of, IsSpace};
+ghost use Rattle.address_space.specs.Kept.{KeepsPlace};
 ghost use Rattle.address_space.specs.Layouts.{region_of};
 ghost use Rattle.address_space.specs.Steps.{AddsPage, CanAdd, CanSettle, HasSettled, RunsDry};
 ghost use Rattle.frame_store.specs.Laws.{IsSeatOf, KeepsSeats};
@@ -110,9 +111,7 @@ impl<S: FrameSeat> Space<S> {
         ensures free { F.alone → (t : Tables) (p : Process) →
             CanSettle (body_of S.view self.old) t p page →
             F.free store.new ≡ F.free store.old - (if is_ok result then settle_need p page else 0) }
-        ensures root { self.new.root ≡ self.old.root }
-        ensures trapframe { self.new.trapframe ≡ self.old.trapframe }
-        ensures layout { self.new.layout ≡ self.old.layout }
+        ensures place { KeepsPlace self.old self.new }
         ensures keeps { KeepsSeats F.rule store.old self.old.seat store.new self.new.seat }
     {
         let scheme = self.layout.scheme();

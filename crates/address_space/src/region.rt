@@ -81,9 +81,11 @@ impl Region {
         ensures kind { kind_of result ≡ Leaf }
     {
         if self.kind == RegionKind::Guard {
-            return Entry::leaf(frame, Rights::READ, false, cow, dirty);
+            let user = false;
+            return Entry::leaf(frame, Rights::READ, user, cow, dirty);
         }
-        Entry::leaf(frame, self.rights, true, cow, dirty)
+        let user = true;
+        Entry::leaf(frame, self.rights, user, cow, dirty)
     }
 
     /// Returns whether a page's leaf gets D when the page is settled, if the region grants writing: true exactly when the

@@ -5,6 +5,7 @@
 ghost use Rattle.std.specs.FinMap.{get};
 ghost use Rattle.std.specs.Prelude.{◌≡◌, ◌<◌, ◌≤◌, ℕ, IfSome, IsSome, Some};
 ghost use Rattle.address_space.specs.Agreement.{body_of, no_extra};
+ghost use Rattle.address_space.specs.Kept.{OnlyReads};
 ghost use Rattle.address_space.specs.SettledLists.{IsNextSettled, IsSettled};
 ghost use Rattle.address_space.specs.SpaceTeardown.{IsFirstLeaf};
 ghost use Rattle.address_space.specs.SpacesInCalls.{IsSpaceInCall};
@@ -60,11 +61,7 @@ impl<S: FrameSeat> Space<S> {
         requires ready { (t : Tables) × (p : Process) × IsSpaceInCall (body_of S.view self.old) t p no_extra }
         requires low { page < trapframe_page self.old.layout.scheme }
         ensures page { (t : Tables) (p : Process) → IsSpaceInCall (body_of S.view self.old) t p no_extra → IsSettled t p page result }
-        ensures root { self.new.root ≡ self.old.root }
-        ensures trapframe { self.new.trapframe ≡ self.old.trapframe }
-        ensures layout { self.new.layout ≡ self.old.layout }
-        ensures view { S.view self.new.seat ≡ S.view self.old.seat }
-        ensures same { store.new ≡ store.old }
+        ensures reads { OnlyReads S.view self.old self.new store.old store.new }
         ensures keeps { KeepsSeats F.rule store.old self.old.seat store.new self.new.seat }
     {
         let scheme = self.layout.scheme();
@@ -85,11 +82,7 @@ impl<S: FrameSeat> Space<S> {
         requires ready { (t : Tables) × (p : Process) × IsSpaceInCall (body_of S.view self.old) t p no_extra }
         requires low { end ≤ trapframe_page self.old.layout.scheme }
         ensures page { (t : Tables) (p : Process) → IsSpaceInCall (body_of S.view self.old) t p no_extra → IsNextSettled t p first end result }
-        ensures root { self.new.root ≡ self.old.root }
-        ensures trapframe { self.new.trapframe ≡ self.old.trapframe }
-        ensures layout { self.new.layout ≡ self.old.layout }
-        ensures view { S.view self.new.seat ≡ S.view self.old.seat }
-        ensures same { store.new ≡ store.old }
+        ensures reads { OnlyReads S.view self.old self.new store.old store.new }
         ensures keeps { KeepsSeats F.rule store.old self.old.seat store.new self.new.seat }
     {
         let mut last = None;
@@ -112,11 +105,7 @@ impl<S: FrameSeat> Space<S> {
         requires low { end ≤ trapframe_page self.old.layout.scheme }
         ensures page { (t : Tables) (p : Process) → IsSpaceInCall (body_of S.view self.old) t p no_extra → IsLastTable p.scheme t last.old → IsNextSettled t p first end result }
         ensures kept { (t : Tables) (p : Process) → IsSpaceInCall (body_of S.view self.old) t p no_extra → IsLastTable p.scheme t last.old → IsLastTable p.scheme t last.new }
-        ensures root { self.new.root ≡ self.old.root }
-        ensures trapframe { self.new.trapframe ≡ self.old.trapframe }
-        ensures layout { self.new.layout ≡ self.old.layout }
-        ensures view { S.view self.new.seat ≡ S.view self.old.seat }
-        ensures same { store.new ≡ store.old }
+        ensures reads { OnlyReads S.view self.old self.new store.old store.new }
         ensures keeps { KeepsSeats F.rule store.old self.old.seat store.new self.new.seat }
     {
         let from = Vpn::new(first)?;
@@ -140,11 +129,7 @@ impl<S: FrameSeat> Space<S> {
         requires low { end ≤ trapframe_page self.old.layout.scheme }
         ensures leaf { (t : Tables) (p : Process) → IsSpaceInCall (body_of S.view self.old) t p no_extra → IsLastTable p.scheme t last.old → IsFirstLeaf t p first end result }
         ensures kept { (t : Tables) (p : Process) → IsSpaceInCall (body_of S.view self.old) t p no_extra → IsLastTable p.scheme t last.old → IsLastTable p.scheme t last.new }
-        ensures root { self.new.root ≡ self.old.root }
-        ensures trapframe { self.new.trapframe ≡ self.old.trapframe }
-        ensures layout { self.new.layout ≡ self.old.layout }
-        ensures view { S.view self.new.seat ≡ S.view self.old.seat }
-        ensures same { store.new ≡ store.old }
+        ensures reads { OnlyReads S.view self.old self.new store.old store.new }
         ensures keeps { KeepsSeats F.rule store.old self.old.seat store.new self.new.seat }
     {
         let scheme = self.layout.scheme();
@@ -174,11 +159,7 @@ impl<S: FrameSeat> Space<S> {
         requires ready { (t : Tables) × (p : Process) × IsSpaceInCall (body_of S.view self.old) t p no_extra }
         requires low { end ≤ trapframe_page self.old.layout.scheme }
         ensures leaf { (t : Tables) (p : Process) → IsSpaceInCall (body_of S.view self.old) t p no_extra → IsFirstLeaf t p first end result }
-        ensures root { self.new.root ≡ self.old.root }
-        ensures trapframe { self.new.trapframe ≡ self.old.trapframe }
-        ensures layout { self.new.layout ≡ self.old.layout }
-        ensures view { S.view self.new.seat ≡ S.view self.old.seat }
-        ensures same { store.new ≡ store.old }
+        ensures reads { OnlyReads S.view self.old self.new store.old store.new }
         ensures keeps { KeepsSeats F.rule store.old self.old.seat store.new self.new.seat }
     {
         let scheme = self.layout.scheme();

@@ -4,6 +4,7 @@
 
 ghost use Rattle.std.specs.Prelude.{[], ◌≡◌, ◌%◌, ◌<◌, ℕ, IsTrue, length, option_map};
 ghost use Rattle.address_space.specs.Agreement.{body_of, IsSpace, IsFrameOfPage};
+ghost use Rattle.address_space.specs.Kept.{KeepsPlace, OnlyReads};
 ghost use Rattle.address_space.specs.Layouts.{granted_unless, region_of};
 ghost use Rattle.address_space.specs.SpacesInCalls.{HasSettledPage};
 ghost use Rattle.address_space.specs.Steps.{CanRead, CanWrite, HasReplacedLayout, HasStored, left_with, mapped_with, sized, stored_at, TakesFrames};
@@ -58,11 +59,7 @@ impl<S: FrameSeat> Space<S> {
         requires width { IsTrue (is_width width) }
         requires aligned { va.0 % width ≡ 0 }
         ensures value { (t : Tables) (p : Process) (s : Page) → CanRead (body_of S.view self.old) t p (page_of va.0) s → result ≡ loaded s (va.0 % 4096) width }
-        ensures root { self.new.root ≡ self.old.root }
-        ensures trapframe { self.new.trapframe ≡ self.old.trapframe }
-        ensures layout { self.new.layout ≡ self.old.layout }
-        ensures view { S.view self.new.seat ≡ S.view self.old.seat }
-        ensures same { store.new ≡ store.old }
+        ensures reads { OnlyReads S.view self.old self.new store.old store.new }
         ensures keeps { KeepsSeats F.rule store.old self.old.seat store.new self.new.seat }
     {
         let frame = self.page_frame(store, va.page());
@@ -83,11 +80,7 @@ impl<S: FrameSeat> Space<S> {
         requires width { IsTrue (is_width width) }
         requires aligned { va.0 % width ≡ 0 }
         ensures value { (t : Tables) (p : Process) (s : Page) → CanRead (body_of S.view self.old) t p (page_of va.0) s → IsFrameOfPage t (page_of va.0) frame.0 → result ≡ loaded s (va.0 % 4096) width }
-        ensures root { self.new.root ≡ self.old.root }
-        ensures trapframe { self.new.trapframe ≡ self.old.trapframe }
-        ensures layout { self.new.layout ≡ self.old.layout }
-        ensures view { S.view self.new.seat ≡ S.view self.old.seat }
-        ensures same { store.new ≡ store.old }
+        ensures reads { OnlyReads S.view self.old self.new store.old store.new }
         ensures keeps { KeepsSeats F.rule store.old self.old.seat store.new self.new.seat }
     {
         load_bytes(
@@ -109,11 +102,7 @@ impl<S: FrameSeat> Space<S> {
         requires fits { IsSeatOf F.rule store.old self.old.seat }
         requires ready { (t : Tables) × (p : Process) × (s : Page) × HasSettledPage (body_of S.view self.old) t p page s }
         ensures bytes { (t : Tables) (p : Process) (s : Page) → HasSettledPage (body_of S.view self.old) t p page s → bytes.new ≡ s.bytes }
-        ensures root { self.new.root ≡ self.old.root }
-        ensures trapframe { self.new.trapframe ≡ self.old.trapframe }
-        ensures layout { self.new.layout ≡ self.old.layout }
-        ensures view { S.view self.new.seat ≡ S.view self.old.seat }
-        ensures same { store.new ≡ store.old }
+        ensures reads { OnlyReads S.view self.old self.new store.old store.new }
         ensures keeps { KeepsSeats F.rule store.old self.old.seat store.new self.new.seat }
     {
         let frame = self.page_frame(store, page);
@@ -129,9 +118,7 @@ impl<S: FrameSeat> Space<S> {
         requires aligned { va.0 % width ≡ 0 }
         ensures agrees { (t : Tables) (p : Process) (s : Page) → CanWrite (body_of S.view self.old) t p (page_of va.0) s →
             IsSpace (body_of S.view self.new) t (stored_at p s va.0 width value) }
-        ensures root { self.new.root ≡ self.old.root }
-        ensures trapframe { self.new.trapframe ≡ self.old.trapframe }
-        ensures layout { self.new.layout ≡ self.old.layout }
+        ensures place { KeepsPlace self.old self.new }
         ensures tallies { TakesFrames (S.view self.old.seat) (S.view self.new.seat) 0 [] }
         ensures keeps { KeepsSeats F.rule store.old self.old.seat store.new self.new.seat }
         ensures free { F.alone → F.free store.new ≡ F.free store.old }
@@ -157,9 +144,7 @@ impl<S: FrameSeat> Space<S> {
         requires width { IsTrue (is_width width) }
         requires aligned { va.0 % width ≡ 0 }
         ensures agrees { HasStored (body_of S.view self.old) (body_of S.view self.new) va.0 width value (λ t. IsFrameOfPage t (page_of va.0) frame.0) }
-        ensures root { self.new.root ≡ self.old.root }
-        ensures trapframe { self.new.trapframe ≡ self.old.trapframe }
-        ensures layout { self.new.layout ≡ self.old.layout }
+        ensures place { KeepsPlace self.old self.new }
         ensures tallies { TakesFrames (S.view self.old.seat) (S.view self.new.seat) 0 [] }
         ensures keeps { KeepsSeats F.rule store.old self.old.seat store.new self.new.seat }
         ensures free { F.alone → F.free store.new ≡ F.free store.old }
@@ -222,11 +207,7 @@ impl<S: FrameSeat> Space<S> {
         requires fits { IsSeatOf F.rule store.old self.old.seat }
         requires ready { (t : Tables) × (p : Process) × (s : Page) × HasSettledPage (body_of S.view self.old) t p page s }
         ensures frame { (t : Tables) (p : Process) (s : Page) → HasSettledPage (body_of S.view self.old) t p page s → IsFrameOfPage t page result.0 }
-        ensures root { self.new.root ≡ self.old.root }
-        ensures trapframe { self.new.trapframe ≡ self.old.trapframe }
-        ensures layout { self.new.layout ≡ self.old.layout }
-        ensures view { S.view self.new.seat ≡ S.view self.old.seat }
-        ensures same { store.new ≡ store.old }
+        ensures reads { OnlyReads S.view self.old self.new store.old store.new }
         ensures keeps { KeepsSeats F.rule store.old self.old.seat store.new self.new.seat }
     {
         let scheme = self.layout.scheme();

@@ -3,7 +3,8 @@
 // tables of a space without pages.
 
 ghost use Rattle.std.specs.Prelude.{[], ◌≡◌, ◌^◌, ◌<◌, ◌≤◌, ℕ};
-ghost use Rattle.address_space.specs.Agreement.{body_of, HoldsTrapframe, IsSpace, no_extra, IsInMemory};
+ghost use Rattle.address_space.specs.Agreement.{body_of, HoldsTrapframe, IsSpace, no_extra, IsInMemory, IsAlive};
+ghost use Rattle.address_space.specs.Kept.{KeepsPlace};
 ghost use Rattle.address_space.specs.SpaceTeardown.{Drops, DropsFirst, DropsIf, DropsRun, IsEmptied, MayDrop, IsStripped};
 ghost use Rattle.address_space.specs.SpacesInCalls.{IsSpaceInCall};
 ghost use Rattle.address_space.specs.Steps.{IsBare, TakesFrames};
@@ -138,15 +139,13 @@ impl<S: FrameSeat> Space<S> {
     /// references to their frames. Page tables stay, even empty. Makes no fence: the caller must.
     pub fn drop_pages<F: FrameAccess<Seat = S>>(&mut self, store: &mut F, first: Vpn, end: Vpn)
         requires fits { IsSeatOf F.rule store.old self.old.seat }
-        requires ready { (t : Tables) × (p : Process) × IsSpace (body_of S.view self.old) t p }
+        requires ready { IsAlive (body_of S.view self.old) }
         requires low { end ≤ trapframe_page self.old.layout.scheme }
         ensures dropped { (t : Tables) (p : Process) →
             IsSpace (body_of S.view self.old) t p →
             (u : Tables) × IsSpace (body_of S.view self.new) u (without_pages p first end) × Drops t u first end }
         ensures tallies { TakesFrames (S.view self.old.seat) (S.view self.new.seat) 0 [] }
-        ensures root { self.new.root ≡ self.old.root }
-        ensures trapframe { self.new.trapframe ≡ self.old.trapframe }
-        ensures layout { self.new.layout ≡ self.old.layout }
+        ensures place { KeepsPlace self.old self.new }
         ensures keeps { KeepsSeats F.rule store.old self.old.seat store.new self.new.seat }
         ensures free { F.alone → F.free store.old ≤ F.free store.new }
     {
@@ -191,7 +190,7 @@ impl<S: FrameSeat> Space<S> {
     /// no frame and no credit.
     pub fn destroy<F: FrameAccess<Seat = S>>(self, store: &mut F) -> S
         requires fits { IsSeatOf F.rule store.old self.seat }
-        requires ready { (t : Tables) × (p : Process) × IsSpace (body_of S.view self) t p }
+        requires ready { IsAlive (body_of S.view self) }
         ensures bare { IsBare (S.view result) }
         ensures tallies { TakesFrames (S.view self.seat) (S.view result) 0 [] }
         ensures keeps { KeepsSeats F.rule store.old self.seat store.new result }

@@ -4,7 +4,8 @@
 
 ghost use Rattle.std.specs.Prelude.{[], ◌≡◌, ◌≢◌, ◌%◌, ℕ, IsTrue};
 ghost use Rattle.address_space.specs.Accesses.{request_of, IsWalkOf};
-ghost use Rattle.address_space.specs.Agreement.{body_of, IsSpace};
+ghost use Rattle.address_space.specs.Agreement.{body_of, IsSpace, IsAlive};
+ghost use Rattle.address_space.specs.Kept.{KeepsPlace, OnlyReads};
 ghost use Rattle.address_space.specs.Steps.{TakesFrames};
 ghost use Rattle.frame_store.specs.Laws.{IsSeatOf, KeepsSeats};
 ghost use Rattle.process_model.specs.ScalarReplies.{reply_of_scalar};
@@ -32,6 +33,20 @@ pub struct AccessRequest {
     pub value: u64,
 }
 
+impl AccessRequest {
+    /// Returns the access to `width` bytes from `address` on. `value` is what a store writes, 0 for a fetch or load.
+    pub fn new(access: Access, address: u64, width: u64, value: u64) -> AccessRequest
+        ensures { result ≡ record { access = access; va = record { 0 = address }; width = width; value = value } }
+    {
+        AccessRequest {
+            access,
+            va: Va(address),
+            width,
+            value,
+        }
+    }
+}
+
 /// Returns `address` modulo `width`. Each width is a constant here, so no division is made.
 fn remainder(address: u64, width: u64) -> u64
     requires { IsTrue (is_width width) }
@@ -56,13 +71,9 @@ impl<S: FrameSeat> Space<S> {
         mode: Mode,
     ) -> Walk
         requires fits { IsSeatOf F.rule store.old self.old.seat }
-        requires ready { (t : Tables) × (p : Process) × IsSpace (body_of S.view self.old) t p }
+        requires ready { IsAlive (body_of S.view self.old) }
         ensures walk { (t : Tables) (p : Process) → IsSpace (body_of S.view self.old) t p → result ≡ walk_answer p.scheme t va.0 access mode }
-        ensures root { self.new.root ≡ self.old.root }
-        ensures trapframe { self.new.trapframe ≡ self.old.trapframe }
-        ensures layout { self.new.layout ≡ self.old.layout }
-        ensures view { S.view self.new.seat ≡ S.view self.old.seat }
-        ensures same { store.new ≡ store.old }
+        ensures reads { OnlyReads S.view self.old self.new store.old store.new }
         ensures keeps { KeepsSeats F.rule store.old self.old.seat store.new self.new.seat }
     {
         let scheme = self.layout.scheme();
@@ -88,9 +99,7 @@ impl<S: FrameSeat> Space<S> {
             reply_of_scalar result ≡ (service.user_access p (request_of request)).reply }
         ensures after { (t : Tables) (p : Process) → IsSpace (body_of S.view self.old) t p → IsWalkOf p.scheme t request walk →
             IsSpace (body_of S.view self.new) t (service.user_access p (request_of request)).process }
-        ensures root { self.new.root ≡ self.old.root }
-        ensures trapframe { self.new.trapframe ≡ self.old.trapframe }
-        ensures layout { self.new.layout ≡ self.old.layout }
+        ensures place { KeepsPlace self.old self.new }
         ensures view { result ≢ ScalarReply.Stored → S.view self.new.seat ≡ S.view self.old.seat }
         ensures same { result ≢ ScalarReply.Stored → store.new ≡ store.old }
         ensures tallies { TakesFrames (S.view self.old.seat) (S.view self.new.seat) 0 [] }
@@ -135,9 +144,7 @@ impl<S: FrameSeat> Space<S> {
             result ≡ (service.user_access p (request_of request)).reply }
         ensures after { (t : Tables) (p : Process) → IsSpace (body_of S.view self.old) t p → IsWalkOf p.scheme t request walk →
             IsSpace (body_of S.view self.new) t (service.user_access p (request_of request)).process }
-        ensures root { self.new.root ≡ self.old.root }
-        ensures trapframe { self.new.trapframe ≡ self.old.trapframe }
-        ensures layout { self.new.layout ≡ self.old.layout }
+        ensures place { KeepsPlace self.old self.new }
         ensures view { result ≢ Reply.Stored → S.view self.new.seat ≡ S.view self.old.seat }
         ensures same { result ≢ Reply.Stored → store.new ≡ store.old }
         ensures tallies { TakesFrames (S.view self.old.seat) (S.view self.new.seat) 0 [] }

@@ -22,6 +22,7 @@ pub use answer::audit;
 pub use commands::{lend, put_answer};
 pub use fault::PlayError;
 pub use player::play;
+pub use run_script::boot;
 pub use script_reader::Script;
 pub use sink::{Sink, Writer};
 pub use source::{Reader, Source};

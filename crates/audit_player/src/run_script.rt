@@ -20,8 +20,11 @@ use script_language::{LONGEST_TEXT, put};
 use script_reader::Script;
 use std::alloc::{AllocError, Global};
 
-/// Boots a machine with these files. Its sizes keep the limits, so the only error is that host memory was refused.
-fn boot(alloc: Global, config: Config, files: Cabinet) -> Result<Machine, AllocError>
+/// Boots a machine with these files, which it takes, and returns it. Its sizes must keep the limits.
+///
+/// # Errors
+/// `AllocError`: host memory was refused.
+pub fn boot(alloc: Global, config: Config, files: Cabinet) -> Result<Machine, AllocError>
     requires limits { CanBoot config }
     ensures { IfOk result (λ machine. IsInWorld machine (booted config files)) }
 {

@@ -1,7 +1,7 @@
 -- Lemmas for `open_tables`: page tables made of credits (reserved frames; `Makes`), and the child's first tables: the root,
 -- and those on the way to TRAMPOLINE and TRAPFRAME (`opens`).
 use Rattle.std.proofs.Common.{◌≡◌, ◌⊎◌, ℕ, ◌+◌, ◌-◌, ◌≤◌, false, true, if◌then◌else◌, Some, inl, inr, refl, ap, sym, subst, ◌∙◌, arith, [], ◌∷◌}
-use Rattle.std.proofs.lemmas.Bool.{cases_eq, ne_eqb}
+use Rattle.std.proofs.lemmas.Bool.{cases_eq}
 use Rattle.std.proofs.lemmas.Option.{same_Some}
 use Rattle.std.specs.FinMap.{empty, FinMap, get, get-empty}
 use Rattle.std.specs.Ordering.{nat_cmp}
@@ -19,7 +19,6 @@ use Rattle.table_walk.specs.Tables.{bare_root, blank_hold, ChangesTables, HasTab
 use Rattle.sv39_entry.specs.Schemes.{top_level, trampoline_page, trapframe_page, of_scheme}
 use Rattle.sv39_entry.specs.declared.scheme.Scheme.{Scheme}
 use Rattle.address_space.specs.Agreement.{code_rights, data_rights}
-use Rattle.address_space.specs.Kernel.{frame_rights}
 use Rattle.cow_fork.specs.Children.{CanOpen, CopiesPages}
 use Rattle.cow_fork.proofs.NeededTables.{first_needed}
 
@@ -104,9 +103,6 @@ trapframe_shares z = (1, omega arith, refl)
 
 kernel_apart : (z : Scheme) → leaf_node (trampoline_page z) ≡ leaf_node (trapframe_page z) → ⊥
 kernel_apart z same = omega (arith, same, of_scheme z)
-
-pub data_leaf : (x trapframe : ℕ) → (trapframe ≡ 0 → ⊥) → IsLeafOf x trapframe (frame_rights trapframe) false false true → IsLeafOf x trapframe data_rights false false true
-data_leaf x trapframe apart made = subst (λ b. IsLeafOf x trapframe (if b then code_rights else data_rights) false false true) (ne_eqb trapframe 0 apart) made
 
 module _ (z : Scheme) (o a v w : View) (root trapframe x y : ℕ) (s u : Tables) (can : CanOpen z o trapframe) (first : Makes o a (bare_root z root).tables 1)
     (grown : IsGrown z (bare_root z root) s (trampoline_page z) (top_level z)) (changes : ChangesTables a v (bare_root z root) s (missing z (bare_root z root) (trampoline_page z)))

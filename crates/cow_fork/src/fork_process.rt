@@ -4,7 +4,8 @@
 // splits the child's seat (an owner's capability at a frame store) off the parent's.
 
 ghost use Rattle.std.specs.Prelude.{[], ◌∷◌, ◌≡◌, ◌-◌, ◌↔◌, ◌<◌, ◌≤◌, if◌then◌else◌, IfErr, IfOk, is_ok, length, List, map, ℕ};
-ghost use Rattle.address_space.specs.Agreement.{body, body_of, IsSpace};
+ghost use Rattle.address_space.specs.Agreement.{body, body_of, IsSpace, IsAlive};
+ghost use Rattle.address_space.specs.Kept.{KeepsPlace};
 ghost use Rattle.address_space.specs.SettledLists.{AreSettled};
 ghost use Rattle.address_space.specs.Steps.{RunsDry, TakesFrames};
 ghost use Rattle.cow_fork.specs.Forks.{CanDivide, Forks, HasChild, HasForked, IsGivenBack, IsSharersFullError, IsNoFrameError, Prepares};
@@ -92,7 +93,7 @@ pub fn fork<S: FrameSeat, F: FrameSupply<Seat = S>>(
     store: &mut F,
 ) -> Result<Space<S>, ForkError>
     requires fits { IsSeatOf F.rule store.old space.old.seat }
-    requires ready { (t : Tables) × (p : Process) × IsSpace (body_of S.view space.old) t p }
+    requires ready { IsAlive (body_of S.view space.old) }
     ensures forked { IfOk result (λ child. HasForked (body_of S.view space.old) (body_of S.view space.new) (body_of S.view child)) }
     ensures whole { IfErr result (λ _. (t : Tables) (p : Process) → IsSpace (body_of S.view space.old) t p → IsSpace (body_of S.view space.new) t p) }
     ensures dry { IsNoFrameError result → (t : Tables) (p : Process) → IsSpace (body_of S.view space.old) t p → RunsDry (S.view space.old.seat) (S.view space.new.seat) (model.fork_need p) [] }
@@ -101,9 +102,7 @@ pub fn fork<S: FrameSeat, F: FrameSupply<Seat = S>>(
     ensures sharers { F.alone → IsSharersFullError result → (f : ℕ) × IsHeld (S.view space.old.seat) f × (F.count store.old f < 65535 → ⊥) }
     ensures free { F.alone → (t : Tables) (p : Process) → IsSpace (body_of S.view space.old) t p → (IsSharersFullError result → ⊥) →
         F.free store.new ≡ F.free store.old - (if is_ok result then model.fork_need p else 0) }
-    ensures root { space.new.root ≡ space.old.root }
-    ensures trapframe { space.new.trapframe ≡ space.old.trapframe }
-    ensures layout { space.new.layout ≡ space.old.layout }
+    ensures place { KeepsPlace space.old space.new }
     ensures keeps { IfOk result (λ child. (others : List S) → F.rule store.old (space.old.seat ∷ others) → F.rule store.new (space.new.seat ∷ child.seat ∷ others)) }
     ensures keeps_refused { IfErr result (λ _. KeepsSeats F.rule store.old space.old.seat store.new space.new.seat) }
 {
@@ -141,7 +140,7 @@ pub fn fork_with<S: FrameSeat, F: FrameSupply<Seat = S>>(
     list: &mut PageList,
 ) -> Result<Child<S>, ForkError>
     requires fits { IsSeatOf F.rule store.old space.old.seat }
-    requires ready { (t : Tables) × (p : Process) × IsSpace (body_of S.view space.old) t p }
+    requires ready { IsAlive (body_of S.view space.old) }
     ensures forked { IfOk result (λ child. HasForked (body_of S.view space.old) (body_of S.view space.new) (body (S.view child.seat) child.root.0 child.trapframe.0 space.old.layout)) }
     ensures whole { IfErr result (λ _. (t : Tables) (p : Process) → IsSpace (body_of S.view space.old) t p → IsSpace (body_of S.view space.new) t p) }
     ensures dry { IsNoFrameError result → (t : Tables) (p : Process) → IsSpace (body_of S.view space.old) t p → RunsDry (S.view space.old.seat) (S.view space.new.seat) (model.fork_need p) [] }
@@ -150,9 +149,7 @@ pub fn fork_with<S: FrameSeat, F: FrameSupply<Seat = S>>(
     ensures sharers { F.alone → IsSharersFullError result → (f : ℕ) × IsHeld (S.view space.old.seat) f × (F.count store.old f < 65535 → ⊥) }
     ensures free { F.alone → (t : Tables) (p : Process) → IsSpace (body_of S.view space.old) t p → (IsSharersFullError result → ⊥) →
         F.free store.new ≡ F.free store.old - (if is_ok result then model.fork_need p else 0) }
-    ensures root { space.new.root ≡ space.old.root }
-    ensures trapframe { space.new.trapframe ≡ space.old.trapframe }
-    ensures layout { space.new.layout ≡ space.old.layout }
+    ensures place { KeepsPlace space.old space.new }
     ensures keeps { IfOk result (λ child. (others : List S) → F.rule store.old (space.old.seat ∷ others) → F.rule store.new (space.new.seat ∷ child.seat ∷ others)) }
     ensures keeps_refused { IfErr result (λ _. KeepsSeats F.rule store.old space.old.seat store.new space.new.seat) }
 {
@@ -172,7 +169,7 @@ pub fn fork_listed<S: FrameSeat, F: FrameSupply<Seat = S>>(
     settled: &[SettledPage],
 ) -> Result<Child<S>, ForkError>
     requires fits { IsSeatOf F.rule store.old space.old.seat }
-    requires ready { (t : Tables) × (p : Process) × IsSpace (body_of S.view space.old) t p }
+    requires ready { IsAlive (body_of S.view space.old) }
     requires settled { (t : Tables) (p : Process) → IsSpace (body_of S.view space.old) t p → AreSettled t p 0 (trapframe_page p.scheme) settled.now }
     ensures forked { IfOk result (λ child. HasForked (body_of S.view space.old) (body_of S.view space.new) (body (S.view child.seat) child.root.0 child.trapframe.0 space.old.layout)) }
     ensures whole { IfErr result (λ _. (t : Tables) (p : Process) → IsSpace (body_of S.view space.old) t p → IsSpace (body_of S.view space.new) t p) }
@@ -182,9 +179,7 @@ pub fn fork_listed<S: FrameSeat, F: FrameSupply<Seat = S>>(
     ensures sharers { F.alone → IsSharersFullError result → (f : ℕ) × IsHeld (S.view space.old.seat) f × (F.count store.old f < 65535 → ⊥) }
     ensures free { F.alone → (t : Tables) (p : Process) → IsSpace (body_of S.view space.old) t p → (IsSharersFullError result → ⊥) →
         F.free store.new ≡ F.free store.old - (if is_ok result then model.fork_need p else 0) }
-    ensures root { space.new.root ≡ space.old.root }
-    ensures trapframe { space.new.trapframe ≡ space.old.trapframe }
-    ensures layout { space.new.layout ≡ space.old.layout }
+    ensures place { KeepsPlace space.old space.new }
     ensures keeps { IfOk result (λ child. (others : List S) → F.rule store.old (space.old.seat ∷ others) → F.rule store.new (space.new.seat ∷ child.seat ∷ others)) }
     ensures keeps_refused { IfErr result (λ _. KeepsSeats F.rule store.old space.old.seat store.new space.new.seat) }
 {
@@ -223,9 +218,7 @@ fn prepare<S: FrameSeat, F: FrameSupply<Seat = S>>(
     ensures short { F.alone → IsNoFrameError result ↔ (F.free store.old < need) }
     ensures sharers { F.alone → IsSharersFullError result → (f : ℕ) × (0 < times f (0 ∷ frames_of settled.now)) × (F.count store.old f < 65535 → ⊥) }
     ensures free { F.alone → (IsSharersFullError result → ⊥) → F.free store.new ≡ F.free store.old - (if is_ok result then need else 0) }
-    ensures root { space.new.root ≡ space.old.root }
-    ensures trapframe { space.new.trapframe ≡ space.old.trapframe }
-    ensures layout { space.new.layout ≡ space.old.layout }
+    ensures place { KeepsPlace space.old space.new }
     ensures keeps { KeepsSeats F.rule store.old space.old.seat store.new space.new.seat }
 {
     store.reserve(&mut space.seat, need)?;
@@ -249,9 +242,7 @@ fn divide<S: FrameSeat, F: FrameSupply<Seat = S>>(
     requires ready { (v : View) × (t : Tables) × (p : Process) × CanDivide v (body_of S.view space.old) t p settled.now (map (λ f. f.0) frames.old.items) }
     ensures divided { (v : View) (t : Tables) (p : Process) → CanDivide v (body_of S.view space.old) t p settled.now (map (λ f. f.0) frames.old.items) →
         (u w : Tables) × Forks (body v space.old.root.0 space.old.trapframe.0 space.old.layout) (body_of S.view space.new) (body (S.view result.seat) result.root.0 result.trapframe.0 space.old.layout) t u w p }
-    ensures root { space.new.root ≡ space.old.root }
-    ensures trapframe { space.new.trapframe ≡ space.old.trapframe }
-    ensures layout { space.new.layout ≡ space.old.layout }
+    ensures place { KeepsPlace space.old space.new }
     ensures keeps { (others : List S) → F.rule store.old (space.old.seat ∷ others) → F.rule store.new (space.new.seat ∷ result.seat ∷ others) }
     ensures free { F.alone → F.free store.new ≡ F.free store.old }
 {
@@ -277,9 +268,7 @@ fn build_child<S: FrameSeat, F: FrameSupply<Seat = S>>(
     requires ready { (v : View) × (t : Tables) × (p : Process) × CanDivide v (body_of S.view space.old) t p settled.now (map (λ f. f.0) frames.old.items) }
     ensures built { (v : View) (t : Tables) (p : Process) → CanDivide v (body_of S.view space.old) t p settled.now (map (λ f. f.0) frames.old.items) →
         (u : Tables) × HasChild v (S.view space.new.seat) t u p result.0.0 result.1.0 (map (λ f. f.0) frames.new.items) }
-    ensures root { space.new.root ≡ space.old.root }
-    ensures trapframe { space.new.trapframe ≡ space.old.trapframe }
-    ensures layout { space.new.layout ≡ space.old.layout }
+    ensures place { KeepsPlace space.old space.new }
     ensures keeps { KeepsSeats F.rule store.old space.old.seat store.new space.new.seat }
     ensures free { F.alone → F.free store.new ≡ F.free store.old }
 {

@@ -1,5 +1,5 @@
 // How many frames a fork takes (`fork_need`), counted from the list of settled pages (those in memory): the trapframe and,
-// for each size of table, the page tables (`table_count`).
+// for each size of table, the page tables (`tables_of_pages`).
 
 ghost use Rattle.std.specs.Prelude.{◌≡◌, ◌+◌, ◌/◌, ◌<◌, ◌≤◌, ◌∷◌, ℕ, length, map, Some};
 ghost use Rattle.address_space.specs.SettledLists.{AreSettled};
@@ -21,18 +21,18 @@ pub(crate) fn fork_need(scheme: Scheme, settled: &[SettledPage]) -> usize
 {
     // A table of level 2 maps 2^27 pages, one of level 1 maps 2^18, and one of level 0 maps 2^9 (RISC-V Privileged Architecture
     // 20211203, 4.4.1 and 4.5.1).
-    let upper = table_count(scheme, settled, 1 << 18);
-    let lower = table_count(scheme, settled, 1 << 9);
+    let upper = tables_of_pages(scheme, settled, 1 << 18);
+    let lower = tables_of_pages(scheme, settled, 1 << 9);
     // 2: the trapframe and the root.
     let frames = 2 + upper + lower;
     match scheme {
         Scheme::Sv39 => frames,
-        Scheme::Sv48 => frames + table_count(scheme, settled, 1 << 27),
+        Scheme::Sv48 => frames + tables_of_pages(scheme, settled, 1 << 27),
     }
 }
 
 /// The number of page tables, each for `pages` pages, that the settled pages, TRAMPOLINE and TRAPFRAME need.
-fn table_count(scheme: Scheme, settled: &[SettledPage], pages: u64) -> usize
+fn tables_of_pages(scheme: Scheme, settled: &[SettledPage], pages: u64) -> usize
     requires few { length settled.now < MOST_FRAMES }
     requires some { 0 < pages }
     requires top { trampoline_page scheme / pages ≡ trapframe_page scheme / pages }

@@ -2,7 +2,8 @@
 // pages (those in memory) of a process, in ascending order.
 
 ghost use Rattle.std.specs.Prelude.{[], ◌≡◌};
-ghost use Rattle.address_space.specs.Agreement.{body_of, IsSpace};
+ghost use Rattle.address_space.specs.Agreement.{body_of, IsSpace, IsAlive};
+ghost use Rattle.address_space.specs.Kept.{OnlyReads};
 ghost use Rattle.address_space.specs.SettledLists.{AreSettled};
 ghost use Rattle.frame_store.specs.Laws.{IsSeatOf, KeepsSeats};
 ghost use Rattle.process_model.specs.Process.{Process};
@@ -45,13 +46,9 @@ impl PageList {
         store: &mut F,
     ) -> &[SettledPage]
         requires fits { IsSeatOf F.rule store.old space.old.seat }
-        requires ready { (t : Tables) × (p : Process) × IsSpace (body_of S.view space.old) t p }
+        requires ready { IsAlive (body_of S.view space.old) }
         ensures settled { (t : Tables) (p : Process) → IsSpace (body_of S.view space.old) t p → AreSettled t p 0 (trapframe_page p.scheme) result.now }
-        ensures root { space.new.root ≡ space.old.root }
-        ensures trapframe { space.new.trapframe ≡ space.old.trapframe }
-        ensures layout { space.new.layout ≡ space.old.layout }
-        ensures view { S.view space.new.seat ≡ S.view space.old.seat }
-        ensures same { store.new ≡ store.old }
+        ensures reads { OnlyReads S.view space.old space.new store.old store.new }
         ensures keeps { KeepsSeats F.rule store.old space.old.seat store.new space.new.seat }
     {
         self.pages.clear();
@@ -68,14 +65,10 @@ fn list_settled<S: FrameSeat, F: FrameAccess<Seat = S>>(
     pages: &mut ArrayVec<SettledPage, MOST_FRAMES>,
 )
     requires fits { IsSeatOf F.rule store.old space.old.seat }
-    requires ready { (t : Tables) × (p : Process) × IsSpace (body_of S.view space.old) t p }
+    requires ready { IsAlive (body_of S.view space.old) }
     requires empty { pages.old.items ≡ [] }
     ensures settled { (t : Tables) (p : Process) → IsSpace (body_of S.view space.old) t p → AreSettled t p 0 (trapframe_page p.scheme) pages.new.items }
-    ensures root { space.new.root ≡ space.old.root }
-    ensures trapframe { space.new.trapframe ≡ space.old.trapframe }
-    ensures layout { space.new.layout ≡ space.old.layout }
-    ensures view { S.view space.new.seat ≡ S.view space.old.seat }
-    ensures same { store.new ≡ store.old }
+    ensures reads { OnlyReads S.view space.old space.new store.old store.new }
     ensures keeps { KeepsSeats F.rule store.old space.old.seat store.new space.new.seat }
 {
     let scheme = space.layout.scheme();

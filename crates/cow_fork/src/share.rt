@@ -3,6 +3,7 @@
 // refused.
 
 ghost use Rattle.std.specs.Prelude.{[], ◌∷◌, ◌++◌, ◌≡◌, ◌+◌, ◌↔◌, ◌<◌, ◌≤◌, if◌then◌else◌, IfErr, IfOk, is_ok, IsOk, length, map, ℕ};
+ghost use Rattle.address_space.specs.Kept.{KeepsPlace};
 ghost use Rattle.cow_fork.specs.Occurrences.{times};
 ghost use Rattle.cow_fork.specs.ForkReferences.{frames_of, HasMore};
 ghost use Rattle.frame_store.specs.Laws.{CountBecomes, IsSeatOf, IsAnchored, KeepsSeats};
@@ -38,9 +39,7 @@ pub(crate) fn share_frames<S: FrameSeat, F: FrameSupply<Seat = S>>(
     ensures tallies { IfOk result (λ _. (S.view space.new.seat).tallies ≡ (S.view space.old.seat).tallies) }
     ensures looked { IfErr result (λ _. (S.view space.new.seat).tallies ≡ counted (65535 ∷ []) (S.view space.old.seat).tallies) }
     ensures full { F.alone → IfErr result (λ _. (f : ℕ) × (0 < times f (0 ∷ frames_of settled.now)) × (F.count store.old f < 65535 → ⊥)) }
-    ensures root { space.new.root ≡ space.old.root }
-    ensures trapframe { space.new.trapframe ≡ space.old.trapframe }
-    ensures layout { space.new.layout ≡ space.old.layout }
+    ensures place { KeepsPlace space.old space.new }
     ensures keeps { KeepsSeats F.rule store.old space.old.seat store.new space.new.seat }
     ensures free { F.alone → F.free store.new ≡ F.free store.old }
 {
@@ -69,9 +68,7 @@ fn share_frame<S: FrameSeat, F: FrameSupply<Seat = S>>(
     ensures full { IfErr result (λ _. S.view space.new.seat ≡ read_full (S.view space.old.seat)) }
     ensures stays { IfErr result (λ _. frames.new.items ≡ frames.old.items) }
     ensures exact { F.alone → IsOk result ↔ (F.count store.old frame.0 < 65535) }
-    ensures root { space.new.root ≡ space.old.root }
-    ensures trapframe { space.new.trapframe ≡ space.old.trapframe }
-    ensures layout { space.new.layout ≡ space.old.layout }
+    ensures place { KeepsPlace space.old space.new }
     ensures keeps { KeepsSeats F.rule store.old space.old.seat store.new space.new.seat }
     ensures free { F.alone → F.free store.new ≡ F.free store.old }
     ensures counts { F.alone → CountBecomes (F.count store.old) (F.count store.new) frame.0 (F.count store.old frame.0 + (if is_ok result then 1 else 0)) }
@@ -93,9 +90,7 @@ pub(crate) fn release_all<S: FrameSeat, F: FrameAccess<Seat = S>>(
     ensures credits { (S.view space.new.seat).credits ≡ (S.view space.old.seat).credits }
     ensures tallies { (S.view space.new.seat).tallies ≡ (S.view space.old.seat).tallies }
     ensures size { (S.view space.new.seat).size ≡ (S.view space.old.seat).size }
-    ensures root { space.new.root ≡ space.old.root }
-    ensures trapframe { space.new.trapframe ≡ space.old.trapframe }
-    ensures layout { space.new.layout ≡ space.old.layout }
+    ensures place { KeepsPlace space.old space.new }
     ensures keeps { KeepsSeats F.rule store.old space.old.seat store.new space.new.seat }
 {
     for frame in frames {

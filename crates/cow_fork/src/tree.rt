@@ -3,6 +3,7 @@
 
 ghost use Rattle.std.specs.Prelude.{[], ◌≡◌, ℕ, IsSome, Some};
 ghost use Rattle.address_space.specs.Agreement.{body_of};
+ghost use Rattle.address_space.specs.Kept.{KeepsPlace};
 ghost use Rattle.address_space.specs.Layouts.{LaysOut, region_of};
 ghost use Rattle.address_space.specs.SpacesInCalls.{IsSpaceInCall, RewritesLeaves};
 ghost use Rattle.address_space.specs.SettledLists.{AreSettled};
@@ -32,9 +33,7 @@ pub(crate) fn copy_tree<S: FrameSeat, F: FrameSupply<Seat = S>>(
     requires ready { (t : Tables) × (p : Process) × CanCopy (S.view space.old.seat) space.old.layout t p trapframe.0 settled.now }
     ensures copied { (t : Tables) (p : Process) → CanCopy (S.view space.old.seat) space.old.layout t p trapframe.0 settled.now →
         (u : Tables) × CopiesTree (S.view space.old.seat) (S.view space.new.seat) t u p result.0 trapframe.0 }
-    ensures root { space.new.root ≡ space.old.root }
-    ensures trapframe { space.new.trapframe ≡ space.old.trapframe }
-    ensures layout { space.new.layout ≡ space.old.layout }
+    ensures place { KeepsPlace space.old space.new }
     ensures keeps { KeepsSeats F.rule store.old space.old.seat store.new space.new.seat }
     ensures free { F.alone → F.free store.new ≡ F.free store.old }
 {
@@ -110,9 +109,7 @@ pub(crate) fn mark_pages<S: FrameSeat, F: FrameAccess<Seat = S>>(
     requires ready { (t : Tables) × (p : Process) × (extra : ℕ → ℕ) × IsSpaceInCall (body_of S.view space.old) t p extra × AreSettled t p 0 (trapframe_page p.scheme) settled.now }
     ensures marked { (t : Tables) (p : Process) (extra : ℕ → ℕ) → IsSpaceInCall (body_of S.view space.old) t p extra → AreSettled t p 0 (trapframe_page p.scheme) settled.now →
         (w : Tables) × IsSpaceInCall (body_of S.view space.new) w (marked p) extra × RewritesLeaves (body_of S.view space.old) (body_of S.view space.new) t w }
-    ensures root { space.new.root ≡ space.old.root }
-    ensures trapframe { space.new.trapframe ≡ space.old.trapframe }
-    ensures layout { space.new.layout ≡ space.old.layout }
+    ensures place { KeepsPlace space.old space.new }
     ensures keeps { KeepsSeats F.rule store.old space.old.seat store.new space.new.seat }
     ensures free { F.alone → F.free store.new ≡ F.free store.old }
 {

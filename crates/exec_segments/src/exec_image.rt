@@ -2,7 +2,7 @@
 // Before that, mmap pages with the dirty mark (D) are written back to their files.
 
 ghost use Rattle.std.specs.Prelude.{[], ◌≡◌, ◌≢◌, ◌<◌, ◌≤◌, IfErr, IfOk, length, ℕ};
-ghost use Rattle.address_space.specs.Agreement.{body_of, IsSpace};
+ghost use Rattle.address_space.specs.Agreement.{body_of, IsSpace, IsAlive};
 ghost use Rattle.address_space.specs.Parts.{OwnsAlone};
 ghost use Rattle.address_space.specs.Steps.{RunsDry, TakesFrames};
 ghost use Rattle.exec_segments.specs.ExecRefusals.{IsExecRefusal};
@@ -45,7 +45,7 @@ pub fn exec<S: FrameSeat, F: FrameSupply<Seat = S>, C: Files>(
     files: &mut C,
 ) -> Result<(), Refusal>
     requires fits { IsSeatOf F.rule store.old space.old.seat }
-    requires ready { (t : tables.Tables) × (p : Process) × IsSpace (body_of S.view space.old) t p }
+    requires ready { IsAlive (body_of S.view space.old) }
     requires scheme { image.now.scheme ≡ space.old.layout.scheme }
     ensures replaced { IfOk result (λ _. (t : tables.Tables) × ((fresh : ℕ) → IsSpace (body_of S.view space.new) t (model.process_of image.now.scheme fresh image.now.loads)) × OwnsAlone (S.view space.new.seat) t) }
     ensures moves { IfOk result (λ _. (t : tables.Tables) (p : Process) → IsSpace (body_of S.view space.old) t p → C.becomes files.old (all_moves p) files.new) }

@@ -4,6 +4,7 @@
 
 ghost use Rattle.std.specs.Prelude.{[], ◌≡◌, ◌≢◌, ◌+◌, ◌-◌, ◌*◌, ◌^◌, ◌<◌, ◌≤◌, ◌↔◌, ℕ, Err, if◌then◌else◌, IfErr, IfOk, is_ok, false, IsOk, length, List, None, Some};
 ghost use Rattle.address_space.specs.Agreement.{body_of, IsSpace};
+ghost use Rattle.address_space.specs.Kept.{KeepsPlace};
 ghost use Rattle.address_space.specs.Layouts.{region_of};
 ghost use Rattle.fault_rules.specs.MadeResident.{CanMakeResident, HasMadeResident, IsNoFrameError, resident_reads, LacksFrames, taken_of, WhenMadeResident};
 ghost use Rattle.fault_rules.specs.declared.residence.ResidenceError.TheVariants.{Unpromised};
@@ -91,9 +92,7 @@ pub fn make_resident<S: FrameSeat, F: FrameSupply<Seat = S>, C: Files>(
     ensures enough { F.alone → WhenMadeResident (body_of S.view space.old) access page (F.count store.old) (λ need. IsOk result → need ≤ F.free store.old) }
     ensures short { F.alone → WhenMadeResident (body_of S.view space.old) access page (F.count store.old) (λ need. IsNoFrameError result → F.free store.old < need) }
     ensures free { F.alone → WhenMadeResident (body_of S.view space.old) access page (F.count store.old) (λ need. F.free store.new ≡ F.free store.old - taken_of result need) }
-    ensures root { space.new.root ≡ space.old.root }
-    ensures trapframe { space.new.trapframe ≡ space.old.trapframe }
-    ensures layout { space.new.layout ≡ space.old.layout }
+    ensures place { KeepsPlace space.old space.new }
     ensures keeps { KeepsSeats F.rule store.old space.old.seat store.new space.new.seat }
 {
     let Some(settled) = space.settled_page(store, page) else {
@@ -129,9 +128,7 @@ fn settle_initial<S: FrameSeat, F: FrameSupply<Seat = S>, C: Files>(
     ensures enough { F.alone → WhenMadeResident (body_of S.view space.old) access page (F.count store.old) (λ need. IsOk result → need ≤ F.free store.old) }
     ensures short { F.alone → WhenMadeResident (body_of S.view space.old) access page (F.count store.old) (λ need. IsNoFrameError result → F.free store.old < need) }
     ensures free { F.alone → WhenMadeResident (body_of S.view space.old) access page (F.count store.old) (λ need. F.free store.new ≡ F.free store.old - taken_of result need) }
-    ensures root { space.new.root ≡ space.old.root }
-    ensures trapframe { space.new.trapframe ≡ space.old.trapframe }
-    ensures layout { space.new.layout ≡ space.old.layout }
+    ensures place { KeepsPlace space.old space.new }
     ensures keeps { KeepsSeats F.rule store.old space.old.seat store.new space.new.seat }
 {
     let Some(region) = space.layout.region_at(page.number()) else {
@@ -183,9 +180,7 @@ fn settle_from_file<S: FrameSeat, F: FrameSupply<Seat = S>, C: Files>(
     ensures enough { F.alone → WhenMadeResident (body_of S.view space.old) access page (F.count store.old) (λ need. IsOk result → need ≤ F.free store.old) }
     ensures short { F.alone → WhenMadeResident (body_of S.view space.old) access page (F.count store.old) (λ need. IsNoFrameError result → F.free store.old < need) }
     ensures free { F.alone → WhenMadeResident (body_of S.view space.old) access page (F.count store.old) (λ need. F.free store.new ≡ F.free store.old - taken_of result need) }
-    ensures root { space.new.root ≡ space.old.root }
-    ensures trapframe { space.new.trapframe ≡ space.old.trapframe }
-    ensures layout { space.new.layout ≡ space.old.layout }
+    ensures place { KeepsPlace space.old space.new }
     ensures keeps { KeepsSeats F.rule store.old space.old.seat store.new space.new.seat }
 {
     files.promise(1)?;
@@ -223,9 +218,7 @@ fn settle_bytes<S: FrameSeat, F: FrameSupply<Seat = S>>(
     ensures enough { F.alone → WhenMadeResident (body_of S.view space.old) access page (F.count store.old) (λ need. IsOk result → need ≤ F.free store.old) }
     ensures short { F.alone → WhenMadeResident (body_of S.view space.old) access page (F.count store.old) (λ need. IfErr result (λ _. F.free store.old < need)) }
     ensures free { F.alone → WhenMadeResident (body_of S.view space.old) access page (F.count store.old) (λ need. F.free store.new ≡ F.free store.old - (if is_ok result then need else 0)) }
-    ensures root { space.new.root ≡ space.old.root }
-    ensures trapframe { space.new.trapframe ≡ space.old.trapframe }
-    ensures layout { space.new.layout ≡ space.old.layout }
+    ensures place { KeepsPlace space.old space.new }
     ensures keeps { KeepsSeats F.rule store.old space.old.seat store.new space.new.seat }
 {
     let mark = is_to_mark(region, access);

@@ -2,7 +2,8 @@
 // ready for the access), the process is to end by a rule, or the files refused the promise (reservation) of a page read.
 
 ghost use Rattle.std.specs.Prelude.{[], ◌≡◌, ◌≢◌, ◌-◌, ◌<◌, ◌≤◌, if◌then◌else◌, length};
-ghost use Rattle.address_space.specs.Agreement.{body_of, IsSpace};
+ghost use Rattle.address_space.specs.Agreement.{body_of, IsSpace, IsAlive};
+ghost use Rattle.address_space.specs.Kept.{KeepsPlace};
 ghost use Rattle.fault_rules.specs.MadeResident.{HasMadeResident, LacksFrames, WhenMadeResident};
 ghost use Rattle.fault_rules.specs.Serves.{DoesNothing, is_ready, IsEnd, served_moves};
 ghost use Rattle.fault_rules.specs.declared.service.Served.TheVariants.{Ended, Ready, Unserved};
@@ -51,7 +52,7 @@ pub fn serve<S: FrameSeat, F: FrameSupply<Seat = S>, C: Files>(
     access: Access,
 ) -> Served
     requires fits { IsSeatOf F.rule store.old space.old.seat }
-    requires ready { (t : Tables) × (p : Process) × IsSpace (body_of S.view space.old) t p }
+    requires ready { IsAlive (body_of S.view space.old) }
     requires width { 0 < width }
     ensures ended { (t : Tables) (p : Process) → IsSpace (body_of S.view space.old) t p → IsEnd (first_rule p.scheme (regions p) access va.0 width) result }
     ensures ready { result ≡ Ready → HasMadeResident (body_of S.view space.old) (body_of S.view space.new) (C.files files.old) access (page_of va.0) (λ f c. F.alone → c ≡ F.count store.old f) }
@@ -66,9 +67,7 @@ pub fn serve<S: FrameSeat, F: FrameSupply<Seat = S>, C: Files>(
     ensures enough { F.alone → WhenMadeResident (body_of S.view space.old) access (page_of va.0) (F.count store.old) (λ need. result ≡ Ready → need ≤ F.free store.old) }
     ensures short { F.alone → WhenMadeResident (body_of S.view space.old) access (page_of va.0) (F.count store.old) (λ need. result ≡ Ended NoFrame → F.free store.old < need) }
     ensures free { F.alone → WhenMadeResident (body_of S.view space.old) access (page_of va.0) (F.count store.old) (λ need. F.free store.new ≡ F.free store.old - (if is_ready result then need else 0)) }
-    ensures root { space.new.root ≡ space.old.root }
-    ensures trapframe { space.new.trapframe ≡ space.old.trapframe }
-    ensures layout { space.new.layout ≡ space.old.layout }
+    ensures place { KeepsPlace space.old space.new }
     ensures keeps { KeepsSeats F.rule store.old space.old.seat store.new space.new.seat }
 {
     if let Err(rule) = space.grant(access, va, width) {

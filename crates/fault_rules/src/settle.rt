@@ -3,6 +3,7 @@
 
 ghost use Rattle.std.specs.Prelude.{[], ◌≡◌, ◌-◌, ◌≤◌, ◌↔◌, if◌then◌else◌, IfErr, IfOk, is_ok, IsOk, length, true};
 ghost use Rattle.address_space.specs.Agreement.{body_of, IsSpace};
+ghost use Rattle.address_space.specs.Kept.{KeepsPlace};
 ghost use Rattle.address_space.specs.Steps.{CanSettle, RunsDry};
 ghost use Rattle.fault_rules.specs.SettlePage.{HasSettledAs};
 ghost use Rattle.frame_store.specs.Laws.{IsSeatOf, KeepsSeats};
@@ -39,9 +40,7 @@ pub(crate) fn settle_as<S: FrameSeat, F: FrameSupply<Seat = S>>(
     ensures whole { IfErr result (λ _. (t : Tables) (p : Process) → IsSpace (body_of S.view space.old) t p → IsSpace (body_of S.view space.new) t p) }
     ensures exact { F.alone → (t : Tables) (p : Process) → CanSettle (body_of S.view space.old) t p page → IsOk result ↔ (settle_need p page ≤ F.free store.old) }
     ensures free { F.alone → (t : Tables) (p : Process) → CanSettle (body_of S.view space.old) t p page → F.free store.new ≡ F.free store.old - (if is_ok result then settle_need p page else 0) }
-    ensures root { space.new.root ≡ space.old.root }
-    ensures trapframe { space.new.trapframe ≡ space.old.trapframe }
-    ensures layout { space.new.layout ≡ space.old.layout }
+    ensures place { KeepsPlace space.old space.new }
     ensures keeps { KeepsSeats F.rule store.old space.old.seat store.new space.new.seat }
 {
     space.settle(store, page, bytes)?;

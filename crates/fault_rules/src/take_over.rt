@@ -4,6 +4,7 @@
 
 ghost use Rattle.std.specs.Prelude.{◌≡◌, ◌-◌, ◌≤◌, ◌↔◌, if◌then◌else◌, IfErr, IfOk, is_ok, IsOk, List};
 ghost use Rattle.address_space.specs.Agreement.{body_of, IsSpace};
+ghost use Rattle.address_space.specs.Kept.{KeepsPlace};
 ghost use Rattle.address_space.specs.SettledLists.{IsSettledPage};
 ghost use Rattle.fault_rules.specs.MadeResident.{CanMakeResident, HasMadeResident, LacksFrames, WhenMadeResident};
 ghost use Rattle.fault_rules.specs.TakeOver.{HasUnshared};
@@ -36,9 +37,7 @@ pub(crate) fn take_over<S: FrameSeat, F: FrameSupply<Seat = S>>(
     ensures whole { IfErr result (λ _. (t : Tables) (p : Process) → IsSpace (body_of S.view space.old) t p → IsSpace (body_of S.view space.new) t p) }
     ensures exact { F.alone → WhenMadeResident (body_of S.view space.old) Store settled.now.page (F.count store.old) (λ need. IsOk result ↔ (need ≤ F.free store.old)) }
     ensures free { F.alone → WhenMadeResident (body_of S.view space.old) Store settled.now.page (F.count store.old) (λ need. F.free store.new ≡ F.free store.old - (if is_ok result then need else 0)) }
-    ensures root { space.new.root ≡ space.old.root }
-    ensures trapframe { space.new.trapframe ≡ space.old.trapframe }
-    ensures layout { space.new.layout ≡ space.old.layout }
+    ensures place { KeepsPlace space.old space.new }
     ensures keeps { KeepsSeats F.rule store.old space.old.seat store.new space.new.seat }
 {
     unshare(space, store, settled)?;
@@ -62,9 +61,7 @@ fn unshare<S: FrameSeat, F: FrameSupply<Seat = S>>(
     ensures whole { IfErr result (λ _. (t : Tables) (p : Process) → IsSpace (body_of S.view space.old) t p → IsSpace (body_of S.view space.new) t p) }
     ensures exact { F.alone → WhenMadeResident (body_of S.view space.old) Store settled.now.page (F.count store.old) (λ need. IsOk result ↔ (need ≤ F.free store.old)) }
     ensures free { F.alone → WhenMadeResident (body_of S.view space.old) Store settled.now.page (F.count store.old) (λ need. F.free store.new ≡ F.free store.old - (if is_ok result then need else 0)) }
-    ensures root { space.new.root ≡ space.old.root }
-    ensures trapframe { space.new.trapframe ≡ space.old.trapframe }
-    ensures layout { space.new.layout ≡ space.old.layout }
+    ensures place { KeepsPlace space.old space.new }
     ensures keeps { KeepsSeats F.rule store.old space.old.seat store.new space.new.seat }
 {
     if settled.cow {

@@ -1,6 +1,6 @@
 // Functions on the 4,096 bytes of a frame of any frame store: `load_bytes` and `store_bytes` (a number of 1, 2, 4 or 8
 // bytes), `fill_frame` (some bytes, then zeros), `copy_frame` and `read_frame`. The bytes lie in the frame's 512 words in
-// little-endian order, as loads and stores of RV64 have it. Crate-internal: `read_words`, `store_in_word` and `whole_word`.
+// little-endian order, as loads and stores of RV64 have it. Crate-internal: `read_words` and `store_in_word`.
 
 ghost use Rattle.std.specs.Int.{from_le_bytes, w64};
 ghost use Rattle.std.specs.Prelude.{◌≡◌, ◌≢◌, ◌+◌, ◌*◌, ◌/◌, ◌%◌, ◌^◌, ◌<◌, ◌≤◌, ℕ, drop, IsTrue, length, List, take};
@@ -9,7 +9,7 @@ ghost use Rattle.frame_store.specs.Laws.{IsSeatOf, KeepsSeats};
 ghost use Rattle.frame_store.specs.View.{IsHeld, IsSole};
 ghost use Rattle.process_model.specs.Bytes.{is_width, low_bytes, number, padded, write_bytes};
 
-use frame_store::{FrameAccess, FrameSeat};
+use frame_store::{FrameAccess, FrameSeat, whole_word};
 use sv39_entry::FrameNo;
 
 /// Returns the little-endian number in `width` bytes of a held frame, from byte `offset` on. `width` is 1, 2, 4 or 8, and
@@ -189,16 +189,6 @@ fn zero_words<F: FrameAccess>(store: &mut F, seat: &mut F::Seat, frame: FrameNo,
     ensures counts { F.alone → (f : ℕ) → F.count store.new f ≡ F.count store.old f }
 {
     store.clear(seat, frame, first);
-}
-
-/// Returns the little-endian word of eight bytes.
-pub(crate) fn whole_word(bytes: &[u8]) -> u64
-    requires { length bytes.now ≡ 8 }
-    ensures { result ≡ from_le_bytes w64 bytes.now }
-{
-    let mut word = [0; 8];
-    word.copy_from_slice(bytes);
-    u64::from_le_bytes(word)
 }
 
 /// Returns the little-endian word of fewer than eight bytes, padded with zeros.

@@ -8,8 +8,8 @@ ghost use Rattle.frame_store.specs.Laws.{IsSeatOf, KeepsSeats};
 ghost use Rattle.frame_store.specs.View.{IsHeld, IsSole};
 ghost use Rattle.process_model.specs.Bytes.{write_bytes};
 
-use crate::contents::{read_words, store_in_word, whole_word};
-use frame_store::{FrameAccess, FrameSeat};
+use crate::contents::{read_words, store_in_word};
+use frame_store::{FrameAccess, FrameSeat, whole_word};
 use sv39_entry::FrameNo;
 
 /// Reads the bytes of a held frame from byte `offset` on and fills `bytes` with them. The run must end inside the frame,

@@ -10,7 +10,7 @@ ghost use Rattle.frame_store.specs.NextWord.{IsNextBusyWord, IsNextWord};
 ghost use Rattle.frame_store.specs.View.{AllKnown, IsHeld, IsSole, joined, known_word, looked, released, View, with_many, with_word, without_credits, words_known};
 ghost use Rattle.process_model.specs.declared.limits.TheConstants.{MOST_FRAMES};
 
-use crate::bytes::whole_word;
+use crate::bytes::word_at;
 use sv39_entry::FrameNo;
 
 /// A seat: one owner's capability at a frame store, with the owner's references to frames and its credits.
@@ -148,7 +148,7 @@ pub trait FrameAccess {
         ensures counts { alone → (f : ℕ) → count self.new f ≡ count self.old f }
     {
         'words: for index in 0..bytes.len() / 8 {
-            self.store(seat, frame, index, whole_word(bytes, index));
+            self.store(seat, frame, index, word_at(bytes, index));
         }
     }
 

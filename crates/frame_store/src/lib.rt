@@ -21,6 +21,7 @@ mod supply;
 mod zeros;
 
 pub use access::{FrameAccess, FrameSeat};
+pub use bytes::whole_word;
 pub use opening::opened_seat;
 pub use plain::{PlainFrames, PlainSeat};
 pub use refusal::{NoFrame, SharersFull};

@@ -1,10 +1,10 @@
 // Functions that make a user access (fetch, load, store) in a process's space: `access` serves its fault first unless it is
 // granted at once, and can end in the rule that ends the process or in a refused promise (reservation of file reads);
-// `request` builds the access; helpers test whether a walk permits it, and make it.
+// helpers test whether a walk permits it, and make it.
 
 ghost use Rattle.std.specs.Prelude.{◌≡◌, ◌&&◌, ◌==◌, ◌%◌, IsTrue, ◌≤◌};
 ghost use Rattle.address_space.specs.Accesses.{request_of, gives_leaf, IsWalkOf};
-ghost use Rattle.address_space.specs.Agreement.{body_of, IsSpace};
+ghost use Rattle.address_space.specs.Agreement.{body_of, IsSpace, IsAlive};
 ghost use Rattle.frame_store.specs.Laws.{IsSeatOf, KeepsSeats};
 ghost use Rattle.hart_calls.specs.CallKinds.{IsAccess};
 ghost use Rattle.hart_calls.specs.CallResults.{GivesCallResult, RefusesPromise};
@@ -21,20 +21,8 @@ use fault_rules::{Served, serve};
 use file_cabinet::Files;
 use frame_store::{FrameAccess, FrameSeat, FrameSupply};
 use process_model::{Refusal, ScalarReply, is_width};
-use sv39_entry::{Access, Mode, Va};
+use sv39_entry::Mode;
 use table_walk::Walk;
-
-/// An access as `address_space` takes it. `width` is in bytes.
-pub(crate) fn request(access: Access, address: u64, width: u64, value: u64) -> AccessRequest
-    ensures { result ≡ record { access = access; va = record { 0 = address }; width = width; value = value } }
-{
-    AccessRequest {
-        access,
-        va: Va(address),
-        width,
-        value,
-    }
-}
 
 /// Makes a user access; a width other than 1, 2, 4 or 8 is refused with `BadArgument`. If it is aligned and granted, and its
 /// page is resident for it, it is made at once. Else its fault is served first: then the access is made, or the process ends
@@ -46,7 +34,7 @@ pub(crate) fn access<S: FrameSeat, F: FrameSupply<Seat = S>, C: Files>(
     request: AccessRequest,
 ) -> CallResult
     requires fits { IsSeatOf F.FrameAccess.rule store.old space.old.seat }
-    requires ready { (t : Tables) × (p : Process) × IsSpace (body_of S.view space.old) t p }
+    requires ready { IsAlive (body_of S.view space.old) }
     ensures call_result { (c : declared.Call) → IsAccess c (request_of request) → GivesCallResult (body_of S.view space.old) (body_of S.view space.new) (C.files files.old) (λ moves. C.becomes files.old moves files.new) (RefusesPromise C.becomes C.can_refuse files.old) (λ n. n ≤ C.room files.new) c result }
     ensures keeps { KeepsSeats F.FrameAccess.rule store.old space.old.seat store.new space.new.seat }
 {
@@ -90,7 +78,7 @@ fn without_service<S: FrameSeat, F: FrameAccess<Seat = S>>(
     request: AccessRequest,
 ) -> JournalReply
     requires fits { IsSeatOf F.rule store.old space.old.seat }
-    requires ready { (t : Tables) × (p : Process) × IsSpace (body_of S.view space.old) t p }
+    requires ready { IsAlive (body_of S.view space.old) }
     requires width { IsTrue (is_width request.width) }
     ensures reply { (t : Tables) (p : Process) → IsSpace (body_of S.view space.old) t p → result ≡ (service.user_access p (request_of request)).reply }
     ensures after { (t : Tables) (p : Process) → IsSpace (body_of S.view space.old) t p → IsSpace (body_of S.view space.new) t (service.user_access p (request_of request)).process }

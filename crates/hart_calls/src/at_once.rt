@@ -4,7 +4,7 @@
 
 ghost use Rattle.std.specs.Prelude.{◌≡◌, IfSome, IsNone, None, false, true};
 ghost use Rattle.address_space.specs.Accesses.{request_of};
-ghost use Rattle.address_space.specs.Agreement.{body_of, IsSpace};
+ghost use Rattle.address_space.specs.Agreement.{body_of, IsSpace, IsAlive};
 ghost use Rattle.file_shelf.specs.ShelfStates.{ShelfState};
 ghost use Rattle.frame_store.specs.Laws.{IsSeatOf, KeepsSeats};
 ghost use Rattle.hart_calls.specs.AtOnce.{IsMadeAtOnce};
@@ -17,7 +17,7 @@ ghost use Rattle.process_model.specs.Service as service;
 ghost use Rattle.process_model.specs.declared.call.Call as declared;
 ghost use Rattle.table_walk.specs.Tables.{Tables};
 
-use crate::access::{accessed, is_permitted, request};
+use crate::access::{accessed, is_permitted};
 use crate::call_result::CallResult;
 use crate::calls::make_there;
 use crate::journal_entry::{JournalEntry, PagesRead};
@@ -132,13 +132,13 @@ fn asked(call: Call<'_>) -> Option<AccessRequest>
     ensures { IfSome result (λ request. IsAccess call.entry (request_of request)) }
 {
     match call {
-        Call::Fetch { address } => Some(request(Access::Fetch, address, 4, 0)),
-        Call::Load { address, width } => Some(request(Access::Load, address, width, 0)),
+        Call::Fetch { address } => Some(AccessRequest::new(Access::Fetch, address, 4, 0)),
+        Call::Load { address, width } => Some(AccessRequest::new(Access::Load, address, width, 0)),
         Call::Store {
             address,
             width,
             value,
-        } => Some(request(Access::Store, address, width, value)),
+        } => Some(AccessRequest::new(Access::Store, address, width, value)),
         _ => None,
     }
 }
@@ -150,7 +150,7 @@ fn permitted_there<S: FrameSeat, F: FrameAccess<Seat = S>>(
     request: AccessRequest,
 ) -> Option<JournalReply>
     requires fits { IsSeatOf F.rule store.old space.old.value.seat }
-    requires ready { (t : Tables) × (p : Process) × IsSpace (body_of S.view space.old.value) t p }
+    requires ready { IsAlive (body_of S.view space.old.value) }
     ensures made { (c : declared.Call) → IsAccess c (request_of request) → (t : Tables) (p : Process) → IsSpace (body_of S.view space.old.value) t p → IfSome result (IsMadeAtOnce (body_of S.view space.old.value) (body_of S.view space.new.value) p (request_of request) c) }
     ensures none { IsNone result → body_of S.view space.new.value ≡ body_of S.view space.old.value }
     ensures keeps { KeepsSeats F.rule store.old space.old.value.seat store.new space.new.value.seat }
@@ -165,7 +165,7 @@ fn permitted<S: FrameSeat, F: FrameAccess<Seat = S>>(
     request: AccessRequest,
 ) -> Option<JournalReply>
     requires fits { IsSeatOf F.rule store.old space.old.seat }
-    requires ready { (t : Tables) × (p : Process) × IsSpace (body_of S.view space.old) t p }
+    requires ready { IsAlive (body_of S.view space.old) }
     ensures made { (c : declared.Call) → IsAccess c (request_of request) → (t : Tables) (p : Process) → IsSpace (body_of S.view space.old) t p → IfSome result (IsMadeAtOnce (body_of S.view space.old) (body_of S.view space.new) p (request_of request) c) }
     ensures none { IsNone result → body_of S.view space.new ≡ body_of S.view space.old }
     ensures keeps { KeepsSeats F.rule store.old space.old.seat store.new space.new.seat }

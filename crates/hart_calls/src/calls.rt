@@ -2,20 +2,18 @@
 // the function that makes it in the process's space, and turn the result into a `CallResult`; exec itself (`replace`).
 
 ghost use Rattle.std.specs.Prelude.{◌≡◌, ◌≤◌};
-ghost use Rattle.address_space.specs.Agreement.{body_of, IsSpace};
+ghost use Rattle.address_space.specs.Agreement.{body_of, IsAlive};
 ghost use Rattle.frame_store.specs.Laws.{IsSeatOf, KeepsSeats};
 ghost use Rattle.hart_calls.specs.ReplyCases.{done_or_refused, mapped_or_refused, size_or_refused};
 ghost use Rattle.hart_calls.specs.CallKinds.{HasRoomFor, IsPlainCall};
 ghost use Rattle.hart_calls.specs.CallResults.{GivesCallResult, RefusesPromise};
-ghost use Rattle.process_model.specs.Process.{Process};
 ghost use Rattle.process_model.specs.declared.call.Call.TheVariants as call;
-ghost use Rattle.table_walk.specs.Tables.{Tables};
 
-use crate::access::{access, request};
+use crate::access::access;
 use crate::call_result::CallResult;
 use crate::copies::{copy_from, copy_to};
 use crate::journal_reply::JournalReply;
-use address_space::Space;
+use address_space::{AccessRequest, Space};
 use exec_segments::Image;
 use file_cabinet::Files;
 use frame_store::{FrameSeat, FrameSupply};
@@ -32,7 +30,7 @@ fn make<S: FrameSeat, F: FrameSupply<Seat = S>, C: Files>(
     room: Option<Box<Reply>>,
 ) -> CallResult
     requires fits { IsSeatOf F.FrameAccess.rule store.old space.old.seat }
-    requires ready { (t : Tables) × (p : Process) × IsSpace (body_of S.view space.old) t p }
+    requires ready { IsAlive (body_of S.view space.old) }
     requires stays { IsPlainCall call }
     requires room { HasRoomFor call room }
     ensures call_result { GivesCallResult (body_of S.view space.old) (body_of S.view space.new) (C.files files.old) (λ moves. C.becomes files.old moves files.new) (RefusesPromise C.becomes C.can_refuse files.old) (λ n. n ≤ C.room files.new) call.entry result }
@@ -43,13 +41,13 @@ fn make<S: FrameSeat, F: FrameSupply<Seat = S>, C: Files>(
             space,
             store,
             files,
-            request(Access::Fetch, address, 4, 0),
+            AccessRequest::new(Access::Fetch, address, 4, 0),
         ),
         Call::Load { address, width } => access(
             space,
             store,
             files,
-            request(Access::Load, address, width, 0),
+            AccessRequest::new(Access::Load, address, width, 0),
         ),
         Call::Store {
             address,
@@ -59,7 +57,7 @@ fn make<S: FrameSeat, F: FrameSupply<Seat = S>, C: Files>(
             space,
             store,
             files,
-            request(Access::Store, address, width, value),
+            AccessRequest::new(Access::Store, address, width, value),
         ),
         Call::Exec { image } => replace(space, store, files, image),
         Call::Sbrk { delta } => sized(lazy_growth::sbrk(space, store, delta)),
@@ -91,7 +89,7 @@ pub(crate) fn make_there<S: FrameSeat, F: FrameSupply<Seat = S>, C: Files>(
     room: Option<Box<Reply>>,
 ) -> CallResult
     requires fits { IsSeatOf F.FrameAccess.rule store.old space.old.value.seat }
-    requires ready { (t : Tables) × (p : Process) × IsSpace (body_of S.view space.old.value) t p }
+    requires ready { IsAlive (body_of S.view space.old.value) }
     requires stays { IsPlainCall call }
     requires room { HasRoomFor call room }
     ensures call_result { GivesCallResult (body_of S.view space.old.value) (body_of S.view space.new.value) (C.files files.old) (λ moves. C.becomes files.old moves files.new) (RefusesPromise C.becomes C.can_refuse files.old) (λ n. n ≤ C.room files.new) call.entry result }
@@ -109,7 +107,7 @@ fn replace<S: FrameSeat, F: FrameSupply<Seat = S>, C: Files>(
     image: process_model::Image<'_>,
 ) -> CallResult
     requires fits { IsSeatOf F.FrameAccess.rule store.old space.old.seat }
-    requires ready { (t : Tables) × (p : Process) × IsSpace (body_of S.view space.old) t p }
+    requires ready { IsAlive (body_of S.view space.old) }
     ensures call_result { GivesCallResult (body_of S.view space.old) (body_of S.view space.new) (C.files files.old) (λ moves. C.becomes files.old moves files.new) (RefusesPromise C.becomes C.can_refuse files.old) (λ n. n ≤ C.room files.new) (call.Exec image.entry) result }
     ensures keeps { KeepsSeats F.FrameAccess.rule store.old space.old.seat store.new space.new.seat }
 {

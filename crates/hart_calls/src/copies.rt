@@ -1,12 +1,10 @@
 // `copy_from`, `copy_to`: the calls CopyIn and CopyOut (copyin and copyout of xv6) in a process's space: the limit of 256
 // bytes, the copy of `user_copy`, and its end as a `CallResult`: whole, stopped by a rule, or stopped by the files.
 ghost use Rattle.std.specs.Prelude.{◌≤◌};
-ghost use Rattle.address_space.specs.Agreement.{body_of, IsSpace};
+ghost use Rattle.address_space.specs.Agreement.{body_of, IsAlive};
 ghost use Rattle.frame_store.specs.Laws.{IsSeatOf, KeepsSeats};
 ghost use Rattle.hart_calls.specs.CallResults.{GivesCallResult, RefusesPromise};
-ghost use Rattle.process_model.specs.Process.{Process};
 ghost use Rattle.process_model.specs.declared.call.Call.TheVariants as call;
-ghost use Rattle.table_walk.specs.Tables.{Tables};
 
 use crate::call_result::CallResult;
 use crate::journal_reply::JournalReply;
@@ -30,7 +28,7 @@ pub(crate) fn copy_from<S: FrameSeat, F: FrameSupply<Seat = S>, C: Files>(
     room: Box<Reply>,
 ) -> CallResult
     requires fits { IsSeatOf F.FrameAccess.rule store.old space.old.seat }
-    requires ready { (t : Tables) × (p : Process) × IsSpace (body_of S.view space.old) t p }
+    requires ready { IsAlive (body_of S.view space.old) }
     ensures call_result { GivesCallResult (body_of S.view space.old) (body_of S.view space.new) (C.files files.old) (λ moves. C.becomes files.old moves files.new) (RefusesPromise C.becomes C.can_refuse files.old) (λ n. n ≤ C.room files.new) (call.CopyIn va.0 count) result }
     ensures keeps { KeepsSeats F.FrameAccess.rule store.old space.old.seat store.new space.new.seat }
 {
@@ -61,7 +59,7 @@ pub(crate) fn copy_to<S: FrameSeat, F: FrameSupply<Seat = S>, C: Files>(
     bytes: &[u8],
 ) -> CallResult
     requires fits { IsSeatOf F.FrameAccess.rule store.old space.old.seat }
-    requires ready { (t : Tables) × (p : Process) × IsSpace (body_of S.view space.old) t p }
+    requires ready { IsAlive (body_of S.view space.old) }
     ensures call_result { GivesCallResult (body_of S.view space.old) (body_of S.view space.new) (C.files files.old) (λ moves. C.becomes files.old moves files.new) (RefusesPromise C.becomes C.can_refuse files.old) (λ n. n ≤ C.room files.new) (call.CopyOut va.0 bytes.entry) result }
     ensures keeps { KeepsSeats F.FrameAccess.rule store.old space.old.seat store.new space.new.seat }
 {

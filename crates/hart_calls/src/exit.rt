@@ -3,7 +3,7 @@
 // write-back), with the steps and outcomes that they share.
 
 ghost use Rattle.std.specs.Prelude.{[], ◌≡◌, ◌<◌, IfErr, IfOk, length, None, vec_capacity, vec_len};
-ghost use Rattle.address_space.specs.Agreement.{body_of, IsSpace};
+ghost use Rattle.address_space.specs.Agreement.{body_of, IsSpace, IsAlive};
 ghost use Rattle.address_space.specs.Steps.{IsBare, TakesFrames};
 ghost use Rattle.file_shelf.specs.ShelfStates.{HasMoves, CanRefuse};
 ghost use Rattle.hart_calls.specs.ProcessEnd.{Closes, IsCause, outcome_of};
@@ -179,7 +179,7 @@ fn write_there<B: RunBrand, R: Wait>(
 ) -> Result<(), PromiseError>
     requires store { store.old ≡ B.table }
     requires fits { FitsIn B.table space.old.value.seat }
-    requires ready { (t : Tables) × (p : Process) × IsSpace (body_of view_of space.old.value) t p }
+    requires ready { IsAlive (body_of view_of space.old.value) }
     ensures store { store.new ≡ B.table }
     ensures fits { FitsIn B.table space.new.value.seat }
     ensures still { (t : Tables) (p : Process) → IsSpace (body_of view_of space.old.value) t p → IsSpace (body_of view_of space.new.value) t p }
@@ -203,7 +203,7 @@ fn write_all_back<B: RunBrand, R: Wait>(
 ) -> Result<(), PromiseError>
     requires store { store.old ≡ B.table }
     requires fits { FitsIn B.table space.old.seat }
-    requires ready { (t : Tables) × (p : Process) × IsSpace (body_of view_of space.old) t p }
+    requires ready { IsAlive (body_of view_of space.old) }
     ensures store { store.new ≡ B.table }
     ensures fits { FitsIn B.table space.new.seat }
     ensures still { (t : Tables) (p : Process) → IsSpace (body_of view_of space.old) t p → IsSpace (body_of view_of space.new) t p }
@@ -227,7 +227,7 @@ pub(crate) fn leave<B: RunBrand, R: Wait>(
 ) -> SharedSeat
     requires store { store.old ≡ B.table }
     requires fits { FitsIn B.table space.value.seat }
-    requires ready { (t : Tables) × (p : Process) × IsSpace (body_of view_of space.value) t p }
+    requires ready { IsAlive (body_of view_of space.value) }
     ensures store { store.new ≡ B.table }
     ensures fits { FitsIn B.table result }
     ensures bare { IsBare (view_of result) }
@@ -243,7 +243,7 @@ pub(crate) fn destroy<B: RunBrand, R: Wait>(
 ) -> SharedSeat
     requires store { store.old ≡ B.table }
     requires fits { FitsIn B.table space.seat }
-    requires ready { (t : Tables) × (p : Process) × IsSpace (body_of view_of space) t p }
+    requires ready { IsAlive (body_of view_of space) }
     ensures store { store.new ≡ B.table }
     ensures fits { FitsIn B.table result }
     ensures bare { IsBare (view_of result) }

@@ -3,7 +3,8 @@
 // before.
 
 ghost use Rattle.std.specs.Prelude.{[], ◌∷◌, ◌≡◌, ◌≢◌, ◌<◌, IfErr, IfOk, length, List, None};
-ghost use Rattle.address_space.specs.Agreement.{body, body_of, IsSpace};
+ghost use Rattle.address_space.specs.Agreement.{body, body_of, IsSpace, IsAlive};
+ghost use Rattle.address_space.specs.Kept.{KeepsPlace};
 ghost use Rattle.address_space.specs.Steps.{IsBare, RunsDry, TakesFrames};
 ghost use Rattle.cow_fork.specs.Forks.{HasForked, IsSharersFullError, IsNoFrameError};
 ghost use Rattle.frame_store.specs.Laws.{IsSeatOf, KeepsSeats};
@@ -169,7 +170,7 @@ fn fork_there<S: FrameSeat, F: FrameSupply<Seat = S>>(
     list: &mut Option<Box<PageList>>,
 ) -> Result<Child<S>, ForkError>
     requires fits { IsSeatOf F.FrameAccess.rule store.old space.old.value.seat }
-    requires ready { (t : Tables) × (p : Process) × IsSpace (body_of S.view space.old.value) t p }
+    requires ready { IsAlive (body_of S.view space.old.value) }
     ensures forked { IfOk result (λ child. HasForked (body_of S.view space.old.value) (body_of S.view space.new.value) (body (S.view child.seat) child.root.0 child.trapframe.0 space.old.value.layout)) }
     ensures whole { IfErr result (λ _. (t : Tables) (p : Process) → IsSpace (body_of S.view space.old.value) t p → IsSpace (body_of S.view space.new.value) t p) }
     ensures dry { IsNoFrameError result → (t : Tables) (p : Process) → IsSpace (body_of S.view space.old.value) t p → RunsDry (S.view space.old.value.seat) (S.view space.new.value.seat) (model.fork_need p) [] }
@@ -192,7 +193,7 @@ fn fork_unlisted<S: FrameSeat, F: FrameSupply<Seat = S>>(
     store: &mut F,
 ) -> Result<Child<S>, ForkError>
     requires fits { IsSeatOf F.FrameAccess.rule store.old space.old.seat }
-    requires ready { (t : Tables) × (p : Process) × IsSpace (body_of S.view space.old) t p }
+    requires ready { IsAlive (body_of S.view space.old) }
     ensures forked { IfOk result (λ child. HasForked (body_of S.view space.old) (body_of S.view space.new) (body (S.view child.seat) child.root.0 child.trapframe.0 space.old.layout)) }
     ensures whole { IfErr result (λ _. (t : Tables) (p : Process) → IsSpace (body_of S.view space.old) t p → IsSpace (body_of S.view space.new) t p) }
     ensures dry { IsNoFrameError result → (t : Tables) (p : Process) → IsSpace (body_of S.view space.old) t p → RunsDry (S.view space.old.seat) (S.view space.new.seat) (model.fork_need p) [] }
@@ -211,7 +212,7 @@ fn bare_there<R: Wait>(
     store: &mut SharedSupply<'_, R>,
 ) -> SharedSeat
     requires fits { FitsIn store.old space.old.value.seat }
-    requires ready { (t : Tables) × (p : Process) × IsSpace (body_of view_of space.old.value) t p }
+    requires ready { IsAlive (body_of view_of space.old.value) }
     ensures bare { IsBare (view_of result) }
     ensures store { store.new ≡ store.old }
     ensures fits { FitsIn store.old space.new.value.seat }
@@ -234,9 +235,7 @@ fn bare_beside<R: Wait>(
     ensures store { store.new ≡ store.old }
     ensures fits { FitsIn store.old space.new.seat }
     ensures view { view_of space.new.seat ≡ view_of space.old.seat }
-    ensures root { space.new.root ≡ space.old.root }
-    ensures trapframe { space.new.trapframe ≡ space.old.trapframe }
-    ensures layout { space.new.layout ≡ space.old.layout }
+    ensures place { KeepsPlace space.old space.new }
 {
     store.split(&mut space.seat, &[])
 }

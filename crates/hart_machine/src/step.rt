@@ -113,7 +113,7 @@ impl Machine {
             Step::Fetch { hart, address, via } => {
                 StepEffect::without_change(self.access(
                     hart,
-                    request(Access::Fetch, address, 4, 0),
+                    AccessRequest::new(Access::Fetch, address, 4, 0),
                     via,
                 ))
             }
@@ -124,7 +124,7 @@ impl Machine {
                 via,
             } => StepEffect::without_change(self.access(
                 hart,
-                request(Access::Load, address, width, 0),
+                AccessRequest::new(Access::Load, address, width, 0),
                 via,
             )),
             Step::Store {
@@ -135,7 +135,7 @@ impl Machine {
                 via,
             } => StepEffect::without_change(self.access(
                 hart,
-                request(Access::Store, address, width, value),
+                AccessRequest::new(Access::Store, address, width, value),
                 via,
             )),
             Step::TrampolineFetch { hart, offset, via } => StepEffect::without_change(
@@ -201,17 +201,5 @@ impl Machine {
         ensures keys { (w : World) → IsInWorld self.now w → option_map (map key_of) (option_copied result) ≡ option_map (λ x. x.keys) (slice_get w.harts hart) }
     {
         self.harts.get(hart).map(|hart| &hart.buffer)
-    }
-}
-
-/// The request for an access to `width` bytes at `address`; `value` is what a store stores.
-fn request(access: Access, address: u64, width: u64, value: u64) -> AccessRequest
-    ensures { result ≡ record { access = access; va = record { 0 = address }; width = width; value = value } }
-{
-    AccessRequest {
-        access,
-        va: Va(address),
-        width,
-        value,
     }
 }

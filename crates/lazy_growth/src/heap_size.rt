@@ -2,7 +2,8 @@
 // pages (those in memory) above a lower end.
 
 ghost use Rattle.std.specs.Prelude.{[], pos, ◌≡◌, ◌<◌, ◌≤◌, ◌≤ℤ◌, ◌^◌, IfErr, IfOk, Some};
-ghost use Rattle.address_space.specs.Agreement.{body_of, IsSpace};
+ghost use Rattle.address_space.specs.Agreement.{body_of, IsSpace, IsAlive};
+ghost use Rattle.address_space.specs.Kept.{KeepsPlace};
 ghost use Rattle.address_space.specs.SpaceTeardown.{Drops};
 ghost use Rattle.address_space.specs.Layouts.{LaysOut};
 ghost use Rattle.address_space.specs.Steps.{TakesFrames};
@@ -36,7 +37,7 @@ pub fn sbrk<S: FrameSeat, F: FrameAccess<Seat = S>>(
     delta: i64,
 ) -> Result<u64, SizeError>
     requires fits { IsSeatOf F.rule store.old space.old.seat }
-    requires ready { (t : Tables) × (p : Process) × IsSpace (body_of S.view space.old) t p }
+    requires ready { IsAlive (body_of S.view space.old) }
     ensures answer { (t : Tables) (p : Process) → IsSpace (body_of S.view space.old) t p →
         answer_of result ≡ size_before p (model.sbrk_result p delta) }
     ensures resized { IfOk result (λ _. (t : Tables) (p : Process) →
@@ -107,17 +108,15 @@ fn release_pages<S: FrameSeat, F: FrameAccess<Seat = S>>(
     end: Vpn,
 )
     requires fits { IsSeatOf F.rule store.old space.old.seat }
-    requires ready { (t : Tables) × (p : Process) × IsSpace (body_of S.view space.old) t p }
+    requires ready { IsAlive (body_of S.view space.old) }
     requires low { end ≤ trapframe_page space.old.layout.scheme }
     ensures released { (t : Tables) (p : Process) →
         IsSpace (body_of S.view space.old) t p →
         (u : Tables) × IsSpace (body_of S.view space.new) u (model.without_pages p first end) × Drops t u first end }
     ensures kept_view { end ≤ first → S.view space.new.seat ≡ S.view space.old.seat }
     ensures kept_store { end ≤ first → store.new ≡ store.old }
-    ensures layout { space.new.layout ≡ space.old.layout }
     ensures tallies { TakesFrames (S.view space.old.seat) (S.view space.new.seat) 0 [] }
-    ensures root { space.new.root ≡ space.old.root }
-    ensures trapframe { space.new.trapframe ≡ space.old.trapframe }
+    ensures place { KeepsPlace space.old space.new }
     ensures keeps { KeepsSeats F.rule store.old space.old.seat store.new space.new.seat }
     ensures free { F.alone → F.free store.old ≤ F.free store.new }
 {

@@ -9,9 +9,9 @@ ghost use Rattle.script_reader.specs.Playable.{CanBoot, IsDeclared};
 ghost use Rattle.line_player.specs.PlayedLines as played;
 ghost use Rattle.line_player.specs.Answers.{Answers, HasPlayed};
 
-use audit_player::put_answer;
+use audit_player::{boot, put_answer};
 use file_cabinet::Cabinet;
-use hart_machine::{BootError, Machine};
+use hart_machine::Machine;
 use process_model::Config;
 use script_language::{Cause, Command, Item, LONGEST_TEXT, put};
 use script_reader::{Draft, LineFault, line_item, lines_fit, trim_return};
@@ -153,11 +153,7 @@ impl LinePlayer {
         ensures kept { OnErr result ((s : played.Played) → HasPlayed self.old s → HasPlayed self.new s) }
     {
         let files = Cabinet::new(self.alloc, self.draft.files())?;
-        let machine = match Machine::boot(self.alloc, config, files) {
-            Ok(machine) => machine,
-            Err(BootError::Memory) => return Err(AllocError),
-            Err(BootError::BadArgument) => unreachable!(),
-        };
+        let machine = boot(self.alloc, config, files)?;
         self.draft.add(Item::Boot(config))?;
         self.machine = Some(machine);
         put(&mut self.answer, b"ok");

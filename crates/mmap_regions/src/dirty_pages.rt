@@ -3,7 +3,8 @@
 // `count_run` and `write_run`, for one run (pages of one mapping).
 
 ghost use Rattle.std.specs.Prelude.{[], ◌≡◌, ◌<◌, ◌≤◌, ◌+◌, IfErr, IfOk, length, ℕ};
-ghost use Rattle.address_space.specs.Agreement.{body_of, IsSpace, no_extra};
+ghost use Rattle.address_space.specs.Agreement.{body_of, IsSpace, no_extra, IsAlive};
+ghost use Rattle.address_space.specs.Kept.{OnlyReads};
 ghost use Rattle.address_space.specs.SpacesInCalls.{IsSpaceInCall};
 ghost use Rattle.frame_store.specs.Laws.{IsSeatOf, KeepsSeats};
 ghost use Rattle.mmap_regions.specs.Runs.{IsRunOf, moves_in, run_of};
@@ -29,11 +30,7 @@ pub(crate) fn count_run<S: FrameSeat, F: FrameAccess<Seat = S>>(
     requires ready { (t : Tables) × (p : Process) × IsSpace (body_of S.view space.old) t p × IsRunOf p (run_of run.now) }
     ensures count { (t : Tables) (p : Process) → IsSpace (body_of S.view space.old) t p → IsRunOf p (run_of run.now) → result ≡ length (moves_in p (run_of run.now)) }
     ensures few { run.now.first + result ≤ run.now.end }
-    ensures root { space.new.root ≡ space.old.root }
-    ensures trapframe { space.new.trapframe ≡ space.old.trapframe }
-    ensures layout { space.new.layout ≡ space.old.layout }
-    ensures view { S.view space.new.seat ≡ S.view space.old.seat }
-    ensures same { store.new ≡ store.old }
+    ensures reads { OnlyReads S.view space.old space.new store.old store.new }
     ensures keeps { KeepsSeats F.rule store.old space.old.seat store.new space.new.seat }
 {
     if run.file().is_none() {
@@ -63,11 +60,7 @@ pub(crate) fn write_run<S: FrameSeat, F: FrameAccess<Seat = S>, C: Files>(
     requires ready { (t : Tables) × (p : Process) × IsSpaceInCall (body_of S.view space.old) t p no_extra × IsRunOf p (run_of run.now) × (length (moves_in p (run_of run.now)) ≤ C.room files.old) }
     ensures moves { (t : Tables) (p : Process) → IsSpaceInCall (body_of S.view space.old) t p no_extra → IsRunOf p (run_of run.now) → C.becomes files.old (moves_in p (run_of run.now)) files.new }
     ensures rest { (t : Tables) (p : Process) → IsSpaceInCall (body_of S.view space.old) t p no_extra → IsRunOf p (run_of run.now) → C.room files.old ≤ length (moves_in p (run_of run.now)) + C.room files.new }
-    ensures root { space.new.root ≡ space.old.root }
-    ensures trapframe { space.new.trapframe ≡ space.old.trapframe }
-    ensures layout { space.new.layout ≡ space.old.layout }
-    ensures view { S.view space.new.seat ≡ S.view space.old.seat }
-    ensures same { store.new ≡ store.old }
+    ensures reads { OnlyReads S.view space.old space.new store.old store.new }
     ensures keeps { KeepsSeats F.rule store.old space.old.seat store.new space.new.seat }
 {
     let Some((file, offset)) = run.file() else {
@@ -100,15 +93,11 @@ pub fn promise_write_back<S: FrameSeat, F: FrameAccess<Seat = S>, C: Files>(
     files: &mut C,
 ) -> Result<(), PromiseError>
     requires fits { IsSeatOf F.rule store.old space.old.seat }
-    requires ready { (t : Tables) × (p : Process) × IsSpace (body_of S.view space.old) t p }
+    requires ready { IsAlive (body_of S.view space.old) }
     ensures promised { IfOk result (λ _. (t : Tables) (p : Process) → IsSpace (body_of S.view space.old) t p → length (all_moves p) ≤ C.room files.new) }
     ensures refused { IfErr result (λ e. (t : Tables) (p : Process) → IsSpace (body_of S.view space.old) t p → C.can_refuse files.old (length (all_moves p)) e) }
     ensures files { C.becomes files.old [] files.new }
-    ensures root { space.new.root ≡ space.old.root }
-    ensures trapframe { space.new.trapframe ≡ space.old.trapframe }
-    ensures layout { space.new.layout ≡ space.old.layout }
-    ensures view { S.view space.new.seat ≡ S.view space.old.seat }
-    ensures same { store.new ≡ store.old }
+    ensures reads { OnlyReads S.view space.old space.new store.old store.new }
     ensures keeps { KeepsSeats F.rule store.old space.old.seat store.new space.new.seat }
 {
     let mut pages = 0;
@@ -131,11 +120,7 @@ pub fn write_back<S: FrameSeat, F: FrameAccess<Seat = S>, C: Files>(
     requires ready { (t : Tables) × (p : Process) × IsSpaceInCall (body_of S.view space.old) t p no_extra × (length (all_moves p) ≤ C.room files.old) }
     ensures moves { (t : Tables) (p : Process) → IsSpaceInCall (body_of S.view space.old) t p no_extra → C.becomes files.old (all_moves p) files.new }
     ensures written { (t : Tables) (p : Process) → IsSpaceInCall (body_of S.view space.old) t p no_extra → C.files files.new ≡ all_written_back (C.files files.old) p }
-    ensures root { space.new.root ≡ space.old.root }
-    ensures trapframe { space.new.trapframe ≡ space.old.trapframe }
-    ensures layout { space.new.layout ≡ space.old.layout }
-    ensures view { S.view space.new.seat ≡ S.view space.old.seat }
-    ensures same { store.new ≡ store.old }
+    ensures reads { OnlyReads S.view space.old space.new store.old store.new }
     ensures keeps { KeepsSeats F.rule store.old space.old.seat store.new space.new.seat }
 {
     'runs: for i in 0..space.layout.mappings().len() {

@@ -2,7 +2,7 @@
 // without taking a frame.
 
 ghost use Rattle.std.specs.Prelude.{◌≡◌, ◌&&◌, ◌||◌, IfErr, not, slice_get};
-ghost use Rattle.address_space.specs.Agreement.{body_of, IsSpace};
+ghost use Rattle.address_space.specs.Agreement.{body_of, IsSpace, IsAlive};
 ghost use Rattle.address_space.specs.Layouts.{region_of};
 ghost use Rattle.mmap_regions.specs.MmapEffect.{address_of_mapped, process_mapped};
 ghost use Rattle.process_model.specs.Files.{is_writable};
@@ -52,7 +52,7 @@ pub fn mmap<S: FrameSeat, C: Files>(
     flags: u64,
     file: usize,
 ) -> Result<u64, Refusal>
-    requires ready { (t : Tables) × (p : Process) × IsSpace (body_of S.view space.old) t p }
+    requires ready { IsAlive (body_of S.view space.old) }
     ensures answer { (t : Tables) (p : Process) → IsSpace (body_of S.view space.old) t p →
         result ≡ address_of_mapped (mapped (C.files files.now) p length protection flags file) }
     ensures agrees { (t : Tables) (p : Process) → IsSpace (body_of S.view space.old) t p →

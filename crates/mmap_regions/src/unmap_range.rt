@@ -1,7 +1,7 @@
 // The system call `munmap`: writes back and unmaps a whole mapping, or its front or back.
 
 ghost use Rattle.std.specs.Prelude.{[], ◌≡◌, ◌≤◌, IfErr, IfOk};
-ghost use Rattle.address_space.specs.Agreement.{body_of, IsSpace};
+ghost use Rattle.address_space.specs.Agreement.{body_of, IsSpace, IsAlive};
 ghost use Rattle.address_space.specs.Steps.{TakesFrames};
 ghost use Rattle.frame_store.specs.Laws.{IsSeatOf, KeepsSeats};
 ghost use Rattle.mmap_regions.specs.MunmapEffect.{IsUnmapRefusal, Unmaps, unmap_moves};
@@ -32,7 +32,7 @@ pub fn munmap<S: FrameSeat, F: FrameAccess<Seat = S>, C: Files>(
     length: u64,
 ) -> Result<(), Refusal>
     requires fits { IsSeatOf F.rule store.old space.old.seat }
-    requires ready { (t : Tables) × (p : Process) × IsSpace (body_of S.view space.old) t p }
+    requires ready { IsAlive (body_of S.view space.old) }
     ensures unmapped { IfOk result (λ _. (t : Tables) (p : Process) →
         IsSpace (body_of S.view space.old) t p →
         Unmaps (body_of S.view space.new) t p (C.files files.old) (C.files files.new) address length) }

@@ -16,13 +16,12 @@ use Rattle.sv39_entry.specs.Schemes.{trapframe_page}
 use Rattle.sv39_entry.specs.declared.frame.FrameNo.{FrameNo}
 use Rattle.table_walk.specs.Keys.{is_none}
 use Rattle.table_walk.specs.Tables.{Tables}
-use Rattle.address_space.specs.Agreement.{Body, body, IsSpace}
+use Rattle.address_space.specs.Agreement.{Body, body, IsSpace, IsAlive}
 use Rattle.address_space.specs.Layouts.{Layout}
 use Rattle.address_space.specs.SettledLists.{IsNextSettled}
 use Rattle.address_space.specs.Steps.{CanSettle, CanWrite, HasSettled, settled_with}
 use Rattle.address_space.specs.declared.settled_pages.SettledPage.{SettledPage}
 use Rattle.mmap_regions.specs.MunmapEffect.{Unmaps}
-use Rattle.tests_of_mappings.specs.Alive.{IsAlive}
 
 -- a space that was only read
 module _ (v w : View) (root root_after trapframe trapframe_after : FrameNo) (l m : Layout) (view : w ≡ v) (root_is : root_after ≡ root)

@@ -2,13 +2,13 @@
 // bytes of its file, and for a store sets the page's dirty mark (D).
 
 ghost use Rattle.std.specs.Prelude.{◌≡◌, false, None, true};
-ghost use Rattle.address_space.specs.Agreement.{body_of, IsSpace};
+ghost use Rattle.address_space.specs.Agreement.{body_of, IsSpace, IsAlive};
+ghost use Rattle.address_space.specs.Kept.{KeepsPlace};
 ghost use Rattle.address_space.specs.Steps.{CanSettle};
 ghost use Rattle.frame_store.specs.Laws.{IsSeatOf, KeepsSeats};
 ghost use Rattle.process_model.specs.PageMap.{get};
 ghost use Rattle.process_model.specs.Process.{Process};
 ghost use Rattle.table_walk.specs.Tables.{Tables};
-ghost use Rattle.tests_of_mappings.specs.Alive.{IsAlive};
 
 use address_space::{Source, Space};
 use file_cabinet::Files;
@@ -25,9 +25,7 @@ fn is_settled<S: FrameSeat, F: FrameAccess<Seat = S>>(
     requires fits { IsSeatOf F.rule store.old space.old.seat }
     requires alive { IsAlive (body_of S.view space.old) }
     ensures vacant { (t : Tables) (p : Process) → IsSpace (body_of S.view space.old) t p → result ≡ false → get p.settled page ≡ None }
-    ensures root { space.new.root ≡ space.old.root }
-    ensures trapframe { space.new.trapframe ≡ space.old.trapframe }
-    ensures layout { space.new.layout ≡ space.old.layout }
+    ensures place { KeepsPlace space.old space.new }
     ensures view { S.view space.new.seat ≡ S.view space.old.seat }
     ensures keeps { KeepsSeats F.rule store.old space.old.seat store.new space.new.seat }
 {

@@ -1,9 +1,8 @@
 // `copy_from`, `copy_to`: kernel copies from a process and to it (`copy_in`, `copy_out` of `user_copy`), with their outcome
 // as a reply for a story (test case). `counted`: the bytes that are copied.
 
-ghost use Rattle.address_space.specs.Agreement.{body_of};
+ghost use Rattle.address_space.specs.Agreement.{body_of, IsAlive};
 ghost use Rattle.frame_store.specs.Laws.{IsSeatOf, KeepsSeats};
-ghost use Rattle.tests_of_mappings.specs.Alive.{IsAlive};
 
 use address_space::Space;
 use arrayvec::ArrayVec;

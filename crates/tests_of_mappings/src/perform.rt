@@ -2,9 +2,8 @@
 // in memory, and returns the first wrong reply. A helper for each kind of operation; kernel copies and the service of a
 // fault have files of their own.
 
-ghost use Rattle.address_space.specs.Agreement.{body_of};
+ghost use Rattle.address_space.specs.Agreement.{body_of, IsAlive};
 ghost use Rattle.frame_store.specs.Laws.{IsSeatOf, KeepsSeats};
-ghost use Rattle.tests_of_mappings.specs.Alive.{IsAlive};
 
 use crate::fault_service::serve;
 use crate::kernel_copies::{copy_from, copy_to};
@@ -67,12 +66,24 @@ fn perform<S: FrameSeat, F: FrameSupply<Seat = S>, C: Files>(
             Reply::Ready,
             serve(space, store, files, Va(address).page(), access),
         ),
-        Operation::Fetch(address) => access(space, store, request(Access::Fetch, address, 4, 0)),
+        Operation::Fetch(address) => access(
+            space,
+            store,
+            AccessRequest::new(Access::Fetch, address, 4, 0),
+        ),
         Operation::Load(address, width) => {
-            access(space, store, request(Access::Load, address, width, 0))
+            access(
+                space,
+                store,
+                AccessRequest::new(Access::Load, address, width, 0),
+            )
         }
         Operation::Store(address, width, value) => {
-            access(space, store, request(Access::Store, address, width, value))
+            access(
+                space,
+                store,
+                AccessRequest::new(Access::Store, address, width, value),
+            )
         }
         Operation::CopyIn(address, count) => copy_from(space, store, files, Va(address), count),
         Operation::CopyOut(address, first, count) => {
@@ -88,15 +99,6 @@ fn done(reply: Reply, outcome: Result<(), Refusal>) -> Reply {
     match outcome {
         Ok(()) => reply,
         Err(refusal) => Reply::Refused(refusal),
-    }
-}
-
-fn request(access: Access, address: u64, width: u64, value: u64) -> AccessRequest {
-    AccessRequest {
-        access,
-        va: Va(address),
-        width,
-        value,
     }
 }
 

@@ -4,7 +4,7 @@
 // (the regions) copied.
 
 ghost use Rattle.std.specs.Prelude.{[], ◌∷◌, ◌≡◌, ◌%◌, ◌^◌, ◌<◌, ◌≤◌, false, IfErr, IfOk};
-ghost use Rattle.address_space.specs.Agreement.{body_of, IsSpace, HoldsTrampoline};
+ghost use Rattle.address_space.specs.Agreement.{body_of, IsSpace, HoldsTrampoline, IsAlive};
 ghost use Rattle.address_space.specs.Parts.{AreParts, numbers_of, regions_in};
 ghost use Rattle.address_space.specs.Steps.{IsBare};
 ghost use Rattle.tests_of_processes.specs.Lives.{IsWritable, Lives, standard_regions};
@@ -164,7 +164,7 @@ fn try_far<S: FrameSeat, F: FrameSupply<Seat = S>>(
     requires fits { IsSeatOf F.rule store.old space.old.seat }
     requires low { page < 2 ^ 36 }
     requires lives { Lives (S.view space.old.seat) space.old.root.0 space.old.trapframe.0 space.old.layout page false }
-    ensures agrees { (t : Tables) × (p : Process) × IsSpace (body_of S.view space.new) t p }
+    ensures agrees { IsAlive (body_of S.view space.new) }
     ensures layout { space.new.layout ≡ space.old.layout }
     ensures keeps { KeepsSeats F.rule store.old space.old.seat store.new space.new.seat }
 {

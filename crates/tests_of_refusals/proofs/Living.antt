@@ -12,7 +12,7 @@ use Rattle.sv39_entry.specs.declared.access.Access.{Access}
 use Rattle.sv39_entry.specs.declared.frame.FrameNo.{FrameNo}
 use Rattle.sv39_entry.specs.declared.rule.Rule.{Rule}
 use Rattle.table_walk.specs.Tables.{Tables}
-use Rattle.address_space.specs.Agreement.{Body, body, IsSpace}
+use Rattle.address_space.specs.Agreement.{Body, body, IsSpace, IsAlive}
 use Rattle.address_space.specs.Layouts.{Layout}
 use Rattle.cow_fork.specs.Forks.{HasForked}
 use Rattle.fault_rules.specs.Allowed.{can_reside}
@@ -24,7 +24,6 @@ use Rattle.lazy_growth.specs.SbrkEffect.{Resizes}
 use Rattle.lazy_growth.specs.declared.size_error.SizeError.{SizeError}
 use Rattle.mmap_regions.specs.MunmapEffect.{Unmaps}
 use Rattle.user_copy.specs.ReachedPage.{StillStands}
-use Rattle.tests_of_refusals.specs.Family.{IsAlive}
 
 -- a space that became another process
 pub alive_as : (x y : Body) (other : Process → Process) → ((t : Tables) (p : Process) → IsSpace x t p → IsSpace y t (other p)) → IsAlive x → IsAlive y

@@ -5,12 +5,8 @@ use Rattle.std.specs.Prelude.{List, ◌∷◌, ◌++◌, Option, IfSome, option_
 use Rattle.frame_store.specs.View.{View}
 use Rattle.process_model.specs.Process.{Process}
 use Rattle.table_walk.specs.Tables.{Tables}
-use Rattle.address_space.specs.Agreement.{Body, body_of, IsSpace}
+use Rattle.address_space.specs.Agreement.{Body, body_of, IsSpace, IsAlive}
 use Rattle.address_space.specs.declared.space.Space.{Space}
-
--- the space agrees with some process of the model, by some page tables
-abbrev pub IsAlive : Body → Type 0
-IsAlive x = (t : Tables) × (p : Process) × IsSpace x t p
 
 -- the space of the process does, and that of the child, if there is one
 abbrev pub AreAlive : {S : Type 0} → (S → View) → Space S → Option (Space S) → Type 0

@@ -3,9 +3,8 @@
 use Rattle.atomic_table.specs.Seated.{TableId}
 use Rattle.shared_frames.specs.SeatsOfTable.{FitsIn, view_of}
 use Rattle.shared_frames.specs.declared.seat.SharedSeat.{SharedSeat}
-use Rattle.address_space.specs.Agreement.{body_of}
+use Rattle.address_space.specs.Agreement.{body_of, IsAlive}
 use Rattle.address_space.specs.declared.space.Space.{Space}
-use Rattle.tests_of_refusals.specs.Family.{IsAlive}
 
 -- its seat is at the atomic table with this identifier, and the space agrees with some process of the model
 abbrev pub IsReady : TableId → Space SharedSeat → Type 0

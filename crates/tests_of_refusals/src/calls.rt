@@ -1,9 +1,8 @@
 // `call`: performs an operation of a story (test case) on one process and returns the answer: exec, sbrk, a served fault,
 // mmap, munmap or a kernel copy. All but fork, which is in `family`.
 
-ghost use Rattle.address_space.specs.Agreement.{body_of};
+ghost use Rattle.address_space.specs.Agreement.{body_of, IsAlive};
 ghost use Rattle.frame_store.specs.Laws.{IsSeatOf, KeepsSeats};
-ghost use Rattle.tests_of_refusals.specs.Family.{IsAlive};
 
 use crate::images_and_file::OneFile;
 use crate::operation::{Answer, Operation};

@@ -5,8 +5,7 @@
 ghost use Rattle.std.specs.Prelude.{◌∷◌, IfOk, List};
 ghost use Rattle.frame_store.specs.Laws.{IsSeatOf, KeepsSeats};
 ghost use Rattle.frame_store.specs.View.{IsHeld};
-ghost use Rattle.address_space.specs.Agreement.{body_of};
-ghost use Rattle.tests_of_refusals.specs.Family.{IsAlive};
+ghost use Rattle.address_space.specs.Agreement.{body_of, IsAlive};
 
 use address_space::Space;
 use exec_segments::{Image, start};

@@ -1,9 +1,8 @@
 // `Observation`, a struct, and `seen`, which makes it: the heap's size, regions and settled pages (those in memory) of a
 // process, its file's bytes and the store's report, to compare before and after an operation.
 
-ghost use Rattle.address_space.specs.Agreement.{body_of};
+ghost use Rattle.address_space.specs.Agreement.{body_of, IsAlive};
 ghost use Rattle.frame_store.specs.Laws.{IsSeatOf, KeepsSeats};
-ghost use Rattle.tests_of_refusals.specs.Family.{IsAlive};
 
 use crate::accounts::Accounts;
 use crate::images_and_file::OneFile;

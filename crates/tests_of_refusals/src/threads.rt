@@ -3,10 +3,9 @@
 // addresses and the numbers that its thread stores.
 
 ghost use Rattle.std.specs.Prelude.{◌<◌, All, IfOk};
-ghost use Rattle.address_space.specs.Agreement.{body_of};
+ghost use Rattle.address_space.specs.Agreement.{body_of, IsAlive};
 ghost use Rattle.frame_store.specs.Laws.{IsSeatOf, KeepsSeats};
 ghost use Rattle.shared_frames.specs.SeatsOfTable.{FitsIn};
-ghost use Rattle.tests_of_refusals.specs.Family.{IsAlive};
 ghost use Rattle.tests_of_refusals.specs.Ready.{IsReady};
 
 use crate::images_and_file::standard_segments;

@@ -2,7 +2,7 @@
 // page is made resident (in memory and ready for the access), and then its bytes are copied.
 
 ghost use Rattle.std.specs.Prelude.{[], ◌≡◌, ◌≢◌, ◌++◌, ◌+◌, ◌%◌, ◌<◌, ◌≤◌, false, true, IfErr, IfOk, length, None, Some};
-ghost use Rattle.address_space.specs.Agreement.{body_of, IsSpace};
+ghost use Rattle.address_space.specs.Agreement.{body_of, IsSpace, IsAlive};
 ghost use Rattle.fault_rules.specs.MadeResident.{resident_reads};
 ghost use Rattle.frame_store.specs.Laws.{IsSeatOf, KeepsSeats};
 ghost use Rattle.process_model.specs.Copies.{longest_copy};
@@ -49,7 +49,7 @@ pub fn copy_in<S: FrameSeat, F: FrameSupply<Seat = S>, C: Files>(
     n: usize,
 ) -> Result<ArrayVec<u8, LONGEST_COPY>, Short>
     requires fits { IsSeatOf F.rule store.old space.old.seat }
-    requires ready { (t : Tables) × (p : Process) × IsSpace (body_of S.view space.old) t p }
+    requires ready { IsAlive (body_of S.view space.old) }
     requires few { n ≤ longest_copy }
     ensures copied { IfOk result (λ bytes. CopiesIn (store_model S.view F.rule F.alone F.free F.count C.files C.becomes C.can_refuse) (runs va.0 n) (place space.old store.old files.old) (place space.new store.new files.new) [] bytes.items None) }
     ensures stopped { IfErr result (λ short. CopiesIn (store_model S.view F.rule F.alone F.free F.count C.files C.becomes C.can_refuse) (runs va.0 n) (place space.old store.old files.old) (place space.new store.new files.new) [] short.bytes.items (Some short.rule)) }
@@ -94,7 +94,7 @@ pub fn copy_out<S: FrameSeat, F: FrameSupply<Seat = S>, C: Files>(
     bytes: &[u8],
 ) -> Result<(), Short>
     requires fits { IsSeatOf F.rule store.old space.old.seat }
-    requires ready { (t : Tables) × (p : Process) × IsSpace (body_of S.view space.old) t p }
+    requires ready { IsAlive (body_of S.view space.old) }
     requires few { length bytes.now ≤ longest_copy }
     ensures copied { IfOk result (λ _. CopiesOut (store_model S.view F.rule F.alone F.free F.count C.files C.becomes C.can_refuse) (runs_of va.0 bytes.now) (place space.old store.old files.old) (place space.new store.new files.new) 0 (length bytes.now) None) }
     ensures stopped { IfErr result (λ short. CopiesOut (store_model S.view F.rule F.alone F.free F.count C.files C.becomes C.can_refuse) (runs_of va.0 bytes.now) (place space.old store.old files.old) (place space.new store.new files.new) 0 short.done (Some short.rule)) }
@@ -132,7 +132,7 @@ fn read_pages<S: FrameSeat, F: FrameSupply<Seat = S>, C: Files>(
     bytes: &mut ArrayVec<u8, LONGEST_COPY>,
 ) -> Result<(), Stop>
     requires fits { IsSeatOf F.rule store.old space.old.seat }
-    requires ready { (t : Tables) × (p : Process) × IsSpace (body_of S.view space.old) t p }
+    requires ready { IsAlive (body_of S.view space.old) }
     requires few { n ≤ longest_copy }
     requires empty { bytes.old.items ≡ [] }
     ensures copied { IfOk result (λ _. CopiesIn (store_model S.view F.rule F.alone F.free F.count C.files C.becomes C.can_refuse) (runs va.0 n) (place space.old store.old files.old) (place space.new store.new files.new) [] bytes.new.items None) }
@@ -160,7 +160,7 @@ fn read_page<S: FrameSeat, F: FrameSupply<Seat = S>, C: Files>(
     bytes: &mut ArrayVec<u8, LONGEST_COPY>,
 ) -> Result<(), Stop>
     requires fits { IsSeatOf F.rule store.old space.old.seat }
-    requires ready { (t : Tables) × (p : Process) × IsSpace (body_of S.view space.old) t p }
+    requires ready { IsAlive (body_of S.view space.old) }
     requires inside { va.0 % 4096 + n ≤ 4096 }
     requires few { length bytes.old.items + n ≤ longest_copy }
     ensures copied { IfOk result (λ _. CopiesIn (store_model S.view F.rule F.alone F.free F.count C.files C.becomes C.can_refuse) (some_run va.0 n) (place space.old store.old files.old) (place space.new store.new files.new) bytes.old.items bytes.new.items None) }
@@ -195,7 +195,7 @@ fn write_pages<S: FrameSeat, F: FrameSupply<Seat = S>, C: Files>(
     bytes: &[u8],
 ) -> Result<(), Short>
     requires fits { IsSeatOf F.rule store.old space.old.seat }
-    requires ready { (t : Tables) × (p : Process) × IsSpace (body_of S.view space.old) t p }
+    requires ready { IsAlive (body_of S.view space.old) }
     requires few { length bytes.now ≤ longest_copy }
     ensures copied { IfOk result (λ _. CopiesOut (store_model S.view F.rule F.alone F.free F.count C.files C.becomes C.can_refuse) (runs_of va.0 bytes.now) (place space.old store.old files.old) (place space.new store.new files.new) 0 (length bytes.now) None) }
     ensures stopped { IfErr result (λ short. CopiesOut (store_model S.view F.rule F.alone F.free F.count C.files C.becomes C.can_refuse) (runs_of va.0 bytes.now) (place space.old store.old files.old) (place space.new store.new files.new) 0 short.done (Some short.rule)) }
@@ -223,7 +223,7 @@ fn write_page<S: FrameSeat, F: FrameSupply<Seat = S>, C: Files>(
     done: usize,
 ) -> Result<(), Short>
     requires fits { IsSeatOf F.rule store.old space.old.seat }
-    requires ready { (t : Tables) × (p : Process) × IsSpace (body_of S.view space.old) t p }
+    requires ready { IsAlive (body_of S.view space.old) }
     requires inside { va.0 % 4096 + length bytes.now ≤ 4096 }
     ensures copied { IfOk result (λ _. CopiesOut (store_model S.view F.rule F.alone F.free F.count C.files C.becomes C.can_refuse) (some_bytes va.0 bytes.now) (place space.old store.old files.old) (place space.new store.new files.new) done (done + length bytes.now) None) }
     ensures stopped { IfErr result (λ short. CopiesOut (store_model S.view F.rule F.alone F.free F.count C.files C.becomes C.can_refuse) (some_bytes va.0 bytes.now) (place space.old store.old files.old) (place space.new store.new files.new) done short.done (Some short.rule)) }
@@ -252,7 +252,7 @@ fn reach<S: FrameSeat, F: FrameSupply<Seat = S>, C: Files>(
     access: Access,
 ) -> Result<(), Stop>
     requires fits { IsSeatOf F.rule store.old space.old.seat }
-    requires ready { (t : Tables) × (p : Process) × IsSpace (body_of S.view space.old) t p }
+    requires ready { IsAlive (body_of S.view space.old) }
     ensures reaches { Reaches (store_model S.view F.rule F.alone F.free F.count C.files C.becomes C.can_refuse) (place space.old store.old files.old) (place space.new store.new files.new) access va.0 result }
     ensures keeps { KeepsSeats F.rule store.old space.old.seat store.new space.new.seat }
 {

@@ -90,7 +90,7 @@ list_tables-requires-clause-ready g c =
     let r = c.requires.ready in
     let at = (goal.at.list_tables-requires-clause-ready g c).After-copy_tree-root in
     let copied = tree g at r.0 r.1 r.2 r.3 in
-    let lays : LaysOut _ r.2 = rw c.copy_tree-root.ensures.layout r.3.space.lays in
+    let lays : LaysOut _ r.2 = rw c.copy_tree-root.ensures.place.layout r.3.space.lays in
     let same = lays.scheme ∙ sym c.scheme-scheme.ensures in (
       copied.0,
       tables_of_scheme same copied.1.tables,
@@ -105,7 +105,7 @@ pub returns-clause-built : goal.returns-clause-built
 returns-clause-built g c v t p can =
     let at = (goal.at.returns-clause-built g c).After-copy_tree-root in
     let copied = tree g at v t p can in
-    let lays : LaysOut _ p = rw c.copy_tree-root.ensures.layout can.space.lays in
+    let lays : LaysOut _ p = rw c.copy_tree-root.ensures.place.layout can.space.lays in
     let same = lays.scheme ∙ sym c.scheme-scheme.ensures in
     let led = subst (λ z. IsLed z copied.0) same (tables_led _ _ t copied.0 p _ _ copied.1 can.space.stands.shows.low) in
     let edged = subst (λ z. IsEdged z copied.0 c.end-end.result) same

@@ -28,23 +28,23 @@ module _ (g : given.Over) (c : After-build_child g) (v : View) (t : Tables) (p :
   forking = forking_beside v _ (λ f. times f frames) child.1.counts child.1.same _ _ _ t p can.space
 
   now : body (g.S.FrameSeat.view c.build_child.new.space.seat) c.args.space.now.root.0 c.args.space.now.trapframe.0 c.args.space.now.layout ≡ body_of g.S.FrameSeat.view c.build_child.new.space
-  now = body_on g.S.FrameSeat.view c.build_child.new.space c.args.space.now c.build_child.ensures.root c.build_child.ensures.trapframe c.build_child.ensures.layout
+  now = body_on g.S.FrameSeat.view c.build_child.new.space c.args.space.now c.build_child.ensures.place.root c.build_child.ensures.place.trapframe c.build_child.ensures.place.layout
 
   forking_now : IsSpaceInCall (body_of g.S.FrameSeat.view c.build_child.new.space) t p (λ f. times f (map (λ f. f.0) c.build_child.new.frames.items))
   forking_now = subst (λ b. IsSpaceInCall b t p (λ f. times f frames)) now forking
 
 module _ (g : given.Over) (c : After-mark_pages g) where
   marked_root : c.mark_pages.new.space.root ≡ c.args.space.now.root
-  marked_root = c.mark_pages.ensures.root ∙ c.build_child.ensures.root
+  marked_root = c.mark_pages.ensures.place.root ∙ c.build_child.ensures.place.root
 
   marked_trapframe : c.mark_pages.new.space.trapframe ≡ c.args.space.now.trapframe
-  marked_trapframe = c.mark_pages.ensures.trapframe ∙ c.build_child.ensures.trapframe
+  marked_trapframe = c.mark_pages.ensures.place.trapframe ∙ c.build_child.ensures.place.trapframe
 
   marked_layout : c.mark_pages.new.space.layout ≡ c.args.space.now.layout
-  marked_layout = c.mark_pages.ensures.layout ∙ c.build_child.ensures.layout
+  marked_layout = c.mark_pages.ensures.place.layout ∙ c.build_child.ensures.place.layout
 
   first : body (g.S.FrameSeat.view c.build_child.new.space.seat) c.args.space.now.root.0 c.args.space.now.trapframe.0 c.args.space.now.layout ≡ body_of g.S.FrameSeat.view c.build_child.new.space
-  first = body_on g.S.FrameSeat.view c.build_child.new.space c.args.space.now c.build_child.ensures.root c.build_child.ensures.trapframe c.build_child.ensures.layout
+  first = body_on g.S.FrameSeat.view c.build_child.new.space c.args.space.now c.build_child.ensures.place.root c.build_child.ensures.place.trapframe c.build_child.ensures.place.layout
 
   second : body (g.S.FrameSeat.view c.mark_pages.new.space.seat) c.args.space.now.root.0 c.args.space.now.trapframe.0 c.args.space.now.layout ≡ body_of g.S.FrameSeat.view c.mark_pages.new.space
   second = body_on g.S.FrameSeat.view c.mark_pages.new.space c.args.space.now marked_root marked_trapframe marked_layout

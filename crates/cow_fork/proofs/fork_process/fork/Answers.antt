@@ -8,7 +8,7 @@ pub returns-in-Ok-clause-forked : goal.returns-in-Ok-clause-forked
 returns-in-Ok-clause-forked g c t p space =
     let all = c.in-Ok.ensures.forked t p space in
     let child = c.in-Ok.child in
-    let same : c.copied.result ≡ c.args.space.now.layout = c.copied.ensures ∙ c.fork_with.ensures.layout in (
+    let same : c.copied.result ≡ c.args.space.now.layout = c.copied.ensures ∙ c.fork_with.ensures.place.layout in (
       all.0,
       all.1,
       subst (λ l. Forks (body_of g.S.FrameSeat.view c.args.space.now) (body_of g.S.FrameSeat.view c.fork_with.new.space) (body (g.S.FrameSeat.view child.seat) child.root.0 child.trapframe.0 l) t all.0 all.1 p) (sym same) all.2,

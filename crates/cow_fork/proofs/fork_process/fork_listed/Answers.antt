@@ -41,7 +41,7 @@ prepare-requires-clause-few g c =
 pub returns-in-Err-clause-whole : goal.returns-in-Err-clause-whole
 returns-in-Err-clause-whole g c t p space =
     let now = body_between (g.S.FrameSeat.view c.prepare.new.space.seat) (g.S.FrameSeat.view c.prepare.new.space.seat) c.prepare.new.space c.args.space.now refl
-    c.prepare.ensures.root c.prepare.ensures.trapframe c.prepare.ensures.layout in
+    c.prepare.ensures.place.root c.prepare.ensures.place.trapframe c.prepare.ensures.place.layout in
     rw now (elim (either_refusal c.in-Err.refusal) [
       | inl none ↦ (let dry = c.in-Err.ensures.dry (ap (λ e. Err e) none) in whole_again _ _ (dry_whole _ _ _ dry) dry.credits _ _ _ t p space)
       | inr full ↦ (let back = c.in-Err.ensures.back (ap (λ e. Err e) full) in whole_again _ _ back.holds back.credits _ _ _ t p space)
@@ -85,20 +85,20 @@ divide-requires-clause-ready g c =
       r.0,
       r.1,
       can_divide g.S.FrameSeat.view c.prepare.new.space c.args.space.now _ r.0 r.1 _ _ _ r.2 (c.requires.settled r.0 r.1 r.2)
-          refl p.root p.trapframe p.layout (c.fork_need-need.ensures.need r.0 r.1 (r.2.lays.scheme ∙ sym c.scheme-scheme.ensures) r.2.stands.shows.low (c.requires.settled r.0 r.1 r.2)) c.in_default.ensures.prepared,
+          refl p.place.root p.place.trapframe p.place.layout (c.fork_need-need.ensures.need r.0 r.1 (r.2.lays.scheme ∙ sym c.scheme-scheme.ensures) r.2.stands.shows.low (c.requires.settled r.0 r.1 r.2)) c.in_default.ensures.prepared,
     )
 
 pub returns-clause-forked : goal.returns-clause-forked
 returns-clause-forked g c t p space =
     let e = c.prepare.ensures in
     let can = can_divide g.S.FrameSeat.view c.prepare.new.space c.args.space.now _ t p _ _ _ space (c.requires.settled t p space)
-    refl e.root e.trapframe e.layout (c.fork_need-need.ensures.need t p (space.lays.scheme ∙ sym c.scheme-scheme.ensures) space.stands.shows.low (c.requires.settled t p space)) c.in_default.ensures.prepared in
+    refl e.place.root e.place.trapframe e.place.layout (c.fork_need-need.ensures.need t p (space.lays.scheme ∙ sym c.scheme-scheme.ensures) space.stands.shows.low (c.requires.settled t p space)) c.in_default.ensures.prepared in
     let all = c.divide.ensures.divided _ t p can in
-    let before = body_between _ _ c.prepare.new.space c.args.space.now refl e.root e.trapframe e.layout in
+    let before = body_between _ _ c.prepare.new.space c.args.space.now refl e.place.root e.place.trapframe e.place.layout in
     let child = c.divide.result in (
       all.0,
       all.1,
-      subst (λ l. Forks (body_of g.S.FrameSeat.view c.args.space.now) (body_of g.S.FrameSeat.view c.divide.new.space) (body (g.S.FrameSeat.view child.seat) child.root.0 child.trapframe.0 l) t all.0 all.1 p) e.layout
+      subst (λ l. Forks (body_of g.S.FrameSeat.view c.args.space.now) (body_of g.S.FrameSeat.view c.divide.new.space) (body (g.S.FrameSeat.view child.seat) child.root.0 child.trapframe.0 l) t all.0 all.1 p) e.place.layout
           (subst (λ b. Forks b (body_of g.S.FrameSeat.view c.divide.new.space) (body (g.S.FrameSeat.view child.seat) child.root.0 child.trapframe.0 c.prepare.new.space.layout) t all.0 all.1 p) before all.2),
     )
 

@@ -16,7 +16,7 @@ use Rattle.cow_fork.proofs.fork_process.fork_with.Goals.{After-settled_pages-set
 
 module _ (g : given.Over) (c : After-settled_pages-settled g) where
   first : body_of g.S.FrameSeat.view c.settled_pages-settled.new.space ≡ body_of g.S.FrameSeat.view c.args.space.now
-  first = let s = c.settled_pages-settled.ensures in same_body g.S.FrameSeat.view c.settled_pages-settled.new.space c.args.space.now s.view s.root s.trapframe s.layout
+  first = let s = c.settled_pages-settled.ensures in same_body g.S.FrameSeat.view c.settled_pages-settled.new.space c.args.space.now s.reads.view s.reads.root s.reads.trapframe s.reads.layout
 
   again : (t : Tables) (p : Process) → IsSpace (body_of g.S.FrameSeat.view c.args.space.now) t p → IsSpace (body_of g.S.FrameSeat.view c.settled_pages-settled.new.space) t p
   again t p space = subst (λ (b : Body). IsSpace b t p) (sym first) space
@@ -42,7 +42,7 @@ pub returns-clause-forked : goal.returns-clause-forked
 returns-clause-forked g c =
     let at = (goal.at.returns-clause-forked g c).After-settled_pages-settled in
     let listed = subst (λ (b : Body). IfOk c.fork_listed.result (λ child. HasForked b (body_of g.S.FrameSeat.view c.fork_listed.new.space) (body (g.S.FrameSeat.view child.seat) child.root.0 child.trapframe.0 c.settled_pages-settled.new.space.layout))) (first g at) c.fork_listed.ensures.forked in
-    subst (λ l. IfOk c.fork_listed.result (λ child. HasForked (body_of g.S.FrameSeat.view c.args.space.now) (body_of g.S.FrameSeat.view c.fork_listed.new.space) (body (g.S.FrameSeat.view child.seat) child.root.0 child.trapframe.0 l))) c.settled_pages-settled.ensures.layout listed
+    subst (λ l. IfOk c.fork_listed.result (λ child. HasForked (body_of g.S.FrameSeat.view c.args.space.now) (body_of g.S.FrameSeat.view c.fork_listed.new.space) (body (g.S.FrameSeat.view child.seat) child.root.0 child.trapframe.0 l))) c.settled_pages-settled.ensures.reads.layout listed
 
 pub returns-clause-whole : goal.returns-clause-whole
 returns-clause-whole g c =
@@ -52,29 +52,29 @@ returns-clause-whole g c =
 pub returns-clause-dry : goal.returns-clause-dry
 returns-clause-dry g c short t p space =
     let at = (goal.at.returns-clause-dry g c).After-settled_pages-settled in
-    subst (λ (v : View). RunsDry v (g.S.FrameSeat.view c.fork_listed.new.space.seat) (model.fork_need p) []) c.settled_pages-settled.ensures.view (c.fork_listed.ensures.dry short t p (again g at t p space))
+    subst (λ (v : View). RunsDry v (g.S.FrameSeat.view c.fork_listed.new.space.seat) (model.fork_need p) []) c.settled_pages-settled.ensures.reads.view (c.fork_listed.ensures.dry short t p (again g at t p space))
 
 pub returns-clause-full : goal.returns-clause-full
-returns-clause-full g c full = rw (← c.settled_pages-settled.ensures.view) (c.fork_listed.ensures.full full)
+returns-clause-full g c full = rw (← c.settled_pages-settled.ensures.reads.view) (c.fork_listed.ensures.full full)
 
 pub returns-clause-short : goal.returns-clause-short
 returns-clause-short g c alone t p space =
     let at = (goal.at.returns-clause-short g c).After-settled_pages-settled in
-    let same = ap g.F.FrameAccess.free c.settled_pages-settled.ensures.same in
+    let same = ap g.F.FrameAccess.free c.settled_pages-settled.ensures.reads.same in
     let s = c.fork_listed.ensures.short alone t p (again g at t p space) in
     (λ is. let less = s.0 is in omega (arith, less, same), λ less. s.1 (omega (arith, less, same)))
 
 pub returns-clause-sharers : goal.returns-clause-sharers
 returns-clause-sharers g c alone full =
     let s = c.fork_listed.ensures.sharers alone full in
-    let count = ap (λ x. g.F.FrameAccess.count x s.0) c.settled_pages-settled.ensures.same in
-    (s.0, subst (λ (v : View). IsHeld v s.0) c.settled_pages-settled.ensures.view s.1, λ less. s.2 (omega (arith, less, count)))
+    let count = ap (λ x. g.F.FrameAccess.count x s.0) c.settled_pages-settled.ensures.reads.same in
+    (s.0, subst (λ (v : View). IsHeld v s.0) c.settled_pages-settled.ensures.reads.view s.1, λ less. s.2 (omega (arith, less, count)))
 
 pub returns-clause-free : goal.returns-clause-free
 returns-clause-free g c alone t p space other =
     let at = (goal.at.returns-clause-free g c).After-settled_pages-settled in
     c.fork_listed.ensures.free alone t p (again g at t p space) other
-    ∙ ap (λ x. g.F.FrameAccess.free x - (if is_ok c.fork_listed.result then model.fork_need p else 0)) c.settled_pages-settled.ensures.same
+    ∙ ap (λ x. g.F.FrameAccess.free x - (if is_ok c.fork_listed.result then model.fork_need p else 0)) c.settled_pages-settled.ensures.reads.same
 
 pub returns-clause-keeps : goal.returns-clause-keeps
 returns-clause-keeps g c = elim c.fork_listed.result as (λ r. IfOk r (λ child. (others : List g.row.S.Denot) → g.F.FrameAccess.rule c.settled_pages-settled.new.store (c.settled_pages-settled.new.space.seat ∷ others) → g.F.FrameAccess.rule c.fork_listed.new.store (c.fork_listed.new.space.seat ∷ child.seat ∷ others)) → IfOk r (λ child. (others : List g.row.S.Denot) → g.F.FrameAccess.rule c.args.store.now (c.args.space.now.seat ∷ others) → g.F.FrameAccess.rule c.fork_listed.new.store (c.fork_listed.new.space.seat ∷ child.seat ∷ others))) [

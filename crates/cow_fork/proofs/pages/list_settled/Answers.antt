@@ -63,11 +63,11 @@ pages-preserved g c =
     let items = c.push.ensures.items in
     record {
       near = omega (arith, c.number-from.ensures.value, near_next.1, ap trapframe_page r.2.lays.scheme);
-      root = n.root ∙ i.root;
-      trapframe = n.trapframe ∙ i.trapframe;
-      layout = n.layout ∙ i.layout;
-      view = n.view ∙ i.view;
-      same = n.same ∙ i.same;
+      root = n.reads.root ∙ i.root;
+      trapframe = n.reads.trapframe ∙ i.trapframe;
+      layout = n.reads.layout ∙ i.layout;
+      view = n.reads.view ∙ i.view;
+      same = n.reads.same ∙ i.same;
       keeps = λ others s. n.keeps others (i.keeps others s);
       kept = λ t p space. n.kept t p (space_in_call (rw body space)) (i.kept t p space);
       going = λ t p space.

@@ -21,9 +21,9 @@ pages-init g c =
     let listed : map (λ (f : FrameNo). f.0) c.share_frame.new.frames.items ≡ 0 ∷ [] = ap (map (λ (f : FrameNo). f.0)) (e.listed ∙ ap (λ l. l ++ record { 0 = 0 } ∷ []) c.requires.empty) in
     let code : IsHeld _ 0 = c.requires.held 0 (let one = times_same 0 (frames_of c.args.settled.now) in omega (arith, one)) in
     record {
-      root = e.root;
-      trapframe = e.trapframe;
-      layout = e.layout;
+      root = e.place.root;
+      trapframe = e.place.trapframe;
+      layout = e.place.layout;
       credits = ap (λ (k : View). k.credits) e.shared;
       tallies = ap (λ (k : View). k.tallies) e.shared;
       size = ap (λ (k : View). k.size) e.shared;
@@ -77,9 +77,9 @@ pages-preserved g c =
     let whole = left_here c.args.settled.now c.pages.page-index c.page-item.result c.pages-test.true c.page-item.is _ i.left in
     let was = c.requires.held (c.page-item.result.frame).0 (subst (λ l. 0 < times (c.page-item.result.frame).0 l) whole (among (c.page-item.result.frame).0 (map (λ f. f.0) c.pages.frames.items) (frames_of (drop (c.pages.page-index + 1) c.args.settled.now)))) in
     record {
-      root = e.root ∙ i.root;
-      trapframe = e.trapframe ∙ i.trapframe;
-      layout = e.layout ∙ i.layout;
+      root = e.place.root ∙ i.root;
+      trapframe = e.place.trapframe ∙ i.trapframe;
+      layout = e.place.layout ∙ i.layout;
       credits = ap (λ (k : View). k.credits) e.shared ∙ i.credits;
       tallies = ap (λ (k : View). k.tallies) e.shared ∙ i.tallies;
       size = ap (λ (k : View). k.size) e.shared ∙ i.size;

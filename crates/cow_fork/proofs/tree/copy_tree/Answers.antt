@@ -136,14 +136,8 @@ returns-clause-copied g c t p can =
     let k = (c.pages.invariant.copied t p can).0 in
     (k.0, copies_all _ _ _ t k.0 p _ _ k.1 k.2 _ can k.3 (none_left t p k.1 c.pages.page-index c.args.settled.now k.4 c.pages-test.false))
 
-pub returns-clause-root : goal.returns-clause-root
-returns-clause-root g c = c.pages.invariant.root
-
-pub returns-clause-trapframe : goal.returns-clause-trapframe
-returns-clause-trapframe g c = c.pages.invariant.trapframe
-
-pub returns-clause-layout : goal.returns-clause-layout
-returns-clause-layout g c = c.pages.invariant.layout
+pub returns-clause-place : goal.returns-clause-place
+returns-clause-place g c = let i = c.pages.invariant in record { root = i.root; trapframe = i.trapframe; layout = i.layout }
 
 pub returns-clause-keeps : goal.returns-clause-keeps
 returns-clause-keeps g c = c.pages.invariant.keeps

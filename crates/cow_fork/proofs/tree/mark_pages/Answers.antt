@@ -31,9 +31,9 @@ pages-preserved g c =
             marking = λ t p extra can are.
                 rw w.space-is
                 (marking_next _ t p extra c.args.settled.now _ c.pages.page-index (i.marking t p extra can are) c.page-item.result c.pages-test.true c.page-item.is _ e.marked);
-            root = ap (λ s. s.root) w.space-is ∙ e.root ∙ i.root;
-            trapframe = ap (λ s. s.trapframe) w.space-is ∙ e.trapframe ∙ i.trapframe;
-            layout = ap (λ s. s.layout) w.space-is ∙ e.layout ∙ i.layout;
+            root = ap (λ s. s.root) w.space-is ∙ e.place.root ∙ i.root;
+            trapframe = ap (λ s. s.trapframe) w.space-is ∙ e.place.trapframe ∙ i.trapframe;
+            layout = ap (λ s. s.layout) w.space-is ∙ e.place.layout ∙ i.layout;
             keeps = λ others r. rw (w.space-is, w.store-is) (e.keeps others (i.keeps others r));
             free = λ alone. rw w.store-is (e.free alone ∙ i.free alone);
           }

@@ -3,7 +3,8 @@ use Rattle.table_walk.specs.LeafBacking.{kernel_backed}
 use Rattle.table_walk.specs.LowPages.{maps_place}
 use Rattle.table_walk.specs.Tables.{bare_root, ChangesTables, HasTables, IsGrown, leaf_node, missing, Tables, with_leaf}
 use Rattle.sv39_entry.specs.Schemes.{of_scheme, top_level, trampoline_page, trapframe_page, page_at}
-use Rattle.cow_fork.proofs.Opening.{data_leaf, first_enough, makes_root, opens, second_enough, top_missing, trapframe_shares}
+use Rattle.address_space.specs.Kernel.{data_leaf}
+use Rattle.cow_fork.proofs.Opening.{first_enough, makes_root, opens, second_enough, top_missing, trapframe_shares}
 use Rattle.cow_fork.proofs.tree.open_tables.Given as given
 use Rattle.cow_fork.proofs.tree.open_tables.Goals as goal
 use Rattle.cow_fork.proofs.tree.open_tables.Goals.{After-map}

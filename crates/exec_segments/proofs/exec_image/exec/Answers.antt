@@ -38,7 +38,7 @@ tree g c =
 still : (g : given.Over) (c : After-promise_write_back g) → body_of g.S.FrameSeat.view c.promise_write_back.new.space ≡ body_of g.S.FrameSeat.view c.args.space.now
 still g c =
     let e = c.promise_write_back.ensures in
-    same_body g.S.FrameSeat.view c.promise_write_back.new.space c.args.space.now e.view e.root e.trapframe e.layout
+    same_body g.S.FrameSeat.view c.promise_write_back.new.space c.args.space.now e.reads.view e.reads.root e.reads.trapframe e.reads.layout
 
 pub returns-in_err-promise_write_back-clause-promised : goal.returns-in_err-promise_write_back-clause-promised
 returns-in_err-promise_write_back-clause-promised g c =
@@ -64,7 +64,7 @@ returns-then-is_err-clause-dry g c _ =
     let v = g.S.FrameSeat.view in
     let r = c.requires.ready in
     let dry = (refused c.reserve.result _ (sym c.is_err.ensures.value ∙ c.if-is_err.true) c.reserve.ensures.err).1 in
-    runs_dry (v c.args.space.now.seat) (v c.promise_write_back.new.space.seat) (v c.reserve.new.seat) (c.frames_needed-need.result - 1) (exec_need c.args.image.now.scheme c.args.image.now.loads) c.promise_write_back.ensures.view
+    runs_dry (v c.args.space.now.seat) (v c.promise_write_back.new.space.seat) (v c.reserve.new.seat) (c.frames_needed-need.result - 1) (exec_need c.args.image.now.scheme c.args.image.now.loads) c.promise_write_back.ensures.reads.view
     (needs g (goal.at.returns-then-is_err-clause-dry g c).After-frames_needed-need) r.2.credits dry
 
 pub returns-then-is_err-clause-whole : goal.returns-then-is_err-clause-whole
@@ -90,7 +90,7 @@ stands : (g : given.Over) (c : After-write_back-arg-3-1 g) (t : Tables) (p : Pro
 stands g c t p space =
     let v = g.S.FrameSeat.view in
     let e = c.promise_write_back.ensures in
-    let body = same_body v c.promise_write_back.new.space c.args.space.now e.view e.root e.trapframe e.layout in
+    let body = same_body v c.promise_write_back.new.space c.args.space.now e.reads.view e.reads.root e.reads.trapframe e.reads.layout in
     let before : IsSpace (body_of v c.promise_write_back.new.space) t p = rw body space in
     standing_still (v c.promise_write_back.new.space.seat) (v c.reserve.new.seat) (ap (λ (x : View). x.frames) (reserved g c)) _ _ _ t p before
 
@@ -106,7 +106,7 @@ rebuild-requires-clause-fits g c = fits_after g.F.FrameAccess.rule c.write_back.
 -- the space was written back, and is of the scheme of the image
 
 by_scheme : (g : given.Over) (c : After-write_back g) → c.args.image.now.scheme ≡ c.write_back.new.space.layout.scheme
-by_scheme g c = c.requires.scheme ∙ sym (ap (λ l. l.scheme) (c.write_back.ensures.layout ∙ c.promise_write_back.ensures.layout))
+by_scheme g c = c.requires.scheme ∙ sym (ap (λ l. l.scheme) (c.write_back.ensures.reads.layout ∙ c.promise_write_back.ensures.reads.layout))
 
 pub rebuild-requires-clause-parts : goal.rebuild-requires-clause-parts
 rebuild-requires-clause-parts g c =
@@ -116,7 +116,7 @@ rebuild-requires-clause-parts g c =
 after : (g : given.Over) (c : After-write_back g) → body_of g.S.FrameSeat.view c.write_back.new.space ≡ record (body_of g.S.FrameSeat.view c.promise_write_back.new.space) { view = g.S.FrameSeat.view c.reserve.new.seat }
 after g c =
     let e = c.write_back.ensures in
-    same_body g.S.FrameSeat.view c.write_back.new.space (record c.promise_write_back.new.space { seat = c.reserve.new.seat }) e.view e.root e.trapframe e.layout
+    same_body g.S.FrameSeat.view c.write_back.new.space (record c.promise_write_back.new.space { seat = c.reserve.new.seat }) e.reads.view e.reads.root e.reads.trapframe e.reads.layout
 
 pub rebuild-requires-clause-ready : goal.rebuild-requires-clause-ready
 rebuild-requires-clause-ready g c =
@@ -132,8 +132,8 @@ rebuild-requires-clause-credits g c =
     let at = goal.at.rebuild-requires-clause-credits g c in
     let e = c.promise_write_back.ensures in
     let same = ap (λ (i : JudgedLoads). i.scheme) c.image.view_is ∙ by_scheme g at.After-write_back in
-    credits_reserved (v c.args.space.now.seat) (v c.promise_write_back.new.space.seat) (v c.reserve.new.seat) _ _ e.view (tree g at.After-frames_needed-need) (v c.write_back.new.space.seat)
-    c.requires.ready.2.credits (reserved g at.After-write_back-arg-3-1) c.write_back.ensures.view
+    credits_reserved (v c.args.space.now.seat) (v c.promise_write_back.new.space.seat) (v c.reserve.new.seat) _ _ e.reads.view (tree g at.After-frames_needed-need) (v c.write_back.new.space.seat)
+    c.requires.ready.2.credits (reserved g at.After-write_back-arg-3-1) c.write_back.ensures.reads.view
     ∙ ap (λ z. tree_need z c.parts_of-parts.result.items) same ∙ ap (tree_need c.write_back.new.space.layout.scheme) (sym c.as_slice-2.ensures.value)
 
 pub returns-clause-replaced : goal.returns-clause-replaced
@@ -159,16 +159,16 @@ returns-clause-takes g c =
     let need = needs g at.After-frames_needed-need in
     let same = ap (λ (i : JudgedLoads). i.scheme) c.image.view_is ∙ by_scheme g at.After-write_back in
     let all = ap (λ z. tree_need z c.as_slice-2.result.now) (sym same) ∙ ap (tree_need c.image.inside.scheme) c.as_slice-2.ensures.value ∙ sym (tree g at.After-frames_needed-need) ∙ need in
-    takes_reserved (v c.args.space.now.seat) (v c.promise_write_back.new.space.seat) (v c.reserve.new.seat) _ _ e.view need (v c.write_back.new.space.seat) (v c.rebuild.new.self.seat) _
-    (reserved g at.After-write_back-arg-3-1) c.write_back.ensures.view all c.rebuild.ensures.takes
+    takes_reserved (v c.args.space.now.seat) (v c.promise_write_back.new.space.seat) (v c.reserve.new.seat) _ _ e.reads.view need (v c.write_back.new.space.seat) (v c.rebuild.new.self.seat) _
+    (reserved g at.After-write_back-arg-3-1) c.write_back.ensures.reads.view all c.rebuild.ensures.takes
 
 pub returns-clause-saved : goal.returns-clause-saved
 returns-clause-saved g c =
     let v = g.S.FrameSeat.view in
     let e = c.promise_write_back.ensures in
     let w = c.write_back.ensures in
-    let frame : c.write_back.new.space.trapframe ≡ c.args.space.now.trapframe = w.trapframe ∙ e.trapframe in
-    let there = ap (λ (x : View). x.frames) (w.view ∙ reserved g (goal.at.returns-clause-saved g c).After-write_back-arg-3-1 ∙ ap (with_credits (c.frames_needed-need.result - 1)) e.view) in
+    let frame : c.write_back.new.space.trapframe ≡ c.args.space.now.trapframe = w.reads.trapframe ∙ e.reads.trapframe in
+    let there = ap (λ (x : View). x.frames) (w.reads.view ∙ reserved g (goal.at.returns-clause-saved g c).After-write_back-arg-3-1 ∙ ap (with_credits (c.frames_needed-need.result - 1)) e.reads.view) in
     subst (λ (f : FrameNo). hold_of (v c.rebuild.new.self.seat) f.0 ≡ hold_of (v c.write_back.new.space.seat) f.0) frame c.rebuild.ensures.saved
     ∙ hold_of-frames (v c.write_back.new.space.seat) (v c.args.space.now.seat) there c.args.space.now.trapframe.0
 

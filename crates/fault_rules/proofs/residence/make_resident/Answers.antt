@@ -32,69 +32,69 @@ settle_initial-requires-clause-fits g c =
 pub settle_initial-requires-clause-ready : goal.settle_initial-requires-clause-ready
 settle_initial-requires-clause-ready g c =
     let read = c.settled_page.ensures in
-    let body = same_body g.S.FrameSeat.view c.settled_page.new.self c.args.space.now read.view read.root read.trapframe read.layout in
+    let body = same_body g.S.FrameSeat.view c.settled_page.new.self c.args.space.now read.reads.view read.reads.root read.reads.trapframe read.reads.layout in
     let r = c.requires.ready in
     (r.0, r.1, subst (λ b. CanMakeResident b r.0 r.1 c.args.access c.args.page) (sym body) r.2)
 
 pub settle_initial-requires-clause-unsettled : goal.settle_initial-requires-clause-unsettled
 settle_initial-requires-clause-unsettled g c t p space =
     let read = c.settled_page.ensures in
-    let body = same_body g.S.FrameSeat.view c.settled_page.new.self c.args.space.now read.view read.root read.trapframe read.layout in
+    let body = same_body g.S.FrameSeat.view c.settled_page.new.self c.args.space.now read.reads.view read.reads.root read.reads.trapframe read.reads.layout in
     c.in_default.ensures.page t p (space_in_call (subst (λ b. IsSpace b t p) body space))
 
 pub returns-in_default-clause-resident : goal.returns-in_default-clause-resident
 returns-in_default-clause-resident g c =
     let read = c.settled_page.ensures in
-    let body = same_body g.S.FrameSeat.view c.settled_page.new.self c.args.space.now read.view read.root read.trapframe read.layout in
-    carried {C = Access} {D = ℕ} (λ b s a n. IfOk c.settle_initial.result (λ _. HasMadeResident b (body_of g.S.FrameSeat.view c.settle_initial.new.space) (g.C.Files.files c.args.files.now) a n (λ f k. g.F.FrameAccess.alone → k ≡ g.F.FrameAccess.count s f))) {a = c.args.access} {m = c.args.page} body read.same refl refl
+    let body = same_body g.S.FrameSeat.view c.settled_page.new.self c.args.space.now read.reads.view read.reads.root read.reads.trapframe read.reads.layout in
+    carried {C = Access} {D = ℕ} (λ b s a n. IfOk c.settle_initial.result (λ _. HasMadeResident b (body_of g.S.FrameSeat.view c.settle_initial.new.space) (g.C.Files.files c.args.files.now) a n (λ f k. g.F.FrameAccess.alone → k ≡ g.F.FrameAccess.count s f))) {a = c.args.access} {m = c.args.page} body read.reads.same refl refl
     (c.settle_initial.ensures.resident)
 
 pub returns-in_default-clause-dry : goal.returns-in_default-clause-dry
 returns-in_default-clause-dry g c short =
     let read = c.settled_page.ensures in
-    let body = same_body g.S.FrameSeat.view c.settled_page.new.self c.args.space.now read.view read.root read.trapframe read.layout in
-    carried {C = Access} {D = ℕ} (λ b s a n. LacksFrames b (body_of g.S.FrameSeat.view c.settle_initial.new.space) a n) {a = c.args.access} {m = c.args.page} body read.same refl refl
+    let body = same_body g.S.FrameSeat.view c.settled_page.new.self c.args.space.now read.reads.view read.reads.root read.reads.trapframe read.reads.layout in
+    carried {C = Access} {D = ℕ} (λ b s a n. LacksFrames b (body_of g.S.FrameSeat.view c.settle_initial.new.space) a n) {a = c.args.access} {m = c.args.page} body read.reads.same refl refl
     (c.settle_initial.ensures.dry short)
 
 pub returns-in_default-clause-of_file : goal.returns-in_default-clause-of_file
 returns-in_default-clause-of_file g c e is t p can =
     let read = c.settled_page.ensures in
-    let body = same_body g.S.FrameSeat.view c.settled_page.new.self c.args.space.now read.view read.root read.trapframe read.layout in
+    let body = same_body g.S.FrameSeat.view c.settled_page.new.self c.args.space.now read.reads.view read.reads.root read.reads.trapframe read.reads.layout in
     c.settle_initial.ensures.of_file e is t p (subst (λ b. CanMakeResident b t p c.args.access c.args.page) (sym body) can)
 
 pub returns-in_default-clause-view_stays : goal.returns-in_default-clause-view_stays
 returns-in_default-clause-view_stays g c e is =
-    c.settle_initial.ensures.view_stays e is ∙ c.settled_page.ensures.view
+    c.settle_initial.ensures.view_stays e is ∙ c.settled_page.ensures.reads.view
 
 pub returns-in_default-clause-store_stays : goal.returns-in_default-clause-store_stays
 returns-in_default-clause-store_stays g c e is =
-    c.settle_initial.ensures.store_stays e is ∙ c.settled_page.ensures.same
+    c.settle_initial.ensures.store_stays e is ∙ c.settled_page.ensures.reads.same
 
 pub returns-in_default-clause-moves : goal.returns-in_default-clause-moves
 returns-in_default-clause-moves g c none t p can =
     let read = c.settled_page.ensures in
-    let body = same_body g.S.FrameSeat.view c.settled_page.new.self c.args.space.now read.view read.root read.trapframe read.layout in
+    let body = same_body g.S.FrameSeat.view c.settled_page.new.self c.args.space.now read.reads.view read.reads.root read.reads.trapframe read.reads.layout in
     c.settle_initial.ensures.moves none t p (subst (λ b. CanMakeResident b t p c.args.access c.args.page) (sym body) can)
 
 pub returns-in_default-clause-enough : goal.returns-in_default-clause-enough
 returns-in_default-clause-enough g c alone =
     let read = c.settled_page.ensures in
-    let body = same_body g.S.FrameSeat.view c.settled_page.new.self c.args.space.now read.view read.root read.trapframe read.layout in
-    carried {C = Access} {D = ℕ} (λ b s a n. WhenMadeResident b a n (g.F.FrameAccess.count s) (λ need. IsOk c.settle_initial.result → need ≤ g.F.FrameAccess.free s)) {a = c.args.access} {m = c.args.page} body read.same refl refl
+    let body = same_body g.S.FrameSeat.view c.settled_page.new.self c.args.space.now read.reads.view read.reads.root read.reads.trapframe read.reads.layout in
+    carried {C = Access} {D = ℕ} (λ b s a n. WhenMadeResident b a n (g.F.FrameAccess.count s) (λ need. IsOk c.settle_initial.result → need ≤ g.F.FrameAccess.free s)) {a = c.args.access} {m = c.args.page} body read.reads.same refl refl
     (c.settle_initial.ensures.enough alone)
 
 pub returns-in_default-clause-short : goal.returns-in_default-clause-short
 returns-in_default-clause-short g c alone =
     let read = c.settled_page.ensures in
-    let body = same_body g.S.FrameSeat.view c.settled_page.new.self c.args.space.now read.view read.root read.trapframe read.layout in
-    carried {C = Access} {D = ℕ} (λ b s a n. WhenMadeResident b a n (g.F.FrameAccess.count s) (λ need. IsNoFrameError c.settle_initial.result → g.F.FrameAccess.free s < need)) {a = c.args.access} {m = c.args.page} body read.same refl refl
+    let body = same_body g.S.FrameSeat.view c.settled_page.new.self c.args.space.now read.reads.view read.reads.root read.reads.trapframe read.reads.layout in
+    carried {C = Access} {D = ℕ} (λ b s a n. WhenMadeResident b a n (g.F.FrameAccess.count s) (λ need. IsNoFrameError c.settle_initial.result → g.F.FrameAccess.free s < need)) {a = c.args.access} {m = c.args.page} body read.reads.same refl refl
     (c.settle_initial.ensures.short alone)
 
 pub returns-in_default-clause-free : goal.returns-in_default-clause-free
 returns-in_default-clause-free g c alone =
     let read = c.settled_page.ensures in
-    let body = same_body g.S.FrameSeat.view c.settled_page.new.self c.args.space.now read.view read.root read.trapframe read.layout in
-    carried {C = Access} {D = ℕ} (λ b s a n. WhenMadeResident b a n (g.F.FrameAccess.count s) (λ need. g.F.FrameAccess.free c.settle_initial.new.store ≡ g.F.FrameAccess.free s - taken_of c.settle_initial.result need)) {a = c.args.access} {m = c.args.page} body read.same refl refl
+    let body = same_body g.S.FrameSeat.view c.settled_page.new.self c.args.space.now read.reads.view read.reads.root read.reads.trapframe read.reads.layout in
+    carried {C = Access} {D = ℕ} (λ b s a n. WhenMadeResident b a n (g.F.FrameAccess.count s) (λ need. g.F.FrameAccess.free c.settle_initial.new.store ≡ g.F.FrameAccess.free s - taken_of c.settle_initial.result need)) {a = c.args.access} {m = c.args.page} body read.reads.same refl refl
     (c.settle_initial.ensures.free alone)
 
 pub returns-in_default-clause-keeps : goal.returns-in_default-clause-keeps
@@ -110,7 +110,7 @@ take_over-requires-clause-fits g c =
 pub take_over-requires-clause-ready : goal.take_over-requires-clause-ready
 take_over-requires-clause-ready g c =
     let read = c.settled_page.ensures in
-    let body = same_body g.S.FrameSeat.view c.settled_page.new.self c.args.space.now read.view read.root read.trapframe read.layout in
+    let body = same_body g.S.FrameSeat.view c.settled_page.new.self c.args.space.now read.reads.view read.reads.root read.reads.trapframe read.reads.layout in
     let is : c.args.access ≡ Store = same_true the_type (search rules) _ _ (sym c.eq.ensures ∙ c.if-eq.true) in
     let r = c.requires.ready in
     let page = (c.in-Some.ensures.page r.0 r.1 (space_in_call r.2.agrees)).0 in
@@ -120,23 +120,23 @@ take_over-requires-clause-ready g c =
 pub take_over-requires-clause-settled : goal.take_over-requires-clause-settled
 take_over-requires-clause-settled g c t p space =
     let read = c.settled_page.ensures in
-    let body = same_body g.S.FrameSeat.view c.settled_page.new.self c.args.space.now read.view read.root read.trapframe read.layout in
+    let body = same_body g.S.FrameSeat.view c.settled_page.new.self c.args.space.now read.reads.view read.reads.root read.reads.trapframe read.reads.layout in
     (c.in-Some.ensures.page t p (space_in_call (subst (λ b. IsSpace b t p) body space))).1
 
 pub returns-in_err-take_over-clause-dry : goal.returns-in_err-take_over-clause-dry
 returns-in_err-take_over-clause-dry g c short =
     let read = c.settled_page.ensures in
-    let body = same_body g.S.FrameSeat.view c.settled_page.new.self c.args.space.now read.view read.root read.trapframe read.layout in
+    let body = same_body g.S.FrameSeat.view c.settled_page.new.self c.args.space.now read.reads.view read.reads.root read.reads.trapframe read.reads.layout in
     let is : c.args.access ≡ Store = same_true the_type (search rules) _ _ (sym c.eq.ensures ∙ c.if-eq.true) in
     let r = c.requires.ready in
     let page = (c.in-Some.ensures.page r.0 r.1 (space_in_call r.2.agrees)).0 in
-    carried (λ b s a n. LacksFrames b (body_of g.S.FrameSeat.view c.take_over.new.space) a n) body read.same (sym is) page
+    carried (λ b s a n. LacksFrames b (body_of g.S.FrameSeat.view c.take_over.new.space) a n) body read.reads.same (sym is) page
     (c.in_err-take_over.ensures.dry)
 
 pub returns-in_err-take_over-clause-whole : goal.returns-in_err-take_over-clause-whole
 returns-in_err-take_over-clause-whole g c short t p space =
     let read = c.settled_page.ensures in
-    let body = same_body g.S.FrameSeat.view c.settled_page.new.self c.args.space.now read.view read.root read.trapframe read.layout in
+    let body = same_body g.S.FrameSeat.view c.settled_page.new.self c.args.space.now read.reads.view read.reads.root read.reads.trapframe read.reads.layout in
     c.in_err-take_over.ensures.whole t p (subst (λ b. IsSpace b t p) (sym body) space)
 
 pub returns-in_err-take_over-clause-moves : goal.returns-in_err-take_over-clause-moves
@@ -148,21 +148,21 @@ returns-in_err-take_over-clause-moves g c given t p can =
 pub returns-in_err-take_over-clause-short : goal.returns-in_err-take_over-clause-short
 returns-in_err-take_over-clause-short g c alone t p shared can told short =
     let read = c.settled_page.ensures in
-    let body = same_body g.S.FrameSeat.view c.settled_page.new.self c.args.space.now read.view read.root read.trapframe read.layout in
+    let body = same_body g.S.FrameSeat.view c.settled_page.new.self c.args.space.now read.reads.view read.reads.root read.reads.trapframe read.reads.layout in
     let is : c.args.access ≡ Store = same_true the_type (search rules) _ _ (sym c.eq.ensures ∙ c.if-eq.true) in
     let r = c.requires.ready in
     let page = (c.in-Some.ensures.page r.0 r.1 (space_in_call r.2.agrees)).0 in
-    carried (λ b s a n. WhenMadeResident b a n (g.F.FrameAccess.count s) (λ need. g.F.FrameAccess.free s < need)) body read.same (sym is) page
+    carried (λ b s a n. WhenMadeResident b a n (g.F.FrameAccess.count s) (λ need. g.F.FrameAccess.free s < need)) body read.reads.same (sym is) page
     (λ u q sh ready by. too_few _ _ (c.in_err-take_over.ensures.exact alone u q sh ready by).1) t p shared can told
 
 pub returns-in_err-take_over-clause-free : goal.returns-in_err-take_over-clause-free
 returns-in_err-take_over-clause-free g c alone =
     let read = c.settled_page.ensures in
-    let body = same_body g.S.FrameSeat.view c.settled_page.new.self c.args.space.now read.view read.root read.trapframe read.layout in
+    let body = same_body g.S.FrameSeat.view c.settled_page.new.self c.args.space.now read.reads.view read.reads.root read.reads.trapframe read.reads.layout in
     let is : c.args.access ≡ Store = same_true the_type (search rules) _ _ (sym c.eq.ensures ∙ c.if-eq.true) in
     let r = c.requires.ready in
     let page = (c.in-Some.ensures.page r.0 r.1 (space_in_call r.2.agrees)).0 in
-    carried (λ b s a n. WhenMadeResident b a n (g.F.FrameAccess.count s) (λ need. g.F.FrameAccess.free c.take_over.new.store ≡ g.F.FrameAccess.free s - taken_of c.from_residual.result need)) body read.same (sym is) page
+    carried (λ b s a n. WhenMadeResident b a n (g.F.FrameAccess.count s) (λ need. g.F.FrameAccess.free c.take_over.new.store ≡ g.F.FrameAccess.free s - taken_of c.from_residual.result need)) body read.reads.same (sym is) page
     (λ u q sh ready by. none_gone c.from_residual.result _ _ _ c.from_residual.ensures.0 (c.in_err-take_over.ensures.free alone u q sh ready by))
 
 pub returns-in_err-take_over-clause-keeps : goal.returns-in_err-take_over-clause-keeps
@@ -172,11 +172,11 @@ returns-in_err-take_over-clause-keeps g c others r =
 pub returns-in_ok-take_over-clause-resident : goal.returns-in_ok-take_over-clause-resident
 returns-in_ok-take_over-clause-resident g c =
     let read = c.settled_page.ensures in
-    let body = same_body g.S.FrameSeat.view c.settled_page.new.self c.args.space.now read.view read.root read.trapframe read.layout in
+    let body = same_body g.S.FrameSeat.view c.settled_page.new.self c.args.space.now read.reads.view read.reads.root read.reads.trapframe read.reads.layout in
     let is : c.args.access ≡ Store = same_true the_type (search rules) _ _ (sym c.eq.ensures ∙ c.if-eq.true) in
     let r = c.requires.ready in
     let page = (c.in-Some.ensures.page r.0 r.1 (space_in_call r.2.agrees)).0 in
-    carried (λ b s a n. HasMadeResident b (body_of g.S.FrameSeat.view c.take_over.new.space) (g.C.Files.files c.args.files.now) a n (λ f k. g.F.FrameAccess.alone → k ≡ g.F.FrameAccess.count s f)) body read.same (sym is) page
+    carried (λ b s a n. HasMadeResident b (body_of g.S.FrameSeat.view c.take_over.new.space) (g.C.Files.files c.args.files.now) a n (λ f k. g.F.FrameAccess.alone → k ≡ g.F.FrameAccess.count s f)) body read.reads.same (sym is) page
     (c.in_ok-take_over.ensures.resident (g.C.Files.files c.args.files.now))
 
 pub returns-in_ok-take_over-clause-moves : goal.returns-in_ok-take_over-clause-moves
@@ -188,21 +188,21 @@ returns-in_ok-take_over-clause-moves g c given t p can =
 pub returns-in_ok-take_over-clause-enough : goal.returns-in_ok-take_over-clause-enough
 returns-in_ok-take_over-clause-enough g c alone t p shared can told ok =
     let read = c.settled_page.ensures in
-    let body = same_body g.S.FrameSeat.view c.settled_page.new.self c.args.space.now read.view read.root read.trapframe read.layout in
+    let body = same_body g.S.FrameSeat.view c.settled_page.new.self c.args.space.now read.reads.view read.reads.root read.reads.trapframe read.reads.layout in
     let is : c.args.access ≡ Store = same_true the_type (search rules) _ _ (sym c.eq.ensures ∙ c.if-eq.true) in
     let r = c.requires.ready in
     let page = (c.in-Some.ensures.page r.0 r.1 (space_in_call r.2.agrees)).0 in
-    carried (λ b s a n. WhenMadeResident b a n (g.F.FrameAccess.count s) (λ need. need ≤ g.F.FrameAccess.free s)) body read.same (sym is) page
+    carried (λ b s a n. WhenMadeResident b a n (g.F.FrameAccess.count s) (λ need. need ≤ g.F.FrameAccess.free s)) body read.reads.same (sym is) page
     (λ u q sh ready by. (c.in_ok-take_over.ensures.exact alone u q sh ready by).0 refl) t p shared can told
 
 pub returns-in_ok-take_over-clause-free : goal.returns-in_ok-take_over-clause-free
 returns-in_ok-take_over-clause-free g c alone =
     let read = c.settled_page.ensures in
-    let body = same_body g.S.FrameSeat.view c.settled_page.new.self c.args.space.now read.view read.root read.trapframe read.layout in
+    let body = same_body g.S.FrameSeat.view c.settled_page.new.self c.args.space.now read.reads.view read.reads.root read.reads.trapframe read.reads.layout in
     let is : c.args.access ≡ Store = same_true the_type (search rules) _ _ (sym c.eq.ensures ∙ c.if-eq.true) in
     let r = c.requires.ready in
     let page = (c.in-Some.ensures.page r.0 r.1 (space_in_call r.2.agrees)).0 in
-    carried (λ b s a n. WhenMadeResident b a n (g.F.FrameAccess.count s) (λ need. g.F.FrameAccess.free c.take_over.new.store ≡ g.F.FrameAccess.free s - need)) body read.same (sym is) page
+    carried (λ b s a n. WhenMadeResident b a n (g.F.FrameAccess.count s) (λ need. g.F.FrameAccess.free c.take_over.new.store ≡ g.F.FrameAccess.free s - need)) body read.reads.same (sym is) page
     (c.in_ok-take_over.ensures.free alone)
 
 pub returns-in_ok-take_over-clause-keeps : goal.returns-in_ok-take_over-clause-keeps
@@ -214,7 +214,7 @@ returns-in_ok-take_over-clause-keeps g c others r =
 pub returns-else-eq-clause-resident : goal.returns-else-eq-clause-resident
 returns-else-eq-clause-resident g c t p can =
     let read = c.settled_page.ensures in
-    let body = same_body g.S.FrameSeat.view c.settled_page.new.self c.args.space.now read.view read.root read.trapframe read.layout in
+    let body = same_body g.S.FrameSeat.view c.settled_page.new.self c.args.space.now read.reads.view read.reads.root read.reads.trapframe read.reads.layout in
     let found = c.in-Some.ensures.page t p (space_in_call can.agrees) in
     let settled = ap (get p.settled) (sym found.0) ∙ found.1.settled in
     let other = λ (is : c.args.access ≡ Store). false≢true (sym c.if-eq.false ∙ c.eq.ensures ∙ (rw is refl)) in
@@ -241,5 +241,5 @@ returns-else-eq-clause-free g c alone t p shared can told =
     let settled = ap (get p.settled) (sym found.0) ∙ found.1.settled in
     let other = λ (is : c.args.access ≡ Store). false≢true (sym c.if-eq.false ∙ c.eq.ensures ∙ (rw is refl)) in
     let none = still_need can found.1.page settled other shared in
-    let same = ap g.F.FrameAccess.free c.settled_page.ensures.same in
+    let same = ap g.F.FrameAccess.free c.settled_page.ensures.reads.same in
     omega (arith, none, same)

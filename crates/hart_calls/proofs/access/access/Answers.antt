@@ -28,13 +28,13 @@ pub accessed-requires-clause-ready : goal.accessed-requires-clause-ready
 accessed-requires-clause-ready g c =
     let n = c.translate-walk.ensures in
     let r = c.requires.ready in
-    (r.0, r.1, still_space g.S.FrameSeat.view _ _ n.view n.root n.trapframe n.layout r.0 r.1 r.2, n.walk r.0 r.1 r.2)
+    (r.0, r.1, still_space g.S.FrameSeat.view _ _ n.reads.view n.reads.root n.reads.trapframe n.reads.layout r.0 r.1 r.2, n.walk r.0 r.1 r.2)
 
 pub returns-then-is_permitted-clause-call_result : goal.returns-then-is_permitted-clause-call_result
 returns-then-is_permitted-clause-call_result g c = λ k is t p space.
     let n = c.translate-walk.ensures in
     let a = request_of c.args.request in
-    let here = still_space g.S.FrameSeat.view _ _ n.view n.root n.trapframe n.layout t p space in
+    let here = still_space g.S.FrameSeat.view _ _ n.reads.view n.reads.root n.reads.trapframe n.reads.layout t p space in
     let walk = n.walk t p space in
     let law = c.walks_grant_what_is_resident.ensures (body_of g.S.FrameSeat.view c.args.space.now) t p c.args.request.access c.args.request.va.0 space in
     let both = granted (g.C.Files.files c.args.files.now) p a (gives_leaf c.translate-walk.result) (sym c.is_permitted.ensures ∙ c.if-is_permitted.true) (rw walk law) in
@@ -51,7 +51,7 @@ returns-in-Ready-clause-call_result g c = λ k is t p space.
     let a = request_of c.args.request in
     let files = g.C.Files.files c.args.files.now in
     let x = body_of g.S.FrameSeat.view c.args.space.now in
-    let here = still_space g.S.FrameSeat.view _ _ n.view n.root n.trapframe n.layout t p space in
+    let here = still_space g.S.FrameSeat.view _ _ n.reads.view n.reads.root n.reads.trapframe n.reads.layout t p space in
     let law = c.walks_grant_what_is_resident.ensures x t p c.args.request.access c.args.request.va.0 space in
     let wide : is_width c.args.request.width ≡ true = (let e = c.is_width.ensures in let f = c.if-not-is_width.false in cc) in
     let none = ready_none files p a (c.in-Ready.ensures.ended t p here) in
@@ -69,7 +69,7 @@ returns-in-Ended-clause-call_result g c = λ k is t p space.
     let x = body_of g.S.FrameSeat.view c.args.space.now in
     let y = body_of g.S.FrameSeat.view c.serve.new.space in
     let e = c.in-Ended.ensures in
-    let here = still_space g.S.FrameSeat.view _ _ n.view n.root n.trapframe n.layout t p space in
+    let here = still_space g.S.FrameSeat.view _ _ n.reads.view n.reads.root n.reads.trapframe n.reads.layout t p space in
     let law = c.walks_grant_what_is_resident.ensures x t p c.args.request.access c.args.request.va.0 space in
     let wide : is_width c.args.request.width ≡ true = (let e = c.is_width.ensures in let f = c.if-not-is_width.false in cc) in
     let whole = e.whole c.in-Ended.rule refl t p here in
@@ -81,13 +81,13 @@ returns-in-Ended-clause-call_result g c = λ k is t p space.
             let none = both.0 in
             let not = not_granted files p a (gives_leaf c.translate-walk.result) (sym c.is_permitted.ensures ∙ c.if-is_permitted.false) (rw (n.walk t p space) law) none in
             let dry = e.dry (ap served.Ended both.1) t p (can_reside (body_of g.S.FrameSeat.view c.translate-walk.new.self) t p c.args.request.access c.args.request.va.0 c.args.request.width here none) in
-            ends_dry_by files p a k is wide x y _ _ _ c.in-Ended.rule both.1 none not dry.0 dry.1 (subst (λ (v : View). RunsDry v (g.S.FrameSeat.view c.serve.new.space.seat) (resident_need (is_shared_by dry.0) p c.args.request.access (page_of c.args.request.va.0)) (option_to_list dry.0)) n.view dry.2) (t, whole) moves
+            ends_dry_by files p a k is wide x y _ _ _ c.in-Ended.rule both.1 none not dry.0 dry.1 (subst (λ (v : View). RunsDry v (g.S.FrameSeat.view c.serve.new.space.seat) (resident_need (is_shared_by dry.0) p c.args.request.access (page_of c.args.request.va.0)) (option_to_list dry.0)) n.reads.view dry.2) (t, whole) moves
       ],
       elim why as (λ _. ClaimsNone x.view y.view) [
-        | inl by ↦ ap (λ (v : View). v.tallies.claims) (e.view_stays ((λ is. cc), not_dry files p a c.in-Ended.rule by) ∙ n.view)
+        | inl by ↦ ap (λ (v : View). v.tallies.claims) (e.view_stays ((λ is. cc), not_dry files p a c.in-Ended.rule by) ∙ n.reads.view)
         | inr both ↦
             let dry = e.dry (ap served.Ended both.1) t p (can_reside (body_of g.S.FrameSeat.view c.translate-walk.new.self) t p c.args.request.access c.args.request.va.0 c.args.request.width here both.0) in
-            dry.2.claims ∙ ap (λ (v : View). v.tallies.claims) n.view
+            dry.2.claims ∙ ap (λ (v : View). v.tallies.claims) n.reads.view
       ],
     )
 
@@ -95,14 +95,14 @@ pub returns-in-Unserved-clause-call_result : goal.returns-in-Unserved-clause-cal
 returns-in-Unserved-clause-call_result g c = λ k is t p space.
     let n = c.translate-walk.ensures in
     let e = c.in-Unserved.ensures in
-    let here = still_space g.S.FrameSeat.view _ _ n.view n.root n.trapframe n.layout t p space in
+    let here = still_space g.S.FrameSeat.view _ _ n.reads.view n.reads.root n.reads.trapframe n.reads.layout t p space in
     let x = e.unpromised c.in-Unserved.refusal refl in (
       is_access_call k (request_of c.args.request) is,
       record {
         could = (c.args.files.now, x.0, g.met.C.Files.stays c.args.files.now, x.1, x.2);
         of_file = access_reads_file (g.C.Files.files c.args.files.now) p k (request_of c.args.request) is (let w = c.is_width.ensures in let f = c.if-not-is_width.false in cc) (e.of_file c.in-Unserved.refusal refl t p here);
-        claims = ap (λ (v : View). v.tallies.claims) (e.view_stays ((λ is. cc), (λ is. cc)) ∙ n.view);
-        space = (t, still_space g.S.FrameSeat.view c.translate-walk.new.self c.serve.new.space (e.view_stays ((λ is. cc), (λ is. cc))) e.root e.trapframe e.layout t p here);
+        claims = ap (λ (v : View). v.tallies.claims) (e.view_stays ((λ is. cc), (λ is. cc)) ∙ n.reads.view);
+        space = (t, still_space g.S.FrameSeat.view c.translate-walk.new.self c.serve.new.space (e.view_stays ((λ is. cc), (λ is. cc))) e.place.root e.place.trapframe e.place.layout t p here);
         moves = e.files_stay c.in-Unserved.refusal refl;
       },
     )
@@ -117,7 +117,7 @@ pub serve-requires-clause-ready : goal.serve-requires-clause-ready
 serve-requires-clause-ready g c =
     let n = c.translate-walk.ensures in
     let r = c.requires.ready in
-    (r.0, r.1, still_space g.S.FrameSeat.view _ _ n.view n.root n.trapframe n.layout r.0 r.1 r.2)
+    (r.0, r.1, still_space g.S.FrameSeat.view _ _ n.reads.view n.reads.root n.reads.trapframe n.reads.layout r.0 r.1 r.2)
 
 pub without_service-requires-clause-fits : goal.without_service-requires-clause-fits
 without_service-requires-clause-fits g c = fits_after g.F.FrameAccess.rule c.serve.ensures.keeps (fits_after g.F.FrameAccess.rule c.translate-walk.ensures.keeps c.requires.fits)
@@ -126,7 +126,7 @@ pub without_service-requires-clause-ready : goal.without_service-requires-clause
 without_service-requires-clause-ready g c =
     let n = c.translate-walk.ensures in
     let p = c.requires.ready in
-    let here = still_space g.S.FrameSeat.view _ _ n.view n.root n.trapframe n.layout p.0 p.1 p.2 in
+    let here = still_space g.S.FrameSeat.view _ _ n.reads.view n.reads.root n.reads.trapframe n.reads.layout p.0 p.1 p.2 in
     let none = ready_none (g.C.Files.files c.args.files.now) p.1 (request_of c.args.request) (c.in-Ready.ensures.ended p.0 p.1 here) in
     let r = c.in-Ready.ensures.ready refl p.0 p.1 (can_reside (body_of g.S.FrameSeat.view c.translate-walk.new.self) p.0 p.1 c.args.request.access c.args.request.va.0 c.args.request.width here none) in
     (r.0, made_resident (g.C.Files.files c.args.files.now) 0 (is_shared_by r.1) p.1 c.args.request.access (page_of c.args.request.va.0), r.2.agrees 0)

@@ -15,13 +15,13 @@ pub accessed-requires-clause-ready : goal.accessed-requires-clause-ready
 accessed-requires-clause-ready g c =
     let n = c.translate-walk.ensures in
     let r = c.requires.ready in
-    (r.0, r.1, still_space g.S.FrameSeat.view _ _ n.view n.root n.trapframe n.layout r.0 r.1 r.2, n.walk r.0 r.1 r.2)
+    (r.0, r.1, still_space g.S.FrameSeat.view _ _ n.reads.view n.reads.root n.reads.trapframe n.reads.layout r.0 r.1 r.2, n.walk r.0 r.1 r.2)
 
 pub returns-clause-made : goal.returns-clause-made
 returns-clause-made g c = λ k is t p space.
     let n = c.translate-walk.ensures in
     let a = request_of c.args.request in
-    let here = still_space g.S.FrameSeat.view _ _ n.view n.root n.trapframe n.layout t p space in
+    let here = still_space g.S.FrameSeat.view _ _ n.reads.view n.reads.root n.reads.trapframe n.reads.layout t p space in
     let walk = n.walk t p space in
     let law = c.walks_grant_what_is_resident.ensures (body_of g.S.FrameSeat.view c.args.space.now) t p c.args.request.access c.args.request.va.0 space in
     let wide : is_width c.args.request.width ≡ true = (let e = c.is_width.ensures in let f = c.if-not-is_width.false in cc) in

@@ -14,13 +14,13 @@ use Rattle.sv39_entry.specs.declared.frame.FrameNo.{FrameNo}
 use Rattle.hart_calls.proofs.calls.make.Goals as goal
 
 pub returns-in-Fetch-clause-call_result : goal.returns-in-Fetch-clause-call_result
-returns-in-Fetch-clause-call_result g c = rw c.in-Fetch.is (c.access.ensures.call_result (call.Fetch c.in-Fetch.address) (ap request_of c.request.ensures))
+returns-in-Fetch-clause-call_result g c = rw c.in-Fetch.is (c.access.ensures.call_result (call.Fetch c.in-Fetch.address) (ap request_of c.new.ensures))
 
 pub returns-in-Load-clause-call_result : goal.returns-in-Load-clause-call_result
-returns-in-Load-clause-call_result g c = rw c.in-Load.is (c.access-in-Load.ensures.call_result (call.Load c.in-Load.address c.in-Load.width) (ap request_of c.request-in-Load.ensures))
+returns-in-Load-clause-call_result g c = rw c.in-Load.is (c.access-in-Load.ensures.call_result (call.Load c.in-Load.address c.in-Load.width) (ap request_of c.new-in-Load.ensures))
 
 pub returns-in-Store-clause-call_result : goal.returns-in-Store-clause-call_result
-returns-in-Store-clause-call_result g c = rw c.in-Store.is (c.access-in-Store.ensures.call_result (call.Store c.in-Store.address c.in-Store.width c.in-Store.value) (ap request_of c.request-in-Store.ensures))
+returns-in-Store-clause-call_result g c = rw c.in-Store.is (c.access-in-Store.ensures.call_result (call.Store c.in-Store.address c.in-Store.width c.in-Store.value) (ap request_of c.new-in-Store.ensures))
 
 pub returns-in-Exec-clause-call_result : goal.returns-in-Exec-clause-call_result
 returns-in-Exec-clause-call_result g c = rw c.in-Exec.is c.replace.ensures.call_result

@@ -19,7 +19,7 @@ pub write_back-requires-clause-ready : goal.write_back-requires-clause-ready
 write_back-requires-clause-ready g c =
     let r = c.requires.ready in
     let n = c.promise_write_back.ensures in
-    (r.0, r.1, space_in_call (still_space view_of c.args.space.now c.promise_write_back.new.space n.view n.root n.trapframe n.layout r.0 r.1 r.2), c.in_default.ensures.promised r.0 r.1 r.2)
+    (r.0, r.1, space_in_call (still_space view_of c.args.space.now c.promise_write_back.new.space n.reads.view n.reads.root n.reads.trapframe n.reads.layout r.0 r.1 r.2), c.in_default.ensures.promised r.0 r.1 r.2)
 
 pub returns-in-Err-clause-fits : goal.returns-in-Err-clause-fits
 returns-in-Err-clause-fits g c = (fits_still _ _ _ c.args.space.now.seat c.promise_write_back.new.space.seat c.requires.store c.promise_write_back.ensures.keeps c.requires.fits).1
@@ -31,9 +31,9 @@ returns-clause-fits g c =
 pub returns-clause-written : goal.returns-clause-written
 returns-clause-written g c = λ t p space.
     let n = c.promise_write_back.ensures in
-    goes_on _ _ _ [] _ n.files (c.write_back.ensures.moves t p (space_in_call (still_space view_of c.args.space.now c.promise_write_back.new.space n.view n.root n.trapframe n.layout t p space)))
+    goes_on _ _ _ [] _ n.files (c.write_back.ensures.moves t p (space_in_call (still_space view_of c.args.space.now c.promise_write_back.new.space n.reads.view n.reads.root n.reads.trapframe n.reads.layout t p space)))
 
 pub returns-clause-files : goal.returns-clause-files
 returns-clause-files g c = λ t p space.
     let n = c.promise_write_back.ensures in
-    c.write_back.ensures.written t p (space_in_call (still_space view_of c.args.space.now c.promise_write_back.new.space n.view n.root n.trapframe n.layout t p space)) ∙ ap (λ (fs : List File). all_written_back fs p) n.files.files
+    c.write_back.ensures.written t p (space_in_call (still_space view_of c.args.space.now c.promise_write_back.new.space n.reads.view n.reads.root n.reads.trapframe n.reads.layout t p space)) ∙ ap (λ (fs : List File). all_written_back fs p) n.files.files

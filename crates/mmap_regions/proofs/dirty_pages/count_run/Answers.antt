@@ -66,11 +66,11 @@ pages-preserved g c =
         | then-found w ↦ let is = w.count-is in omega (arith, is, i.few, near.0, number)
         | else-found w ↦ let is = w.count-is in omega (arith, is, i.few, near.0, number)
       ];
-      root = c.next_settled_with_last.ensures.root ∙ i.root;
-      trapframe = c.next_settled_with_last.ensures.trapframe ∙ i.trapframe;
-      layout = c.next_settled_with_last.ensures.layout ∙ i.layout;
-      view = c.next_settled_with_last.ensures.view ∙ i.view;
-      same = c.next_settled_with_last.ensures.same ∙ i.same;
+      root = c.next_settled_with_last.ensures.reads.root ∙ i.root;
+      trapframe = c.next_settled_with_last.ensures.reads.trapframe ∙ i.trapframe;
+      layout = c.next_settled_with_last.ensures.reads.layout ∙ i.layout;
+      view = c.next_settled_with_last.ensures.reads.view ∙ i.view;
+      same = c.next_settled_with_last.ensures.reads.same ∙ i.same;
       keeps = λ others s. c.next_settled_with_last.ensures.keeps others (i.keeps others s);
       kept = λ t p space. c.next_settled_with_last.ensures.kept t p (space_in_call (rw body space)) (i.kept t p space);
       count = λ t p space run.

@@ -66,11 +66,11 @@ runs-preserved g c =
           let behind = row_before (pages_for p.size) (trapframe_page p.scheme) c.runs.i (c.runs.i + 1) p.mappings _ m space.sound.order.above at there (omega arith) in
           let so_far = i.few t p space _ at in
           omega (arith, first, end, one, so_far, behind);
-      root = n.root ∙ i.root;
-      trapframe = n.trapframe ∙ i.trapframe;
-      layout = n.layout ∙ i.layout;
-      view = n.view ∙ i.view;
-      same = n.same ∙ i.same;
+      root = n.reads.root ∙ i.root;
+      trapframe = n.reads.trapframe ∙ i.trapframe;
+      layout = n.reads.layout ∙ i.layout;
+      view = n.reads.view ∙ i.view;
+      same = n.reads.same ∙ i.same;
       keeps = λ others s. n.keeps others (i.keeps others s);
       counted = λ t p space.
           let at = mapping_at p c.mappings.result.now c.args.space.now.layout c.runs.i blank is space.lays within in

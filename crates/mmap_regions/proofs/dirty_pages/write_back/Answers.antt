@@ -60,11 +60,11 @@ runs-preserved g c =
     let is = c.mappings.ensures ∙ ap (λ l. l.mappings) i.layout in
     let within = still_within c.args.space.now.layout c.mappings.result.now c.mappings-i-end.result.now is c.mappings-i-end.ensures c.runs.i c.runs-test.true in
     record {
-      root = n.root ∙ i.root;
-      trapframe = n.trapframe ∙ i.trapframe;
-      layout = n.layout ∙ i.layout;
-      view = n.view ∙ i.view;
-      same = n.same ∙ i.same;
+      root = n.reads.root ∙ i.root;
+      trapframe = n.reads.trapframe ∙ i.trapframe;
+      layout = n.reads.layout ∙ i.layout;
+      view = n.reads.view ∙ i.view;
+      same = n.reads.same ∙ i.same;
       keeps = λ others s. n.keeps others (i.keeps others s);
       moves = λ t p space.
           let at = mapping_at p c.mappings.result.now c.args.space.now.layout c.runs.i blank is space.lays within in

@@ -51,7 +51,7 @@ page_bytes-requires-clause-ready g c =
     let i = c.pages.invariant in
     let n = c.next_settled_with_last.ensures in
     let body = same_body g.S.FrameSeat.view c.pages.space c.args.space.now i.view i.root i.trapframe i.layout in
-    let again = same_body g.S.FrameSeat.view c.next_settled_with_last.new.self c.pages.space n.view n.root n.trapframe n.layout in
+    let again = same_body g.S.FrameSeat.view c.next_settled_with_last.new.self c.pages.space n.reads.view n.reads.root n.reads.trapframe n.reads.layout in
     let next = rw c.in-Some-next_settled_with_last.is at n.page r.0 r.1 (rw body r.2) (i.kept r.0 r.1 r.2) in (
       r.0,
       r.1,
@@ -117,24 +117,24 @@ pages-preserved g c =
       after = omega (arith, after, near.0, number);
       within = omega (arith, near.1, number);
       root = elim c.if-settled.branch [
-        | then-settled w ↦ ap (λ s. s.root) w.space-is ∙ w.page_bytes.ensures.root ∙ n.root ∙ i.root
-        | else-settled w ↦ ap (λ s. s.root) w.space-is ∙ n.root ∙ i.root
+        | then-settled w ↦ ap (λ s. s.root) w.space-is ∙ w.page_bytes.ensures.reads.root ∙ n.reads.root ∙ i.root
+        | else-settled w ↦ ap (λ s. s.root) w.space-is ∙ n.reads.root ∙ i.root
       ];
       trapframe = elim c.if-settled.branch [
-        | then-settled w ↦ ap (λ s. s.trapframe) w.space-is ∙ w.page_bytes.ensures.trapframe ∙ n.trapframe ∙ i.trapframe
-        | else-settled w ↦ ap (λ s. s.trapframe) w.space-is ∙ n.trapframe ∙ i.trapframe
+        | then-settled w ↦ ap (λ s. s.trapframe) w.space-is ∙ w.page_bytes.ensures.reads.trapframe ∙ n.reads.trapframe ∙ i.trapframe
+        | else-settled w ↦ ap (λ s. s.trapframe) w.space-is ∙ n.reads.trapframe ∙ i.trapframe
       ];
       layout = elim c.if-settled.branch [
-        | then-settled w ↦ ap (λ s. s.layout) w.space-is ∙ w.page_bytes.ensures.layout ∙ n.layout ∙ i.layout
-        | else-settled w ↦ ap (λ s. s.layout) w.space-is ∙ n.layout ∙ i.layout
+        | then-settled w ↦ ap (λ s. s.layout) w.space-is ∙ w.page_bytes.ensures.reads.layout ∙ n.reads.layout ∙ i.layout
+        | else-settled w ↦ ap (λ s. s.layout) w.space-is ∙ n.reads.layout ∙ i.layout
       ];
       view = elim c.if-settled.branch [
-        | then-settled w ↦ ap (λ s. g.S.FrameSeat.view s.seat) w.space-is ∙ w.page_bytes.ensures.view ∙ n.view ∙ i.view
-        | else-settled w ↦ ap (λ s. g.S.FrameSeat.view s.seat) w.space-is ∙ n.view ∙ i.view
+        | then-settled w ↦ ap (λ s. g.S.FrameSeat.view s.seat) w.space-is ∙ w.page_bytes.ensures.reads.view ∙ n.reads.view ∙ i.view
+        | else-settled w ↦ ap (λ s. g.S.FrameSeat.view s.seat) w.space-is ∙ n.reads.view ∙ i.view
       ];
       same = elim c.if-settled.branch [
-        | then-settled w ↦ w.store-is ∙ w.page_bytes.ensures.same ∙ n.same ∙ i.same
-        | else-settled w ↦ w.store-is ∙ n.same ∙ i.same
+        | then-settled w ↦ w.store-is ∙ w.page_bytes.ensures.reads.same ∙ n.reads.same ∙ i.same
+        | else-settled w ↦ w.store-is ∙ n.reads.same ∙ i.same
       ];
       keeps = λ others s. elim c.if-settled.branch [
         | then-settled w ↦ rw (w.store-is, w.space-is) (w.page_bytes.ensures.keeps others (n.keeps others (i.keeps others s)))
@@ -147,7 +147,7 @@ pages-preserved g c =
           let so_far = i.moves t p space run in
           rw number (elim c.if-settled.branch [
             | then-settled w ↦
-                let again = same_body g.S.FrameSeat.view c.next_settled_with_last.new.self c.pages.space n.view n.root n.trapframe n.layout in
+                let again = same_body g.S.FrameSeat.view c.next_settled_with_last.new.self c.pages.space n.reads.view n.reads.root n.reads.trapframe n.reads.layout in
                 let read = w.page_bytes.ensures.bytes t p next.3.page (record { standing = rw (again, body) space; settled = next.3.settled }) in
                 let number = w.number.ensures.value in
                 let at : c.in-Some.offset + (w.number.result - c.args.run.now.mapping.first) * 4096 ≡ c.in-Some.offset + 4096 * (c.in-Some-next_settled_with_last.settled.page - c.args.run.now.mapping.first) = omega (arith, number) in

@@ -54,7 +54,7 @@ write_run-requires-clause-ready g c =
     let n = c.count_run-pages.ensures in
     let is = asked r.1 c.args.address c.args.length (run_of c.in_ok-run.run') (sym (c.in_ok-run.ensures r.1 r.2.lays r.2.sound.order)) in
     let run = run_of_mapping r.1 c.args.address c.args.length (run_of c.in_ok-run.run') is r.2.sound.order in
-    let body = same_body g.S.FrameSeat.view c.count_run-pages.new.space c.args.space.now n.view n.root n.trapframe n.layout in
+    let body = same_body g.S.FrameSeat.view c.count_run-pages.new.space c.args.space.now n.reads.view n.reads.root n.reads.trapframe n.reads.layout in
     let promised = c.in_ok-promise.ensures.promised in
     let count = n.count r.0 r.1 r.2 run in
     (r.0, r.1, space_in_call (rw body r.2), run, omega (arith, promised, count))
@@ -67,8 +67,8 @@ drop_pages-requires-clause-ready g c =
     let r = c.requires.ready in
     let n = c.count_run-pages.ensures in
     let w = c.write_run.ensures in
-    let body = same_body g.S.FrameSeat.view c.count_run-pages.new.space c.args.space.now n.view n.root n.trapframe n.layout in
-    let again = same_body g.S.FrameSeat.view c.write_run.new.space c.count_run-pages.new.space w.view w.root w.trapframe w.layout in
+    let body = same_body g.S.FrameSeat.view c.count_run-pages.new.space c.args.space.now n.reads.view n.reads.root n.reads.trapframe n.reads.layout in
+    let again = same_body g.S.FrameSeat.view c.write_run.new.space c.count_run-pages.new.space w.reads.view w.reads.root w.reads.trapframe w.reads.layout in
     (r.0, r.1, rw (again, body) r.2)
 
 pub drop_pages-requires-clause-low : goal.drop_pages-requires-clause-low
@@ -79,7 +79,7 @@ drop_pages-requires-clause-low g c =
     let to = run.to in
     let low = run.low in
     let order = run.order in
-    let same = ap trapframe_page (r.2.lays.scheme ∙ sym (ap (λ l. l.scheme) (c.write_run.ensures.layout ∙ c.count_run-pages.ensures.layout))) in
+    let same = ap trapframe_page (r.2.lays.scheme ∙ sym (ap (λ l. l.scheme) (c.write_run.ensures.reads.layout ∙ c.count_run-pages.ensures.reads.layout))) in
     omega (arith, order, to, low, same)
 
 pub left-requires-clause-run : goal.left-requires-clause-run
@@ -99,8 +99,8 @@ returns-clause-unmapped g c t p space =
     let w = c.write_run.ensures in
     let is = asked p c.args.address c.args.length (run_of c.in_ok-run.run') (sym (c.in_ok-run.ensures p space.lays space.sound.order)) in
     let run = run_of_mapping p c.args.address c.args.length (run_of c.in_ok-run.run') is space.sound.order in
-    let body = same_body g.S.FrameSeat.view c.count_run-pages.new.space c.args.space.now n.view n.root n.trapframe n.layout in
-    let again = same_body g.S.FrameSeat.view c.write_run.new.space c.count_run-pages.new.space w.view w.root w.trapframe w.layout in
+    let body = same_body g.S.FrameSeat.view c.count_run-pages.new.space c.args.space.now n.reads.view n.reads.root n.reads.trapframe n.reads.layout in
+    let again = same_body g.S.FrameSeat.view c.write_run.new.space c.count_run-pages.new.space w.reads.view w.reads.root w.reads.trapframe w.reads.layout in
     let counted : IsSpace (body_of g.S.FrameSeat.view c.count_run-pages.new.space) t p = rw body space in
     let here : IsSpace (body_of g.S.FrameSeat.view c.write_run.new.space) t p = rw (again, body) space in
     let dropped = c.drop_pages.ensures.dropped t p here in
@@ -122,7 +122,7 @@ returns-clause-moves g c t p space =
     let ok = sym (c.in_ok-run.ensures p space.lays space.sound.order) in
     let is = asked p c.args.address c.args.length (run_of c.in_ok-run.run') ok in
     let run = run_of_mapping p c.args.address c.args.length (run_of c.in_ok-run.run') is space.sound.order in
-    let body = same_body g.S.FrameSeat.view c.count_run-pages.new.space c.args.space.now n.view n.root n.trapframe n.layout in
+    let body = same_body g.S.FrameSeat.view c.count_run-pages.new.space c.args.space.now n.reads.view n.reads.root n.reads.trapframe n.reads.layout in
     let counted : IsSpace (body_of g.S.FrameSeat.view c.count_run-pages.new.space) t p = rw body space in
     let moved = g.met.C.Files.goes_on _ _ _ _ _ c.in_ok-promise.ensures.same (w.moves t p (space_in_call counted) run) in
     subst (λ ms. g.C.Files.becomes c.args.files.now ms c.write_run.new.files) (sym (ap (requested_moves p) ok)) moved

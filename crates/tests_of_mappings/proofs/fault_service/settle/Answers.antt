@@ -11,7 +11,7 @@ use Rattle.tests_of_mappings.proofs.Living.{alive_still, space_still}
 use Rattle.tests_of_mappings.proofs.fault_service.settle.Goals as goal
 
 pub returns-then-is_settled-clause-alive : goal.returns-then-is_settled-clause-alive
-returns-then-is_settled-clause-alive g c = let read = c.is_settled.ensures in alive_still _ _ _ _ _ _ _ _ read.view read.root read.trapframe read.layout c.requires.alive
+returns-then-is_settled-clause-alive g c = let read = c.is_settled.ensures in alive_still _ _ _ _ _ _ _ _ read.view read.place.root read.place.trapframe read.place.layout c.requires.alive
 
 pub fill-requires-clause-fits : goal.fill-requires-clause-fits
 fill-requires-clause-fits g c = fits_after g.F.FrameAccess.rule c.is_settled.ensures.keeps c.requires.fits
@@ -25,7 +25,7 @@ fill-requires-clause-ready g c =
     let alive = c.requires.alive in
     let read = c.is_settled.ensures in
     let r = region_of c.in-Some.region in
-    let still = space_still _ _ _ _ _ _ _ _ read.view read.root read.trapframe read.layout alive.0 alive.1 alive.2 in
+    let still = space_still _ _ _ _ _ _ _ _ read.view read.place.root read.place.trapframe read.place.layout alive.0 alive.1 alive.2 in
     let in_region : region_at (regions alive.1) c.args.page ≡ Some r = rw (← c.number.ensures.value) (sym (c.in-Some.ensures alive.1 alive.2.lays)) in (
       alive.0,
       alive.1,

@@ -1,6 +1,5 @@
 use Rattle.frame_store.specs.Laws.{KeepsSeats}
-use Rattle.address_space.specs.Agreement.{body_of}
-use Rattle.tests_of_mappings.specs.Alive.{IsAlive}
+use Rattle.address_space.specs.Agreement.{body_of, IsAlive}
 use Rattle.tests_of_mappings.proofs.perform.first_wrong.Given as goal
 
 abbrev pub invariant-loop-number : goal.invariant-loop-number

@@ -32,7 +32,7 @@ page_bytes-requires-clause-ready g c =
     let written = c.write.ensures.agrees r.0 r.1 r.3.page (can_write _ _ _ _ r.0 r.1 _ r.2 r.3) in
     let s = stored r.3.page (c.args.va.0 % 4096) (low_bytes c.args.value 8) in
     let can = can_read _ _ _ _ r.0 (with_page r.1 (page_of c.args.va.0) s) _ written (still_writable r.1 _ s r.3.unmarked _ r.3) in
-    rw (c.page.ensures.number, read.view, read.root, read.trapframe, read.layout) (can.0, can.1, can.2, at_page can.3)
+    rw (c.page.ensures.number, read.reads.view, read.reads.root, read.reads.trapframe, read.reads.layout) (can.0, can.1, can.2, at_page can.3)
 
 pub returns-clause-agrees : goal.returns-clause-agrees
 returns-clause-agrees g c t p agrees writable =
@@ -41,7 +41,7 @@ returns-clause-agrees g c t p agrees writable =
     let written = c.write.ensures.agrees t p writable.page (can_write _ _ _ _ t p _ agrees writable) in (
       stored writable.page (c.args.va.0 % 4096) (low_bytes c.args.value 8),
       writable.unmarked,
-      rw (whole.view, whole.root, whole.trapframe, whole.layout, read.view, read.root, read.trapframe, read.layout) written,
+      rw (whole.reads.view, whole.reads.root, whole.reads.trapframe, whole.reads.layout, read.reads.view, read.reads.root, read.reads.trapframe, read.reads.layout) written,
     )
 
 pub returns-clause-keeps : goal.returns-clause-keeps

@@ -30,13 +30,13 @@ kept-again-requires-clause-fits g c =
 pub kept-again-requires-clause-ready : goal.kept-again-requires-clause-ready
 kept-again-requires-clause-ready g c =
     let read = c.read-after.ensures in
-    let lives = lives_still _ _ _ _ _ _ _ _ _ _ read.view read.root read.trapframe read.layout c.try_settle-settled.ensures.lives in
+    let lives = lives_still _ _ _ _ _ _ _ _ _ _ read.reads.view read.reads.root read.reads.trapframe read.reads.layout c.try_settle-settled.ensures.lives in
     (lives.tables, lives.process, lives.agrees, lives.near)
 
 pub returns-then-not-settled-clause-agrees : goal.returns-then-not-settled-clause-agrees
 returns-then-not-settled-clause-agrees g c =
     let read = c.read-after.ensures in
-    let lives = lives_still _ _ _ _ _ _ _ _ _ _ read.view read.root read.trapframe read.layout c.try_settle-settled.ensures.lives in
+    let lives = lives_still _ _ _ _ _ _ _ _ _ _ read.reads.view read.reads.root read.reads.trapframe read.reads.layout c.try_settle-settled.ensures.lives in
     let again = lives_kept _ _ _ _ _ _ _ _ _ 1 _ lives lives.near c.kept-again.ensures.agrees in
     (again.tables, again.process, again.agrees)
 
@@ -54,7 +54,7 @@ read-fresh-requires-clause-fits g c =
 pub read-fresh-requires-clause-ready : goal.read-fresh-requires-clause-ready
 read-fresh-requires-clause-ready g c =
     let read = c.read-after.ensures in
-    let lives = lives_still _ _ _ _ _ _ _ _ _ _ read.view read.root read.trapframe read.layout c.if-not-settled.ensures.lives in
+    let lives = lives_still _ _ _ _ _ _ _ _ _ _ read.reads.view read.reads.root read.reads.trapframe read.reads.layout c.if-not-settled.ensures.lives in
     let again = lives_kept _ _ _ _ _ _ _ _ _ 1 _ lives lives.near c.kept-again.ensures.agrees in
     rw (← c.page.ensures.number) (can_read _ _ _ _ again.tables again.process _ again.agrees again.far)
 
@@ -69,18 +69,18 @@ pub kept-written-requires-clause-ready : goal.kept-written-requires-clause-ready
 kept-written-requires-clause-ready g c =
     let read = c.read-after.ensures in
     let fresh = c.read-fresh.ensures in
-    let lives = lives_still _ _ _ _ _ _ _ _ _ _ read.view read.root read.trapframe read.layout c.if-not-settled.ensures.lives in
+    let lives = lives_still _ _ _ _ _ _ _ _ _ _ read.reads.view read.reads.root read.reads.trapframe read.reads.layout c.if-not-settled.ensures.lives in
     let again = lives_kept _ _ _ _ _ _ _ _ _ 1 _ lives lives.near c.kept-again.ensures.agrees in
-    let still = lives_still _ _ _ _ _ _ _ _ _ _ fresh.view fresh.root fresh.trapframe fresh.layout again in
+    let still = lives_still _ _ _ _ _ _ _ _ _ _ fresh.reads.view fresh.reads.root fresh.reads.trapframe fresh.reads.layout again in
     (still.tables, still.process, still.agrees, rw (← c.page.ensures.number) still.far)
 
 pub returns-clause-agrees : goal.returns-clause-agrees
 returns-clause-agrees g c =
     let read = c.read-after.ensures in
     let fresh = c.read-fresh.ensures in
-    let lives = lives_still _ _ _ _ _ _ _ _ _ _ read.view read.root read.trapframe read.layout c.if-not-settled.ensures.lives in
+    let lives = lives_still _ _ _ _ _ _ _ _ _ _ read.reads.view read.reads.root read.reads.trapframe read.reads.layout c.if-not-settled.ensures.lives in
     let again = lives_kept _ _ _ _ _ _ _ _ _ 1 _ lives lives.near c.kept-again.ensures.agrees in
-    let still = lives_still _ _ _ _ _ _ _ _ _ _ fresh.view fresh.root fresh.trapframe fresh.layout again in
+    let still = lives_still _ _ _ _ _ _ _ _ _ _ fresh.reads.view fresh.reads.root fresh.reads.trapframe fresh.reads.layout again in
     let ended = lives_kept _ _ _ _ _ _ _ _ _ (page_of (c.args.page * 4096)) _ still (rw (← c.page.ensures.number) still.far) c.kept-written.ensures.agrees in
     (ended.tables, ended.process, ended.agrees)
 

@@ -12,7 +12,7 @@ returns-in-Err-clause-alive g c =
 pub returns-in-Serve-clause-alive : goal.returns-in-Serve-clause-alive
 returns-in-Serve-clause-alive g c =
     let asked = c.serve.ensures in
-    alive_served _ _ _ _ _ _ _ _ _ _ _ _ _ c.serve.result asked.ended asked.ready asked.whole asked.view_stays asked.root asked.trapframe asked.layout c.requires.alive
+    alive_served _ _ _ _ _ _ _ _ _ _ _ _ _ c.serve.result asked.ended asked.ready asked.whole asked.view_stays asked.place.root asked.place.trapframe asked.place.layout c.requires.alive
 
 pub returns-in-Ok-mmap-clause-alive : goal.returns-in-Ok-mmap-clause-alive
 returns-in-Ok-mmap-clause-alive g c = alive_as _ _ _ c.mmap.ensures.agrees c.requires.alive

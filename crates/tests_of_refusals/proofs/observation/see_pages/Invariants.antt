@@ -1,6 +1,5 @@
-use Rattle.address_space.specs.Agreement.{body_of}
+use Rattle.address_space.specs.Agreement.{body_of, IsAlive}
 use Rattle.frame_store.specs.Laws.{KeepsSeats}
-use Rattle.tests_of_refusals.specs.Family.{IsAlive}
 use Rattle.tests_of_refusals.proofs.observation.see_pages.Given as goal
 
 abbrev pub invariant-pages : goal.invariant-pages

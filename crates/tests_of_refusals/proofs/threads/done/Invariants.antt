@@ -1,7 +1,6 @@
 use Rattle.std.proofs.Common.{◌≡◌}
-use Rattle.address_space.specs.Agreement.{body_of}
+use Rattle.address_space.specs.Agreement.{body_of, IsAlive}
 use Rattle.shared_frames.specs.SeatsOfTable.{FitsIn, view_of}
-use Rattle.tests_of_refusals.specs.Family.{IsAlive}
 use Rattle.tests_of_refusals.proofs.threads.done.Given as goal
 
 abbrev pub invariant-numbers : goal.invariant-numbers

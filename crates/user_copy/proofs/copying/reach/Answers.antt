@@ -19,8 +19,8 @@ returns-clause-reaches g c =
       enough = e.enough;
       short = e.short;
       free = e.free;
-      root = e.root;
-      trapframe = e.trapframe;
-      layout = e.layout;
+      root = e.place.root;
+      trapframe = e.place.trapframe;
+      layout = e.place.layout;
       keeps = e.keeps;
     }

@@ -34,11 +34,11 @@ returns-clause-copied g c =
     (runs_in _ _ _ c.args.va.0 c.args.n (omega (arith, c.if-n-eq0.false)) _ (place c.read_run.new.self c.read_run.new.store c.reach.new.files) _ c.in_ok-reach.ensures.reaches
     (record {
       bytes = λ t p s can. read.bytes t p s can ∙ ap (λ n. take n (drop (c.args.va.0 % 4096) s.bytes)) same;
-      view = read.view;
-      root = read.root;
-      trapframe = read.trapframe;
-      layout = read.layout;
-      store = read.same;
+      view = read.reads.view;
+      root = read.reads.root;
+      trapframe = read.reads.trapframe;
+      layout = read.reads.layout;
+      store = read.reads.same;
       files = refl;
       keeps = read.keeps;
     }))
@@ -49,7 +49,7 @@ returns-clause-low g c some = let r = c.requires.ready in reached_low _ _ _ _ _ 
 pub returns-clause-space : goal.returns-clause-space
 returns-clause-space g c =
     let read = c.read_run.ensures in
-    rw (read.view, read.root, read.trapframe, read.layout) (still_reaches _ _ _ _ _ _ c.reach.ensures.reaches)
+    rw (read.reads.view, read.reads.root, read.reads.trapframe, read.reads.layout) (still_reaches _ _ _ _ _ _ c.reach.ensures.reaches)
 
 pub returns-clause-keeps : goal.returns-clause-keeps
 returns-clause-keeps g c others r = c.read_run.ensures.keeps others (c.reach.ensures.keeps others r)

@@ -30,9 +30,9 @@ returns-clause-copied g c =
       takes = put.tallies;
       free = put.free;
       counts = put.counts;
-      root = put.root;
-      trapframe = put.trapframe;
-      layout = put.layout;
+      root = put.place.root;
+      trapframe = put.place.trapframe;
+      layout = put.place.layout;
       files = refl;
       keeps = put.keeps;
     })

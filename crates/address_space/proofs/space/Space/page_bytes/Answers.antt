@@ -10,20 +10,20 @@ read_frame-requires-clause-held g c =
     let r = c.requires.ready in
     let found = c.page_frame-frame.ensures in
     let here = on_page _ _ _ _ r.0 r.1 _ r.2 _ r.3 (found.frame r.0 r.1 r.2 r.3) in
-    rw found.view here.held
+    rw found.reads.view here.held
 
 pub read_frame-requires-clause-known : goal.read_frame-requires-clause-known
 read_frame-requires-clause-known g c =
     let r = c.requires.ready in
     let found = c.page_frame-frame.ensures in
     let here = on_page _ _ _ _ r.0 r.1 _ r.2 _ r.3 (found.frame r.0 r.1 r.2 r.3) in
-    ((r.2).bytes, rw found.view here.bytes)
+    ((r.2).bytes, rw found.reads.view here.bytes)
 
 pub returns-clause-bytes : goal.returns-clause-bytes
 returns-clause-bytes g c t p s can =
     let found = c.page_frame-frame.ensures in
     let here = on_page _ _ _ _ t p _ s _ can (found.frame t p s can) in
-    c.read_frame.ensures.bytes s.bytes (rw found.view here.bytes)
+    c.read_frame.ensures.bytes s.bytes (rw found.reads.view here.bytes)
 
 pub returns-clause-keeps : goal.returns-clause-keeps
 returns-clause-keeps g c others r = c.read_frame.ensures.keeps others (c.page_frame-frame.ensures.keeps others r)

@@ -14,20 +14,20 @@ pub read_run-requires-clause-held : goal.read_run-requires-clause-held
 read_run-requires-clause-held g c =
     let r = c.requires.ready in
     let found = rw c.page.ensures.number at c.page_frame-frame.ensures in
-    rw found.view (on_page _ _ _ _ r.0 r.1 _ r.2 _ (at_page r.3) (found.frame r.0 r.1 r.2 (at_page r.3))).held
+    rw found.reads.view (on_page _ _ _ _ r.0 r.1 _ r.2 _ (at_page r.3) (found.frame r.0 r.1 r.2 (at_page r.3))).held
 
 pub read_run-requires-clause-known : goal.read_run-requires-clause-known
 read_run-requires-clause-known g c =
     let r = c.requires.ready in
     let found = rw c.page.ensures.number at c.page_frame-frame.ensures in
-    ((r.2).bytes, rw found.view (on_page _ _ _ _ r.0 r.1 _ r.2 _ (at_page r.3) (found.frame r.0 r.1 r.2 (at_page r.3))).bytes)
+    ((r.2).bytes, rw found.reads.view (on_page _ _ _ _ r.0 r.1 _ r.2 _ (at_page r.3) (found.frame r.0 r.1 r.2 (at_page r.3))).bytes)
 
 pub returns-clause-bytes : goal.returns-clause-bytes
 returns-clause-bytes g c t p s can =
     let found = rw c.page.ensures.number at c.page_frame-frame.ensures in
     let here = on_page _ _ _ _ t p _ s _ (at_page can) (found.frame t p s (at_page can)) in
     let same : length c.read_run.new.bytes ≡ length c.args.bytes.now = search rules in
-    rw (same, sym c.offset.ensures.value) (c.read_run.ensures.bytes s.bytes (rw found.view here.bytes))
+    rw (same, sym c.offset.ensures.value) (c.read_run.ensures.bytes s.bytes (rw found.reads.view here.bytes))
 
 pub returns-clause-keeps : goal.returns-clause-keeps
 returns-clause-keeps g c others r = c.read_run.ensures.keeps others (c.page_frame-frame.ensures.keeps others r)

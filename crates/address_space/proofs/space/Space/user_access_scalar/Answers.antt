@@ -66,17 +66,15 @@ returns-in-Fetch g c = record {
   after = λ t p agrees walks.
       let found = granted _ _ _ _ t p agrees (request_of c.args.request) (sym c.remainder.ensures ∙ c.if-remainder-ne0.false) _ _ _ (sym c.in-Leaf.is ∙ walks) in
       let on = on_frame _ _ _ _ t p agrees (request_of c.args.request) (sym c.remainder.ensures ∙ c.if-remainder-ne0.false) _ found c.in-Some.frame (sym c.from_ppn.ensures ∙ c.in-Some.is) in
-      rw (answers_load _ _ _ _ t p agrees (request_of c.args.request) (sym c.remainder.ensures ∙ c.if-remainder-ne0.false) _ found c.in-Fetch.is, c.read_at.ensures.view, c.read_at.ensures.root, c.read_at.ensures.trapframe, c.read_at.ensures.layout)
+      rw (answers_load _ _ _ _ t p agrees (request_of c.args.request) (sym c.remainder.ensures ∙ c.if-remainder-ne0.false) _ found c.in-Fetch.is, c.read_at.ensures.reads.view, c.read_at.ensures.reads.root, c.read_at.ensures.reads.trapframe, c.read_at.ensures.reads.layout)
       (agrees_pending _ _ _ _ t p agrees None);
-  root = c.read_at.ensures.root;
-  trapframe = c.read_at.ensures.trapframe;
-  layout = c.read_at.ensures.layout;
-  view = λ apart. c.read_at.ensures.view;
-  same = λ apart. c.read_at.ensures.same;
-  tallies = takes_none _ _ (ap (λ (v : View). v.tallies) c.read_at.ensures.view);
+  place = record { root = c.read_at.ensures.reads.root; trapframe = c.read_at.ensures.reads.trapframe; layout = c.read_at.ensures.reads.layout };
+  view = λ apart. c.read_at.ensures.reads.view;
+  same = λ apart. c.read_at.ensures.reads.same;
+  tallies = takes_none _ _ (ap (λ (v : View). v.tallies) c.read_at.ensures.reads.view);
   keeps = c.read_at.ensures.keeps;
-  free = λ alone. ap g.F.FrameAccess.free c.read_at.ensures.same;
-  counts = λ alone f. ap (λ x. g.F.FrameAccess.count x f) c.read_at.ensures.same;
+  free = λ alone. ap g.F.FrameAccess.free c.read_at.ensures.reads.same;
+  counts = λ alone f. ap (λ x. g.F.FrameAccess.count x f) c.read_at.ensures.reads.same;
 }
 
 pub returns-in-PageFault-2-clause-reply : goal.returns-in-PageFault-2-clause-reply

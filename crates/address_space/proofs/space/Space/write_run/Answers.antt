@@ -14,38 +14,38 @@ pub write_run-requires-clause-held : goal.write_run-requires-clause-held
 write_run-requires-clause-held g c =
     let r = c.requires.ready in
     let found = rw c.page.ensures.number at c.page_frame-frame.ensures in
-    rw found.view (on_page _ _ _ _ r.0 r.1 _ r.2 _ (at_page r.3.read) (found.frame r.0 r.1 r.2 (at_page r.3.read))).held
+    rw found.reads.view (on_page _ _ _ _ r.0 r.1 _ r.2 _ (at_page r.3.read) (found.frame r.0 r.1 r.2 (at_page r.3.read))).held
 
 pub write_run-requires-clause-sole : goal.write_run-requires-clause-sole
 write_run-requires-clause-sole g c =
     let r = c.requires.ready in
     let found = rw c.page.ensures.number at c.page_frame-frame.ensures in
-    rw found.view (page_sole _ _ _ _ r.0 r.1 _ r.2 _ r.3 (on_page _ _ _ _ r.0 r.1 _ r.2 _ (at_page r.3.read) (found.frame r.0 r.1 r.2 (at_page r.3.read))))
+    rw found.reads.view (page_sole _ _ _ _ r.0 r.1 _ r.2 _ r.3 (on_page _ _ _ _ r.0 r.1 _ r.2 _ (at_page r.3.read) (found.frame r.0 r.1 r.2 (at_page r.3.read))))
 
 pub write_run-requires-clause-known : goal.write_run-requires-clause-known
 write_run-requires-clause-known g c =
     let r = c.requires.ready in
     let found = rw c.page.ensures.number at c.page_frame-frame.ensures in
-    ((r.2).bytes, rw found.view (on_page _ _ _ _ r.0 r.1 _ r.2 _ (at_page r.3.read) (found.frame r.0 r.1 r.2 (at_page r.3.read))).bytes)
+    ((r.2).bytes, rw found.reads.view (on_page _ _ _ _ r.0 r.1 _ r.2 _ (at_page r.3.read) (found.frame r.0 r.1 r.2 (at_page r.3.read))).bytes)
 
 pub returns-clause-agrees : goal.returns-clause-agrees
 returns-clause-agrees g c t p s can =
     let found = rw c.page.ensures.number at c.page_frame-frame.ensures in
     let here = on_page _ _ _ _ t p _ s _ (at_page can.read) (found.frame t p s (at_page can.read)) in
-    let has = c.write_run.ensures.bytes s.bytes (rw found.view here.bytes) in
-    rw (found.root, found.trapframe, found.layout) (page_written _ _ _ _ _ t p _ s _ _ can.read here (rw found.view at c.write_run.ensures.others) (rw c.offset.ensures.value at has))
+    let has = c.write_run.ensures.bytes s.bytes (rw found.reads.view here.bytes) in
+    rw (found.reads.root, found.reads.trapframe, found.reads.layout) (page_written _ _ _ _ _ t p _ s _ _ can.read here (rw found.reads.view at c.write_run.ensures.others) (rw c.offset.ensures.value at has))
 
 pub returns-clause-soles : goal.returns-clause-soles
-returns-clause-soles g c f sole = words_sole _ _ _ (rw c.page_frame-frame.ensures.view at c.write_run.ensures.others) f sole
+returns-clause-soles g c f sole = words_sole _ _ _ (rw c.page_frame-frame.ensures.reads.view at c.write_run.ensures.others) f sole
 
 pub returns-clause-keeps : goal.returns-clause-keeps
 returns-clause-keeps g c others r = c.write_run.ensures.keeps others (c.page_frame-frame.ensures.keeps others r)
 
 pub returns-clause-free : goal.returns-clause-free
-returns-clause-free g c alone = c.write_run.ensures.free alone ∙ ap g.F.FrameAccess.free c.page_frame-frame.ensures.same
+returns-clause-free g c alone = c.write_run.ensures.free alone ∙ ap g.F.FrameAccess.free c.page_frame-frame.ensures.reads.same
 
 pub returns-clause-counts : goal.returns-clause-counts
-returns-clause-counts g c alone f = c.write_run.ensures.counts alone f ∙ ap (λ x. g.F.FrameAccess.count x f) c.page_frame-frame.ensures.same
+returns-clause-counts g c alone f = c.write_run.ensures.counts alone f ∙ ap (λ x. g.F.FrameAccess.count x f) c.page_frame-frame.ensures.reads.same
 
 pub returns-clause-tallies : goal.returns-clause-tallies
-returns-clause-tallies g c = words_take _ _ _ (rw c.page_frame-frame.ensures.view at c.write_run.ensures.others)
+returns-clause-tallies g c = words_take _ _ _ (rw c.page_frame-frame.ensures.reads.view at c.write_run.ensures.others)

@@ -10,10 +10,6 @@ returns g c =
     let listed = sym c.as_slice.ensures.value in
     record {
       settled = λ t p space. subst (λ (l : List SettledPage). AreSettled t p 0 (trapframe_page p.scheme) l) listed (e.settled t p space);
-      root = e.root;
-      trapframe = e.trapframe;
-      layout = e.layout;
-      view = e.view;
-      same = e.same;
+      reads = e.reads;
       keeps = e.keeps;
     }

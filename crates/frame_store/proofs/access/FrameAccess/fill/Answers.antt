@@ -23,7 +23,7 @@ words-preserved g c =
     let next : c.words.index + 1 ≡ suc c.words.index = omega arith in
     record {
       fits = (i.fits.0, c.store.ensures.keeps i.fits.0 i.fits.1);
-      view = rw next (many_more _ _ _ _ _ _ _ _ _ i.view (omega arith) c.whole_word.ensures c.store.ensures.view);
+      view = rw next (many_more _ _ _ _ _ _ _ _ _ i.view (omega arith) c.word_at.ensures c.store.ensures.view);
       keeps = λ others r. c.store.ensures.keeps others (i.keeps others r);
       free = λ a. c.store.ensures.free a ∙ i.free a;
       counts = λ a f. c.store.ensures.counts a f ∙ i.counts a f;

@@ -107,7 +107,7 @@ returns-in-Evict-clause-each_buffer c w buffered =
 
 pub returns-in-Fetch-clause-made : goal.returns-in-Fetch-clause-made
 returns-in-Fetch-clause-made c w buffered =
-    rw c.without_change-in-Fetch.ensures (made_by c.access.new.self (reply_of_scalar c.access.result) w (step.Fetch c.in-Fetch.hart c.in-Fetch.address c.in-Fetch.via) _ c.in-Fetch.is (subst (λ (a : AccessRequest). IsModelOutcome c.access.new.self (reply_of_scalar c.access.result) (access_step w c.in-Fetch.hart a.access a.va.0 a.width a.value c.in-Fetch.via)) c.request.ensures (c.access.ensures.made w (buffered))))
+    rw c.without_change-in-Fetch.ensures (made_by c.access.new.self (reply_of_scalar c.access.result) w (step.Fetch c.in-Fetch.hart c.in-Fetch.address c.in-Fetch.via) _ c.in-Fetch.is (subst (λ (a : AccessRequest). IsModelOutcome c.access.new.self (reply_of_scalar c.access.result) (access_step w c.in-Fetch.hart a.access a.va.0 a.width a.value c.in-Fetch.via)) c.new.ensures (c.access.ensures.made w (buffered))))
 
 pub returns-in-Fetch-clause-changed : goal.returns-in-Fetch-clause-changed
 returns-in-Fetch-clause-changed c w buffered = rw c.without_change-in-Fetch.ensures (quiet_marks w (step.Fetch c.in-Fetch.hart c.in-Fetch.address c.in-Fetch.via) _ c.in-Fetch.is refl)
@@ -122,7 +122,7 @@ returns-in-Fetch-clause-each_buffer c w buffered =
 
 pub returns-in-Load-clause-made : goal.returns-in-Load-clause-made
 returns-in-Load-clause-made c w buffered =
-    rw c.without_change-in-Load.ensures (made_by c.access-in-Load.new.self (reply_of_scalar c.access-in-Load.result) w (step.Load c.in-Load.hart c.in-Load.address c.in-Load.width c.in-Load.via) _ c.in-Load.is (subst (λ (a : AccessRequest). IsModelOutcome c.access-in-Load.new.self (reply_of_scalar c.access-in-Load.result) (access_step w c.in-Load.hart a.access a.va.0 a.width a.value c.in-Load.via)) c.request-in-Load.ensures (c.access-in-Load.ensures.made w (buffered))))
+    rw c.without_change-in-Load.ensures (made_by c.access-in-Load.new.self (reply_of_scalar c.access-in-Load.result) w (step.Load c.in-Load.hart c.in-Load.address c.in-Load.width c.in-Load.via) _ c.in-Load.is (subst (λ (a : AccessRequest). IsModelOutcome c.access-in-Load.new.self (reply_of_scalar c.access-in-Load.result) (access_step w c.in-Load.hart a.access a.va.0 a.width a.value c.in-Load.via)) c.new-in-Load.ensures (c.access-in-Load.ensures.made w (buffered))))
 
 pub returns-in-Load-clause-changed : goal.returns-in-Load-clause-changed
 returns-in-Load-clause-changed c w buffered = rw c.without_change-in-Load.ensures (quiet_marks w (step.Load c.in-Load.hart c.in-Load.address c.in-Load.width c.in-Load.via) _ c.in-Load.is refl)
@@ -137,7 +137,7 @@ returns-in-Load-clause-each_buffer c w buffered =
 
 pub returns-in-Store-clause-made : goal.returns-in-Store-clause-made
 returns-in-Store-clause-made c w buffered =
-    rw c.without_change-in-Store.ensures (made_by c.access-in-Store.new.self (reply_of_scalar c.access-in-Store.result) w (step.Store c.in-Store.hart c.in-Store.address c.in-Store.width c.in-Store.value c.in-Store.via) _ c.in-Store.is (subst (λ (a : AccessRequest). IsModelOutcome c.access-in-Store.new.self (reply_of_scalar c.access-in-Store.result) (access_step w c.in-Store.hart a.access a.va.0 a.width a.value c.in-Store.via)) c.request-in-Store.ensures (c.access-in-Store.ensures.made w (buffered))))
+    rw c.without_change-in-Store.ensures (made_by c.access-in-Store.new.self (reply_of_scalar c.access-in-Store.result) w (step.Store c.in-Store.hart c.in-Store.address c.in-Store.width c.in-Store.value c.in-Store.via) _ c.in-Store.is (subst (λ (a : AccessRequest). IsModelOutcome c.access-in-Store.new.self (reply_of_scalar c.access-in-Store.result) (access_step w c.in-Store.hart a.access a.va.0 a.width a.value c.in-Store.via)) c.new-in-Store.ensures (c.access-in-Store.ensures.made w (buffered))))
 
 pub returns-in-Store-clause-changed : goal.returns-in-Store-clause-changed
 returns-in-Store-clause-changed c w buffered = rw c.without_change-in-Store.ensures (quiet_marks w (step.Store c.in-Store.hart c.in-Store.address c.in-Store.width c.in-Store.value c.in-Store.via) _ c.in-Store.is refl)

@@ -53,7 +53,7 @@ pub returns-in-Some-clause-world : goal.returns-in-Some-clause-world
 returns-in-Some-clause-world c w is =
     let m = c.args.self.now in
     let at = tenant_is m c.args.table c.in-OfProcess.slot c.in-OfProcess.is c.requires.there _ c.index_mut.ensures.value c.in-Some.slot_process c.in-Some.is in
-    rw (c.translate.ensures.same, c.translate.ensures.view, c.translate.ensures.root, c.translate.ensures.trapframe, c.translate.ensures.layout) (put_back m w is c.in-OfProcess.slot c.in-Some.slot_process at, refl)
+    rw (c.translate.ensures.reads.same, c.translate.ensures.reads.view, c.translate.ensures.reads.root, c.translate.ensures.reads.trapframe, c.translate.ensures.reads.layout) (put_back m w is c.in-OfProcess.slot c.in-Some.slot_process at, refl)
 
 pub returns-in-OfKernel-clause-places : goal.returns-in-OfKernel-clause-places
 returns-in-OfKernel-clause-places c = rw c.translate_held.ensures.view (refl, refl)
@@ -62,4 +62,4 @@ pub returns-in-Some-clause-places : goal.returns-in-Some-clause-places
 returns-in-Some-clause-places c =
     let m = c.args.self.now in
     let at = tenant_is m c.args.table c.in-OfProcess.slot c.in-OfProcess.is c.requires.there _ c.index_mut.ensures.value c.in-Some.slot_process c.in-Some.is in
-    rw (c.translate.ensures.view, c.translate.ensures.root, c.translate.ensures.trapframe, c.translate.ensures.layout) (place_set_back m.slots.items c.in-OfProcess.slot (Some c.in-Some.slot_process) at, refl)
+    rw (c.translate.ensures.reads.view, c.translate.ensures.reads.root, c.translate.ensures.reads.trapframe, c.translate.ensures.reads.layout) (place_set_back m.slots.items c.in-OfProcess.slot (Some c.in-Some.slot_process) at, refl)

@@ -19,7 +19,7 @@ returns-clause-after c t p slot_process walks =
     let reply = c.user_access_scalar-reply.ensures.reply t p slot_process.agrees walks in
     record {
       agrees = rw c.keep_faulted.ensures.space (c.user_access_scalar-reply.ensures.after t p slot_process.agrees walks);
-      framed = rw (c.keep_faulted.ensures.space, c.user_access_scalar-reply.ensures.trapframe) slot_process.framed;
+      framed = rw (c.keep_faulted.ensures.space, c.user_access_scalar-reply.ensures.place.trapframe) slot_process.framed;
       pending = access_pending p (request_of c.args.request) ∙ sym (c.keep_faulted.ensures.pending ∙ ap (pending_after (request_of c.args.request)) reply);
       wide = access_wide p (request_of c.args.request) c.requires.width;
     }

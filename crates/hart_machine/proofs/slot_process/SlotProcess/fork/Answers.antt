@@ -22,7 +22,7 @@ returns-in_err-child-clause-whole c =
     let told = err_from_is_err_and c.from_residual.result c.from_residual.ensures.1 in
     rw told.1 (λ t p slot_process. record {
       agrees = c.in_err-child.ensures.whole t p slot_process.agrees;
-      framed = rw c.fork_listed.ensures.trapframe slot_process.framed;
+      framed = rw c.fork_listed.ensures.place.trapframe slot_process.framed;
       pending = slot_process.pending;
       wide = slot_process.wide;
     })
@@ -41,12 +41,12 @@ returns-clause-forked c = λ t p slot_process.
       of_child = f.1;
       parent = record {
         agrees = f.2.parent;
-        framed = rw c.fork_listed.ensures.trapframe slot_process.framed;
+        framed = rw c.fork_listed.ensures.place.trapframe slot_process.framed;
         pending = refl;
         wide = tt;
       };
       child = record {
-        agrees = subst (λ l. IsSpace (body z.seat z.root.0 z.trapframe.0 l) f.1 (child_of p)) (sym c.fork_listed.ensures.layout) f.2.child;
+        agrees = subst (λ l. IsSpace (body z.seat z.root.0 z.trapframe.0 l) f.1 (child_of p)) (sym c.fork_listed.ensures.place.layout) f.2.child;
         framed = second_inside c.fork_listed.new.store c.fork_listed.new.space.seat z.seat fits.0 (r.keeps fits.0 fits.1) z.trapframe.0 one;
         pending = refl;
         wide = tt;

@@ -23,6 +23,6 @@ returns-in_default c =
           let is = c.translate.ensures.walk t p slot_process.agrees in
           let law = c.walks_grant_what_is_resident.ensures (body_in x) t p c.args.access c.args.va.0 slot_process.agrees in
           (λ e. absurd cc, λ granted. absurd (no_leaf c.translate.result none (ap gives_leaf is ∙ law.1 granted)));
-      same = same_tenant x c.translate.new.self c.translate.ensures.view c.translate.ensures.root c.translate.ensures.trapframe c.translate.ensures.layout;
-      frames = c.translate.ensures.same;
+      same = same_tenant x c.translate.new.self c.translate.ensures.reads.view c.translate.ensures.reads.root c.translate.ensures.reads.trapframe c.translate.ensures.reads.layout;
+      frames = c.translate.ensures.reads.same;
     }

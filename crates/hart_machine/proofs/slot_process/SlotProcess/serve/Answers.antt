@@ -40,7 +40,7 @@ returns-in-Ready-clause-served c t p a slot_process is =
       counts = λ f n on at. r.3 f n on at tt;
       slot_process = λ fresh. record {
         agrees = agrees_pending _ _ _ _ _ (made_resident c.args.files.now fresh (is_shared_by r.1) p z.access (page_of z.va.0)) (r.2.agrees fresh) (Some (record b { served = true }));
-        framed = rw c.serve.ensures.trapframe here.framed;
+        framed = rw c.serve.ensures.place.trapframe here.framed;
         pending = refl;
         wide = has_bytes x z waiting t p here;
       };
@@ -76,7 +76,7 @@ returns-in-Ended-clause-must_end c t p a slot_process is =
     rw (← n.frames) (subst (λ (q : model.Pending). MustEnd y t p q frames c.in-Ended.rule) (it_is x z waiting t p a here is) (record {
       slot_process = record {
         agrees = e.whole c.in-Ended.rule refl t p here.agrees;
-        framed = rw c.serve.ensures.trapframe here.framed;
+        framed = rw c.serve.ensures.place.trapframe here.framed;
         pending = here.pending;
         wide = here.wide;
       };

@@ -1,7 +1,7 @@
 use Rattle.std.proofs.Common.{arith}
 use Rattle.address_space.proofs.NeededParts.{counts_empty, counts_few, counts_none, counts_run, starts_below, top_counted, top_new}
-use Rattle.address_space.proofs.frame_need.table_count.Goals as goal
-use Rattle.address_space.proofs.frame_need.table_count.Goals.{then-region-gt0, else-region-gt0}
+use Rattle.address_space.proofs.frame_need.tables_of_parts.Goals as goal
+use Rattle.address_space.proofs.frame_need.tables_of_parts.Goals.{then-region-gt0, else-region-gt0}
 use Rattle.sv39_entry.specs.Schemes.{of_scheme}
 
 pub parts-init : goal.parts-init

@@ -1,5 +1,5 @@
 use Rattle.address_space.proofs.NeededParts.{CountsTables}
-use Rattle.address_space.proofs.frame_need.table_count.Given as goal
+use Rattle.address_space.proofs.frame_need.tables_of_parts.Given as goal
 
 -- the tables of so many parts are counted, and their numbers are below `counted`
 abbrev pub invariant-parts : goal.invariant-parts

@@ -3,7 +3,7 @@ use Rattle.address_space.specs.SettledLists.{AreSettled}
 use Rattle.process_model.specs.Process.{Process}
 use Rattle.table_walk.specs.Tables.{Tables}
 use Rattle.cow_fork.proofs.Counting.{CountsBelow}
-use Rattle.cow_fork.proofs.need.table_count.Given as goal
+use Rattle.cow_fork.proofs.need.tables_of_pages.Given as goal
 use Rattle.sv39_entry.specs.Schemes.{trapframe_page}
 
 -- the tables of the pages before this one are counted

@@ -8,8 +8,8 @@ use Rattle.sv39_entry.specs.Schemes.{trampoline_page, trapframe_page, edge_at}
 use Rattle.sv39_entry.specs.declared.scheme.Scheme.{Scheme}
 use Rattle.table_walk.specs.Tables.{Tables}
 use Rattle.cow_fork.proofs.Counting.{counts_more, counts_none, in_table, next_table, none_left, same_table, still_near, top_counted, top_new}
-use Rattle.cow_fork.proofs.need.table_count.Goals as goal
-use Rattle.cow_fork.proofs.need.table_count.Goals.{then-needed-table, else-needed-table}
+use Rattle.cow_fork.proofs.need.tables_of_pages.Goals as goal
+use Rattle.cow_fork.proofs.need.tables_of_pages.Goals.{then-needed-table, else-needed-table}
 
 -- the next page of the list is the next settled one
 listed : (t : Tables) (p : Process) (first : ℕ) (settled : List SettledPage) (i : ℕ) (x : SettledPage) → i < length settled → x ≡ slice_index_or settled i x
