@@ -104,7 +104,7 @@ fn run_files<'a, W: RunFiles + Send + Sync, T: Threads + Wait + Sync, G: Gate + 
         rt, alloc, &frames, &mut seat, &shelf, lists, starts, pool.slots, harts, QUANTUM, gate,
         free,
     )?;
-    reserve_user_frames(rt, &frames, &mut seat, pool.frames - kernel);
+    reserve_user_frames(rt, &frames, &mut seat, free);
     let totals = frames.close(seat);
     Ok((ended, totals.free))
 }

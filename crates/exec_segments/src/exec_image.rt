@@ -3,6 +3,7 @@
 
 ghost use Rattle.std.specs.Prelude.{[], ◌≡◌, ◌≢◌, ◌<◌, ◌≤◌, IfErr, IfOk, length, ℕ};
 ghost use Rattle.address_space.specs.Agreement.{body_of, IsSpace, IsAlive};
+ghost use Rattle.address_space.specs.Kept.{IsUntouched};
 ghost use Rattle.address_space.specs.Parts.{OwnsAlone};
 ghost use Rattle.address_space.specs.Steps.{RunsDry, TakesFrames};
 ghost use Rattle.exec_segments.specs.ExecRefusals.{IsExecRefusal};
@@ -57,8 +58,7 @@ pub fn exec<S: FrameSeat, F: FrameSupply<Seat = S>, C: Files>(
     ensures dry { IfErr result (λ e. e ≡ NoFrame → RunsDry (S.view space.old.seat) (S.view space.new.seat) (exec_need image.now.scheme image.now.loads) []) }
     ensures whole { IfErr result (λ _. (t : tables.Tables) (p : Process) → IsSpace (body_of S.view space.old) t p → IsSpace (body_of S.view space.new) t p) }
     ensures files_stay { IfErr result (λ _. C.becomes files.old [] files.new) }
-    ensures view_stays { IfErr result (λ e. e ≢ NoFrame → S.view space.new.seat ≡ S.view space.old.seat) }
-    ensures store_stays { IfErr result (λ e. e ≢ NoFrame → store.new ≡ store.old) }
+    ensures stays { IfErr result (λ e. e ≢ NoFrame → IsUntouched S.view space.old space.new store.old store.new) }
     ensures enough { F.alone → IfOk result (λ _. exec_need image.now.scheme image.now.loads ≤ F.free store.old) }
     ensures short { F.alone → IfErr result (λ e. e ≡ NoFrame → F.free store.old < exec_need image.now.scheme image.now.loads) }
     ensures trapframe { space.new.trapframe ≡ space.old.trapframe }

@@ -4,7 +4,7 @@
 
 ghost use Rattle.std.specs.Prelude.{[], ◌≡◌, ◌≢◌, ◌+◌, ◌-◌, ◌*◌, ◌^◌, ◌<◌, ◌≤◌, ◌↔◌, ℕ, Err, if◌then◌else◌, IfErr, IfOk, is_ok, false, IsOk, length, List, None, Some};
 ghost use Rattle.address_space.specs.Agreement.{body_of, IsSpace};
-ghost use Rattle.address_space.specs.Kept.{KeepsPlace};
+ghost use Rattle.address_space.specs.Kept.{IsUntouched, KeepsPlace};
 ghost use Rattle.address_space.specs.Layouts.{region_of};
 ghost use Rattle.fault_rules.specs.MadeResident.{CanMakeResident, HasMadeResident, IsNoFrameError, resident_reads, LacksFrames, taken_of, WhenMadeResident};
 ghost use Rattle.fault_rules.specs.declared.residence.ResidenceError.TheVariants.{Unpromised};
@@ -85,8 +85,7 @@ pub fn make_resident<S: FrameSeat, F: FrameSupply<Seat = S>, C: Files>(
     ensures whole { IsNoFrameError result → (t : Tables) (p : Process) → IsSpace (body_of S.view space.old) t p → IsSpace (body_of S.view space.new) t p }
     ensures unpromised { (e : PromiseError) → result ≡ Err (Unpromised e) → C.can_refuse files.old 1 e }
     ensures of_file { (e : PromiseError) → result ≡ Err (Unpromised e) → (t : Tables) (p : Process) → CanMakeResident (body_of S.view space.old) t p access page → 0 < length (resident_reads (C.files files.old) p page) }
-    ensures view_stays { (e : PromiseError) → result ≡ Err (Unpromised e) → S.view space.new.seat ≡ S.view space.old.seat }
-    ensures store_stays { (e : PromiseError) → result ≡ Err (Unpromised e) → store.new ≡ store.old }
+    ensures stays { (e : PromiseError) → result ≡ Err (Unpromised e) → IsUntouched S.view space.old space.new store.old store.new }
     ensures files_stay { (e : PromiseError) → result ≡ Err (Unpromised e) → C.becomes files.old [] files.new }
     ensures moves { ((e : PromiseError) → result ≢ Err (Unpromised e)) → (t : Tables) (p : Process) → CanMakeResident (body_of S.view space.old) t p access page → C.becomes files.old (resident_reads (C.files files.old) p page) files.new }
     ensures enough { F.alone → WhenMadeResident (body_of S.view space.old) access page (F.count store.old) (λ need. IsOk result → need ≤ F.free store.old) }
@@ -121,8 +120,7 @@ fn settle_initial<S: FrameSeat, F: FrameSupply<Seat = S>, C: Files>(
     ensures whole { IsNoFrameError result → (t : Tables) (p : Process) → IsSpace (body_of S.view space.old) t p → IsSpace (body_of S.view space.new) t p }
     ensures unpromised { (e : PromiseError) → result ≡ Err (Unpromised e) → C.can_refuse files.old 1 e }
     ensures of_file { (e : PromiseError) → result ≡ Err (Unpromised e) → (t : Tables) (p : Process) → CanMakeResident (body_of S.view space.old) t p access page → 0 < length (resident_reads (C.files files.old) p page) }
-    ensures view_stays { (e : PromiseError) → result ≡ Err (Unpromised e) → S.view space.new.seat ≡ S.view space.old.seat }
-    ensures store_stays { (e : PromiseError) → result ≡ Err (Unpromised e) → store.new ≡ store.old }
+    ensures stays { (e : PromiseError) → result ≡ Err (Unpromised e) → IsUntouched S.view space.old space.new store.old store.new }
     ensures files_stay { (e : PromiseError) → result ≡ Err (Unpromised e) → C.becomes files.old [] files.new }
     ensures moves { ((e : PromiseError) → result ≢ Err (Unpromised e)) → (t : Tables) (p : Process) → CanMakeResident (body_of S.view space.old) t p access page → C.becomes files.old (resident_reads (C.files files.old) p page) files.new }
     ensures enough { F.alone → WhenMadeResident (body_of S.view space.old) access page (F.count store.old) (λ need. IsOk result → need ≤ F.free store.old) }
@@ -173,8 +171,7 @@ fn settle_from_file<S: FrameSeat, F: FrameSupply<Seat = S>, C: Files>(
     ensures whole { IsNoFrameError result → (t : Tables) (p : Process) → IsSpace (body_of S.view space.old) t p → IsSpace (body_of S.view space.new) t p }
     ensures unpromised { (e : PromiseError) → result ≡ Err (Unpromised e) → C.can_refuse files.old 1 e }
     ensures of_file { (e : PromiseError) → result ≡ Err (Unpromised e) → (t : Tables) (p : Process) → CanMakeResident (body_of S.view space.old) t p access page → 0 < length (resident_reads (C.files files.old) p page) }
-    ensures view_stays { (e : PromiseError) → result ≡ Err (Unpromised e) → S.view space.new.seat ≡ S.view space.old.seat }
-    ensures store_stays { (e : PromiseError) → result ≡ Err (Unpromised e) → store.new ≡ store.old }
+    ensures stays { (e : PromiseError) → result ≡ Err (Unpromised e) → IsUntouched S.view space.old space.new store.old store.new }
     ensures files_stay { (e : PromiseError) → result ≡ Err (Unpromised e) → C.becomes files.old [] files.new }
     ensures moves { ((e : PromiseError) → result ≢ Err (Unpromised e)) → (t : Tables) (p : Process) → CanMakeResident (body_of S.view space.old) t p access page → C.becomes files.old (resident_reads (C.files files.old) p page) files.new }
     ensures enough { F.alone → WhenMadeResident (body_of S.view space.old) access page (F.count store.old) (λ need. IsOk result → need ≤ F.free store.old) }

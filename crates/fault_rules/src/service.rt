@@ -3,7 +3,7 @@
 
 ghost use Rattle.std.specs.Prelude.{[], ◌≡◌, ◌≢◌, ◌-◌, ◌<◌, ◌≤◌, if◌then◌else◌, length};
 ghost use Rattle.address_space.specs.Agreement.{body_of, IsSpace, IsAlive};
-ghost use Rattle.address_space.specs.Kept.{KeepsPlace};
+ghost use Rattle.address_space.specs.Kept.{IsUntouched, KeepsPlace};
 ghost use Rattle.fault_rules.specs.MadeResident.{HasMadeResident, LacksFrames, WhenMadeResident};
 ghost use Rattle.fault_rules.specs.Serves.{DoesNothing, is_ready, IsEnd, served_moves};
 ghost use Rattle.fault_rules.specs.declared.service.Served.TheVariants.{Ended, Ready, Unserved};
@@ -60,8 +60,7 @@ pub fn serve<S: FrameSeat, F: FrameSupply<Seat = S>, C: Files>(
     ensures whole { (rule : Rule) → result ≡ Ended rule → (t : Tables) (p : Process) → IsSpace (body_of S.view space.old) t p → IsSpace (body_of S.view space.new) t p }
     ensures unpromised { (e : Refusal) → result ≡ Unserved e → (x : PromiseError) × C.can_refuse files.old 1 x × (e ≡ refusal_of x) }
     ensures of_file { (e : Refusal) → result ≡ Unserved e → (t : Tables) (p : Process) → IsSpace (body_of S.view space.old) t p → 0 < length (served_moves (C.files files.old) p (page_of va.0) (first_rule p.scheme (regions p) access va.0 width)) }
-    ensures view_stays { DoesNothing result → S.view space.new.seat ≡ S.view space.old.seat }
-    ensures store_stays { DoesNothing result → store.new ≡ store.old }
+    ensures stays { DoesNothing result → IsUntouched S.view space.old space.new store.old store.new }
     ensures files_stay { (e : Refusal) → result ≡ Unserved e → C.becomes files.old [] files.new }
     ensures moves { ((e : Refusal) → result ≢ Unserved e) → (t : Tables) (p : Process) → IsSpace (body_of S.view space.old) t p → C.becomes files.old (served_moves (C.files files.old) p (page_of va.0) (first_rule p.scheme (regions p) access va.0 width)) files.new }
     ensures enough { F.alone → WhenMadeResident (body_of S.view space.old) access (page_of va.0) (F.count store.old) (λ need. result ≡ Ready → need ≤ F.free store.old) }

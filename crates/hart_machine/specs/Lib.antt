@@ -15,3 +15,4 @@ pub mod Tables
 pub mod SlotProcesses
 pub mod WalkEntries
 pub mod Worlds
+pub mod StepPromises

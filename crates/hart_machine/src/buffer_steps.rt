@@ -1,9 +1,9 @@
 // Steps `Fill` and `Evict`: a hart adds an entry to its buffer (TLB) by a walk of the page table in `satp`, or drops an
 // entry.
 ghost use Rattle.hart_machine.specs.Buffers.{BuffersAre};
-ghost use Rattle.hart_machine.specs.Worlds.{IsWorld, IsModelOutcome, SamePlaces};
+ghost use Rattle.hart_machine.specs.StepPromises.{MakesStep};
+ghost use Rattle.hart_machine.specs.Worlds.{IsWorld, SamePlaces};
 ghost use Rattle.process_model.specs.ScalarReplies.{reply_of_scalar};
-ghost use Rattle.process_model.specs.Steps.{plain_step};
 ghost use Rattle.process_model.specs.World.{World};
 ghost use Rattle.process_model.specs.declared.step.Step.TheVariants as step;
 
@@ -17,7 +17,7 @@ impl Machine {
     /// there is no such hart.
     pub(crate) fn fill(&mut self, hart: usize, va: Va) -> ScalarReply
         requires world { (w : World) × IsWorld self.old w }
-        ensures made { (w : World) → IsWorld self.old w → IsModelOutcome self.new (reply_of_scalar result) (plain_step w (step.Fill hart va.0)) }
+        ensures made { MakesStep self.old self.new (step.Fill hart va.0) (reply_of_scalar result) }
         ensures buffers { (w : World) (is : IsWorld self.old w) → BuffersAre self.old self.new is.tables is.kernel (step.Fill hart va.0) (reply_of_scalar result) }
         ensures places { SamePlaces self.old self.new }
     {
@@ -31,7 +31,7 @@ impl Machine {
     /// such hart; `NoEntry`, there is no such entry.
     pub(crate) fn evict(&mut self, hart: usize, entry: usize) -> ScalarReply
         requires world { (w : World) × IsWorld self.old w }
-        ensures made { (w : World) → IsWorld self.old w → IsModelOutcome self.new (reply_of_scalar result) (plain_step w (step.Evict hart entry)) }
+        ensures made { MakesStep self.old self.new (step.Evict hart entry) (reply_of_scalar result) }
         ensures buffers { (w : World) (is : IsWorld self.old w) → BuffersAre self.old self.new is.tables is.kernel (step.Evict hart entry) (reply_of_scalar result) }
         ensures places { SamePlaces self.old self.new }
     {

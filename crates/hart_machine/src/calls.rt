@@ -6,9 +6,10 @@ ghost use Rattle.frame_store.specs.Laws.{IsSeatOf, KeepsSeats};
 ghost use Rattle.frame_store.specs.Plain.{PlainStateRule};
 ghost use Rattle.hart_machine.specs.Buffers.{SameBuffers};
 ghost use Rattle.hart_machine.specs.Calls.{call_while, done_or_refused, HasResized, HasUnmapped, IsInKernel, mapped_or_refused, size_of, size_or_refused};
-ghost use Rattle.hart_machine.specs.Marks.{AreMarked, marked_by, marked_with};
+ghost use Rattle.hart_machine.specs.Marks.{marked_by, marked_with};
 ghost use Rattle.hart_machine.specs.SlotProcesses.{IsSlotProcess, view_of};
-ghost use Rattle.hart_machine.specs.Worlds.{IsWorld, KeepsTables, IsModelOutcome, SameTables};
+ghost use Rattle.hart_machine.specs.StepPromises.{KeepsTablesOf, MakesStep, MarksStep};
+ghost use Rattle.hart_machine.specs.Worlds.{IsWorld, SameTables};
 ghost use Rattle.lazy_growth.specs.SbrkResults.{size_before};
 ghost use Rattle.mmap_regions.specs.MmapEffect.{address_of_mapped, process_mapped};
 ghost use Rattle.process_model.specs.ScalarReplies.{reply_of_scalar};
@@ -17,7 +18,6 @@ ghost use Rattle.process_model.specs.Heap.{sbrk_result};
 ghost use Rattle.process_model.specs.Mappings as mappings;
 ghost use Rattle.process_model.specs.Process.{Process, without_pending};
 ghost use Rattle.process_model.specs.Stale.{is_changed};
-ghost use Rattle.process_model.specs.Steps.{plain_step};
 ghost use Rattle.process_model.specs.World.{Outcome, refuses, World};
 ghost use Rattle.process_model.specs.declared.step.Step.TheVariants as step;
 ghost use Rattle.table_walk.specs.Tables.{Tables};
@@ -68,7 +68,7 @@ impl Machine {
         file: usize,
     ) -> ScalarReply
         requires world { (w : World) × IsWorld self.old w }
-        ensures made { (w : World) → IsWorld self.old w → IsModelOutcome self.new (reply_of_scalar result) (plain_step w (step.Mmap hart length protection flags file)) }
+        ensures made { MakesStep self.old self.new (step.Mmap hart length protection flags file) (reply_of_scalar result) }
         ensures buffers { SameBuffers self.old self.new }
         ensures tables { SameTables self.old self.new }
     {
@@ -91,7 +91,7 @@ impl Machine {
         file: usize,
     ) -> Result<u64, Refusal>
         requires world { (w : World) × IsWorld self.old w }
-        ensures made { (w : World) → IsWorld self.old w → IsModelOutcome self.new (mapped_or_refused result) (plain_step w (step.Mmap hart length protection flags file)) }
+        ensures made { MakesStep self.old self.new (step.Mmap hart length protection flags file) (mapped_or_refused result) }
         ensures harts { self.new.harts ≡ self.old.harts }
         ensures tables { SameTables self.old self.new }
     {
@@ -114,10 +114,10 @@ impl Machine {
         length: u64,
     ) -> StepEffect<ScalarReply>
         requires world { (w : World) × IsWorld self.old w }
-        ensures made { (w : World) → IsWorld self.old w → IsModelOutcome self.new (reply_of_scalar result.reply) (plain_step w (step.Munmap hart address length)) }
+        ensures made { MakesStep self.old self.new (step.Munmap hart address length) (reply_of_scalar result.reply) }
         ensures buffers { SameBuffers self.old self.new }
-        ensures tables { (w : World) → IsWorld self.old w → KeepsTables self.old self.new w.slots (plain_step w (step.Munmap hart address length)).world.slots }
-        ensures changed { (w : World) → IsWorld self.old w → AreMarked w (plain_step w (step.Munmap hart address length)) result.changed result.born }
+        ensures tables { KeepsTablesOf self.old self.new (step.Munmap hart address length) }
+        ensures changed { MarksStep self.old (step.Munmap hart address length) result.changed result.born }
     {
         match self.unmap(hart, address, length) {
             Ok(changed) => StepEffect::with_change(ScalarReply::Done, changed),
@@ -131,10 +131,10 @@ impl Machine {
     /// Those of `in_kernel`, then `BadArgument`, then `HoleInMapping`.
     fn unmap(&mut self, hart: usize, address: u64, length: u64) -> Result<Option<usize>, Refusal>
         requires world { (w : World) × IsWorld self.old w }
-        ensures made { (w : World) → IsWorld self.old w → IsModelOutcome self.new (done_or_refused result) (plain_step w (step.Munmap hart address length)) }
-        ensures changed { (w : World) → IsWorld self.old w → AreMarked w (plain_step w (step.Munmap hart address length)) (marked_by result) None }
+        ensures made { MakesStep self.old self.new (step.Munmap hart address length) (done_or_refused result) }
+        ensures changed { MarksStep self.old (step.Munmap hart address length) (marked_by result) None }
         ensures harts { self.new.harts ≡ self.old.harts }
-        ensures tables { (w : World) → IsWorld self.old w → KeepsTables self.old self.new w.slots (plain_step w (step.Munmap hart address length)).world.slots }
+        ensures tables { KeepsTablesOf self.old self.new (step.Munmap hart address length) }
     {
         let slot = self.in_kernel(hart, false)?;
         let frames = &mut self.frames;
@@ -152,10 +152,10 @@ impl Machine {
     #[inline(never)]
     pub(crate) fn sbrk(&mut self, hart: usize, delta: i64) -> StepEffect<ScalarReply>
         requires world { (w : World) × IsWorld self.old w }
-        ensures made { (w : World) → IsWorld self.old w → IsModelOutcome self.new (reply_of_scalar result.reply) (plain_step w (step.Sbrk hart delta)) }
+        ensures made { MakesStep self.old self.new (step.Sbrk hart delta) (reply_of_scalar result.reply) }
         ensures buffers { SameBuffers self.old self.new }
-        ensures tables { (w : World) → IsWorld self.old w → KeepsTables self.old self.new w.slots (plain_step w (step.Sbrk hart delta)).world.slots }
-        ensures changed { (w : World) → IsWorld self.old w → AreMarked w (plain_step w (step.Sbrk hart delta)) result.changed result.born }
+        ensures tables { KeepsTablesOf self.old self.new (step.Sbrk hart delta) }
+        ensures changed { MarksStep self.old (step.Sbrk hart delta) result.changed result.born }
     {
         match self.resize(hart, delta) {
             Ok((size, changed)) => StepEffect::with_change(ScalarReply::OldSize(size), changed),
@@ -169,10 +169,10 @@ impl Machine {
     /// Those of `in_kernel`, then `BadSize`, then `NoRoom`.
     fn resize(&mut self, hart: usize, delta: i64) -> Result<(u64, Option<usize>), Refusal>
         requires world { (w : World) × IsWorld self.old w }
-        ensures made { (w : World) → IsWorld self.old w → IsModelOutcome self.new (size_or_refused result) (plain_step w (step.Sbrk hart delta)) }
-        ensures changed { (w : World) → IsWorld self.old w → AreMarked w (plain_step w (step.Sbrk hart delta)) (marked_with result) None }
+        ensures made { MakesStep self.old self.new (step.Sbrk hart delta) (size_or_refused result) }
+        ensures changed { MarksStep self.old (step.Sbrk hart delta) (marked_with result) None }
         ensures harts { self.new.harts ≡ self.old.harts }
-        ensures tables { (w : World) → IsWorld self.old w → KeepsTables self.old self.new w.slots (plain_step w (step.Sbrk hart delta)).world.slots }
+        ensures tables { KeepsTablesOf self.old self.new (step.Sbrk hart delta) }
     {
         let slot = self.in_kernel(hart, false)?;
         let frames = &mut self.frames;

@@ -9,13 +9,13 @@ ghost use Rattle.hart_machine.specs.Calls.{IsCaller};
 ghost use Rattle.hart_machine.specs.CopyEffect.{CopiesFrom, CopiesTo};
 ghost use Rattle.hart_machine.specs.SlotProcesses.{IsSlotProcess, view_of};
 ghost use Rattle.hart_machine.specs.Marks.{AreMarked, TellsResidence};
+ghost use Rattle.hart_machine.specs.StepPromises.{KeepsTablesOf, MakesStep, MarksStep};
 ghost use Rattle.hart_machine.specs.Worlds.{IsWorld, KeepsTables, IsModelOutcome};
 ghost use Rattle.process_model.specs.ScalarReplies.{reply_of_scalar};
 ghost use Rattle.process_model.specs.Calls as model;
 ghost use Rattle.process_model.specs.Copies.{copied_in, copied_out, longest_copy};
 ghost use Rattle.process_model.specs.Process.{Process, without_pending};
 ghost use Rattle.process_model.specs.Service.{environment_of, initial_progress};
-ghost use Rattle.process_model.specs.Steps.{plain_step};
 ghost use Rattle.process_model.specs.World.{World};
 ghost use Rattle.process_model.specs.declared.step.Step.TheVariants as step;
 ghost use Rattle.sv39_entry.specs.declared.access.Access.TheVariants.{Load, Store};
@@ -37,10 +37,10 @@ impl Machine {
     #[inline(never)]
     pub(crate) fn copy_in(&mut self, hart: usize, address: u64, count: usize) -> StepEffect<Reply>
         requires world { (w : World) × IsWorld self.old w }
-        ensures made { (w : World) → IsWorld self.old w → IsModelOutcome self.new result.reply (plain_step w (step.CopyIn hart address count)) }
+        ensures made { MakesStep self.old self.new (step.CopyIn hart address count) result.reply }
         ensures buffers { SameBuffers self.old self.new }
-        ensures tables { (w : World) → IsWorld self.old w → KeepsTables self.old self.new w.slots (plain_step w (step.CopyIn hart address count)).world.slots }
-        ensures changed { (w : World) → IsWorld self.old w → AreMarked w (plain_step w (step.CopyIn hart address count)) result.changed result.born }
+        ensures tables { KeepsTablesOf self.old self.new (step.CopyIn hart address count) }
+        ensures changed { MarksStep self.old (step.CopyIn hart address count) result.changed result.born }
     {
         if count > LONGEST_COPY {
             return StepEffect::without_change(Reply::Refused(Refusal::BadArgument));
@@ -85,10 +85,10 @@ impl Machine {
         bytes: &[u8],
     ) -> StepEffect<ScalarReply>
         requires world { (w : World) × IsWorld self.old w }
-        ensures made { (w : World) → IsWorld self.old w → IsModelOutcome self.new (reply_of_scalar result.reply) (plain_step w (step.CopyOut hart address bytes.entry)) }
+        ensures made { MakesStep self.old self.new (step.CopyOut hart address bytes.entry) (reply_of_scalar result.reply) }
         ensures buffers { SameBuffers self.old self.new }
-        ensures tables { (w : World) → IsWorld self.old w → KeepsTables self.old self.new w.slots (plain_step w (step.CopyOut hart address bytes.entry)).world.slots }
-        ensures changed { (w : World) → IsWorld self.old w → AreMarked w (plain_step w (step.CopyOut hart address bytes.entry)) result.changed result.born }
+        ensures tables { KeepsTablesOf self.old self.new (step.CopyOut hart address bytes.entry) }
+        ensures changed { MarksStep self.old (step.CopyOut hart address bytes.entry) result.changed result.born }
     {
         if bytes.len() > LONGEST_COPY {
             return StepEffect::without_change(ScalarReply::Refused(Refusal::BadArgument));

@@ -7,12 +7,12 @@ ghost use Rattle.hart_machine.specs.Buffers.{SameBuffers};
 ghost use Rattle.hart_machine.specs.Calls.{done_or_refused};
 ghost use Rattle.hart_machine.specs.ExecEffect.{HasExecuted};
 ghost use Rattle.hart_machine.specs.SlotProcesses.{IsSlotProcess, view_of};
-ghost use Rattle.hart_machine.specs.Marks.{AreMarked, slot_of_ok};
-ghost use Rattle.hart_machine.specs.Worlds.{IsWorld, KeepsTables, IsModelOutcome};
+ghost use Rattle.hart_machine.specs.Marks.{slot_of_ok};
+ghost use Rattle.hart_machine.specs.StepPromises.{KeepsTablesOf, MakesStep, MarksStep};
+ghost use Rattle.hart_machine.specs.Worlds.{IsWorld};
 ghost use Rattle.process_model.specs.ScalarReplies.{reply_of_scalar};
 ghost use Rattle.process_model.specs.Frames.{exec_need};
 ghost use Rattle.process_model.specs.Process.{Process};
-ghost use Rattle.process_model.specs.Steps.{plain_step};
 ghost use Rattle.process_model.specs.World.{World};
 ghost use Rattle.process_model.specs.declared.step.Refusal.TheVariants as refusal;
 ghost use Rattle.process_model.specs.declared.step.Step.TheVariants as step;
@@ -36,10 +36,10 @@ impl Machine {
         image: process_model::Image<'_>,
     ) -> StepEffect<ScalarReply>
         requires world { (w : World) × IsWorld self.old w }
-        ensures made { (w : World) → IsWorld self.old w → IsModelOutcome self.new (reply_of_scalar result.reply) (plain_step w (step.Exec hart image.entry)) }
+        ensures made { MakesStep self.old self.new (step.Exec hart image.entry) (reply_of_scalar result.reply) }
         ensures buffers { SameBuffers self.old self.new }
-        ensures tables { (w : World) → IsWorld self.old w → KeepsTables self.old self.new w.slots (plain_step w (step.Exec hart image.entry)).world.slots }
-        ensures changed { (w : World) → IsWorld self.old w → AreMarked w (plain_step w (step.Exec hart image.entry)) result.changed result.born }
+        ensures tables { KeepsTablesOf self.old self.new (step.Exec hart image.entry) }
+        ensures changed { MarksStep self.old (step.Exec hart image.entry) result.changed result.born }
     {
         match self.replace(hart, image) {
             Ok(slot) => StepEffect::with_change(ScalarReply::Done, Some(slot)),
@@ -53,10 +53,10 @@ impl Machine {
     /// Those of `in_kernel`, then `BadImage` with the check that the image fails, then `NoFrame`.
     fn replace(&mut self, hart: usize, image: process_model::Image<'_>) -> Result<usize, Refusal>
         requires world { (w : World) × IsWorld self.old w }
-        ensures made { (w : World) → IsWorld self.old w → IsModelOutcome self.new (done_or_refused result) (plain_step w (step.Exec hart image.entry)) }
-        ensures changed { (w : World) → IsWorld self.old w → AreMarked w (plain_step w (step.Exec hart image.entry)) (slot_of_ok result) None }
+        ensures made { MakesStep self.old self.new (step.Exec hart image.entry) (done_or_refused result) }
+        ensures changed { MarksStep self.old (step.Exec hart image.entry) (slot_of_ok result) None }
         ensures harts { self.new.harts ≡ self.old.harts }
-        ensures tables { (w : World) → IsWorld self.old w → KeepsTables self.old self.new w.slots (plain_step w (step.Exec hart image.entry)).world.slots }
+        ensures tables { KeepsTablesOf self.old self.new (step.Exec hart image.entry) }
     {
         let slot = self.in_kernel(hart, false)?;
         let image = match Image::judged(self.kernel.scheme, image) {

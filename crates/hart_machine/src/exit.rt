@@ -12,12 +12,12 @@ ghost use Rattle.hart_machine.specs.Buffers.{SameBuffers};
 ghost use Rattle.hart_machine.specs.Calls.{IsInKernel};
 ghost use Rattle.hart_machine.specs.Harts.{hart_of};
 ghost use Rattle.hart_machine.specs.SlotProcesses.{IsSlotProcess, view_of};
-ghost use Rattle.hart_machine.specs.Worlds.{IsWorld, KeepsOtherSlots, KeepsTables, IsModelOutcome};
+ghost use Rattle.hart_machine.specs.StepPromises.{KeepsTablesOf, MakesStep};
+ghost use Rattle.hart_machine.specs.Worlds.{IsWorld, KeepsOtherSlots};
 ghost use Rattle.process_model.specs.ScalarReplies.{reply_of_scalar};
 ghost use Rattle.process_model.specs.Mappings.{all_written_back};
 ghost use Rattle.process_model.specs.Process.{Process};
 ghost use Rattle.process_model.specs.Service.{ended};
-ghost use Rattle.process_model.specs.Steps.{plain_step};
 ghost use Rattle.process_model.specs.World.{World};
 ghost use Rattle.process_model.specs.declared.step.Reply.{Reply};
 ghost use Rattle.process_model.specs.declared.step.Step.TheVariants as step;
@@ -35,9 +35,9 @@ impl Machine {
     #[inline(never)]
     pub(crate) fn exit(&mut self, hart: usize, status: i32) -> ScalarReply
         requires world { (w : World) × IsWorld self.old w }
-        ensures made { (w : World) → IsWorld self.old w → IsModelOutcome self.new (reply_of_scalar result) (plain_step w (step.Exit hart status)) }
+        ensures made { MakesStep self.old self.new (step.Exit hart status) (reply_of_scalar result) }
         ensures buffers { SameBuffers self.old self.new }
-        ensures tables { (w : World) → IsWorld self.old w → KeepsTables self.old self.new w.slots (plain_step w (step.Exit hart status)).world.slots }
+        ensures tables { KeepsTablesOf self.old self.new (step.Exit hart status) }
     {
         match self.in_kernel(hart, false) {
             Ok(slot) => {

@@ -10,12 +10,12 @@ ghost use Rattle.frame_store.specs.View.{IsHeld, View};
 ghost use Rattle.hart_machine.specs.Buffers.{SameBuffers};
 ghost use Rattle.hart_machine.specs.ForkEffect.{forked_or_refused, HasForkedProcess, in_slot};
 ghost use Rattle.hart_machine.specs.SlotProcesses.{body_in, IsSlotProcess, view_of};
-ghost use Rattle.hart_machine.specs.Marks.{AreMarked, child_in, marked_with};
-ghost use Rattle.hart_machine.specs.Worlds.{IsWorld, KeepsTables, IsModelOutcome};
+ghost use Rattle.hart_machine.specs.Marks.{child_in, marked_with};
+ghost use Rattle.hart_machine.specs.StepPromises.{KeepsTablesOf, MakesStep, MarksStep};
+ghost use Rattle.hart_machine.specs.Worlds.{IsWorld};
 ghost use Rattle.process_model.specs.ScalarReplies.{reply_of_scalar};
 ghost use Rattle.process_model.specs.Frames.{fork_need};
 ghost use Rattle.process_model.specs.Process.{Process};
-ghost use Rattle.process_model.specs.Steps.{plain_step};
 ghost use Rattle.process_model.specs.World.{World};
 ghost use Rattle.process_model.specs.declared.step.Refusal.TheVariants as refusal;
 ghost use Rattle.process_model.specs.declared.step.Step.TheVariants as step;
@@ -36,10 +36,10 @@ impl Machine {
     #[inline(never)]
     pub(crate) fn fork(&mut self, hart: usize) -> StepEffect<ScalarReply>
         requires world { (w : World) × IsWorld self.old w }
-        ensures made { (w : World) → IsWorld self.old w → IsModelOutcome self.new (reply_of_scalar result.reply) (plain_step w (step.Fork hart)) }
+        ensures made { MakesStep self.old self.new (step.Fork hart) (reply_of_scalar result.reply) }
         ensures buffers { SameBuffers self.old self.new }
-        ensures tables { (w : World) → IsWorld self.old w → KeepsTables self.old self.new w.slots (plain_step w (step.Fork hart)).world.slots }
-        ensures changed { (w : World) → IsWorld self.old w → AreMarked w (plain_step w (step.Fork hart)) result.changed result.born }
+        ensures tables { KeepsTablesOf self.old self.new (step.Fork hart) }
+        ensures changed { MarksStep self.old (step.Fork hart) result.changed result.born }
     {
         match self.fork_into(hart) {
             Ok((slot, changed)) => StepEffect {
@@ -58,10 +58,10 @@ impl Machine {
     /// Those of `in_kernel`, then `NoSlot`, then `NoFrame`.
     fn fork_into(&mut self, hart: usize) -> Result<(usize, Option<usize>), Refusal>
         requires world { (w : World) × IsWorld self.old w }
-        ensures made { (w : World) → IsWorld self.old w → IsModelOutcome self.new (forked_or_refused result) (plain_step w (step.Fork hart)) }
-        ensures changed { (w : World) → IsWorld self.old w → AreMarked w (plain_step w (step.Fork hart)) (marked_with result) (child_in result) }
+        ensures made { MakesStep self.old self.new (step.Fork hart) (forked_or_refused result) }
+        ensures changed { MarksStep self.old (step.Fork hart) (marked_with result) (child_in result) }
         ensures harts { self.new.harts ≡ self.old.harts }
-        ensures tables { (w : World) → IsWorld self.old w → KeepsTables self.old self.new w.slots (plain_step w (step.Fork hart)).world.slots }
+        ensures tables { KeepsTablesOf self.old self.new (step.Fork hart) }
     {
         let slot = self.in_kernel(hart, false)?;
         let Some(place) = self.free_slot() else {

@@ -10,13 +10,13 @@ ghost use Rattle.hart_machine.specs.Harts.{hart_of};
 ghost use Rattle.hart_machine.specs.ServeEffect.{HasServed, IsEnding, MustEnd, was_served};
 ghost use Rattle.hart_machine.specs.SlotProcesses.{IsSlotProcess, view_of};
 ghost use Rattle.hart_machine.specs.Marks.{AreMarked, slot_if};
+ghost use Rattle.hart_machine.specs.StepPromises.{KeepsTablesOf, MakesStep, MarksStep};
 ghost use Rattle.hart_machine.specs.Worlds.{IsWorld, KeepsOtherSlots, KeepsTables, IsModelOutcome};
 ghost use Rattle.process_model.specs.ScalarReplies.{reply_of_scalar};
 ghost use Rattle.process_model.specs.Process as model;
 ghost use Rattle.process_model.specs.Process.{Process};
 ghost use Rattle.process_model.specs.Residence.{is_resident};
 ghost use Rattle.process_model.specs.Service.{served};
-ghost use Rattle.process_model.specs.Steps.{plain_step};
 ghost use Rattle.process_model.specs.World.{is_unserved_access, World};
 ghost use Rattle.process_model.specs.declared.step.Reply.TheVariants.{Ready};
 ghost use Rattle.process_model.specs.declared.step.Step.TheVariants as step;
@@ -38,10 +38,10 @@ impl Machine {
     #[inline(never)]
     pub(crate) fn serve(&mut self, hart: usize) -> StepEffect<ScalarReply>
         requires world { (w : World) × IsWorld self.old w }
-        ensures made { (w : World) → IsWorld self.old w → IsModelOutcome self.new (reply_of_scalar result.reply) (plain_step w (step.Serve hart)) }
+        ensures made { MakesStep self.old self.new (step.Serve hart) (reply_of_scalar result.reply) }
         ensures buffers { SameBuffers self.old self.new }
-        ensures tables { (w : World) → IsWorld self.old w → KeepsTables self.old self.new w.slots (plain_step w (step.Serve hart)).world.slots }
-        ensures changed { (w : World) → IsWorld self.old w → AreMarked w (plain_step w (step.Serve hart)) result.changed result.born }
+        ensures tables { KeepsTablesOf self.old self.new (step.Serve hart) }
+        ensures changed { MarksStep self.old (step.Serve hart) result.changed result.born }
     {
         let slot = match self.in_kernel(hart, true) {
             Ok(slot) => slot,

@@ -8,10 +8,9 @@ ghost use Rattle.frame_store.specs.SeatOpening.{opened, opener};
 ghost use Rattle.frame_store.specs.Plain.{PlainStateRule};
 ghost use Rattle.frame_store.specs.View.{references, View};
 ghost use Rattle.hart_machine.specs.Buffers.{SameBuffers};
-ghost use Rattle.hart_machine.specs.Marks.{AreMarked};
-ghost use Rattle.hart_machine.specs.Worlds.{IsWorld, KeepsTables, IsModelOutcome};
+ghost use Rattle.hart_machine.specs.StepPromises.{KeepsTablesOf, MakesStep, MarksStep};
+ghost use Rattle.hart_machine.specs.Worlds.{IsWorld};
 ghost use Rattle.process_model.specs.ScalarReplies.{reply_of_scalar};
-ghost use Rattle.process_model.specs.Steps.{plain_step};
 ghost use Rattle.process_model.specs.World.{free_slot, World};
 ghost use Rattle.process_model.specs.declared.step.Step.TheVariants as step;
 ghost use Rattle.table_walk.specs.Tables as tables;
@@ -30,10 +29,10 @@ impl Machine {
     #[inline(never)]
     pub(crate) fn start(&mut self, image: process_model::Image<'_>) -> StepEffect<ScalarReply>
         requires world { (w : World) × IsWorld self.old w }
-        ensures made { (w : World) → IsWorld self.old w → IsModelOutcome self.new (reply_of_scalar result.reply) (plain_step w (step.Start image.entry)) }
+        ensures made { MakesStep self.old self.new (step.Start image.entry) (reply_of_scalar result.reply) }
         ensures buffers { SameBuffers self.old self.new }
-        ensures tables { (w : World) → IsWorld self.old w → KeepsTables self.old self.new w.slots (plain_step w (step.Start image.entry)).world.slots }
-        ensures changed { (w : World) → IsWorld self.old w → AreMarked w (plain_step w (step.Start image.entry)) result.changed result.born }
+        ensures tables { KeepsTablesOf self.old self.new (step.Start image.entry) }
+        ensures changed { MarksStep self.old (step.Start image.entry) result.changed result.born }
     {
         let Some(slot) = self.free_slot() else {
             return StepEffect::without_change(ScalarReply::Refused(Refusal::NoSlot));

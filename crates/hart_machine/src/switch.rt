@@ -5,10 +5,10 @@
 ghost use Rattle.std.specs.Prelude.{◌≡◌, slice_get, Some};
 ghost use Rattle.std.specs.List.{list_any};
 ghost use Rattle.hart_machine.specs.Buffers.{BuffersAre, SameBuffers};
-ghost use Rattle.hart_machine.specs.Worlds.{IsWorld, IsModelOutcome, SamePlaces, SameTables};
+ghost use Rattle.hart_machine.specs.StepPromises.{MakesStep};
+ghost use Rattle.hart_machine.specs.Worlds.{IsWorld, SamePlaces, SameTables};
 ghost use Rattle.process_model.specs.ScalarReplies.{reply_of_scalar};
 ghost use Rattle.process_model.specs.Harts as harts;
-ghost use Rattle.process_model.specs.Steps.{plain_step};
 ghost use Rattle.process_model.specs.World as model;
 ghost use Rattle.process_model.specs.World.{World};
 ghost use Rattle.process_model.specs.declared.step.Step.TheVariants as step;
@@ -23,7 +23,7 @@ impl Machine {
     /// no process, or its process is on a hart.
     pub(crate) fn switch(&mut self, hart: usize, slot: Option<usize>) -> ScalarReply
         requires world { (w : World) × IsWorld self.old w }
-        ensures made { (w : World) → IsWorld self.old w → IsModelOutcome self.new (reply_of_scalar result) (plain_step w (step.Switch hart slot)) }
+        ensures made { MakesStep self.old self.new (step.Switch hart slot) (reply_of_scalar result) }
         ensures buffers { SameBuffers self.old self.new }
         ensures places { SamePlaces self.old self.new }
     {
@@ -51,7 +51,7 @@ impl Machine {
     /// `Done`, or refused: `BadArgument`, there is no such hart; `Impossible`, it is not in phase `User`.
     pub(crate) fn trap(&mut self, hart: usize) -> ScalarReply
         requires world { (w : World) × IsWorld self.old w }
-        ensures made { (w : World) → IsWorld self.old w → IsModelOutcome self.new (reply_of_scalar result) (plain_step w (step.Trap hart)) }
+        ensures made { MakesStep self.old self.new (step.Trap hart) (reply_of_scalar result) }
         ensures buffers { SameBuffers self.old self.new }
         ensures tables { SameTables self.old self.new }
     {
@@ -74,7 +74,7 @@ impl Machine {
     /// access waits for service.
     pub(crate) fn next(&mut self, hart: usize) -> ScalarReply
         requires world { (w : World) × IsWorld self.old w }
-        ensures made { (w : World) → IsWorld self.old w → IsModelOutcome self.new (reply_of_scalar result) (plain_step w (step.Next hart)) }
+        ensures made { MakesStep self.old self.new (step.Next hart) (reply_of_scalar result) }
         ensures buffers { (w : World) (is : IsWorld self.old w) → BuffersAre self.old self.new is.tables is.kernel (step.Next hart) (reply_of_scalar result) }
         ensures places { SamePlaces self.old self.new }
     {

@@ -7,10 +7,10 @@ ghost use Rattle.hart_machine.specs.Harts.{hart_of};
 ghost use Rattle.hart_machine.specs.BufferEntries.{IsInWorld};
 ghost use Rattle.hart_machine.specs.Tables.{tables_of, IsTranslated, HasTable, MayAsk, present_table};
 ghost use Rattle.table_walk.specs.Leaves.{walk_answer};
-ghost use Rattle.hart_machine.specs.Worlds.{IsWorld, IsModelOutcome, SamePlaces, KeepsWorld};
+ghost use Rattle.hart_machine.specs.StepPromises.{MakesStep};
+ghost use Rattle.hart_machine.specs.Worlds.{IsWorld, SamePlaces, KeepsWorld};
 ghost use Rattle.hart_machine.specs.declared.hart.Hart.{Hart};
 ghost use Rattle.process_model.specs.Harts.{entry_serves};
-ghost use Rattle.process_model.specs.Steps.{plain_step};
 ghost use Rattle.process_model.specs.World.{World};
 ghost use Rattle.process_model.specs.declared.step.Reply.TheVariants.{Filled};
 ghost use Rattle.process_model.specs.declared.step.Step.TheVariants as step;
@@ -147,7 +147,7 @@ impl Machine {
     pub(crate) fn fill_from_walk(&mut self, hart: usize, table: SatpTable, va: Va) -> usize
         requires present { (x : Hart) × (slice_get self.old.harts.items hart ≡ Some x) × (table ≡ present_table x) }
         requires world { (w : World) × IsWorld self.old w }
-        ensures made { (w : World) → IsWorld self.old w → IsModelOutcome self.new (Filled result) (plain_step w (step.Fill hart va.0)) }
+        ensures made { MakesStep self.old self.new (step.Fill hart va.0) (Filled result) }
         ensures buffers { (w : World) (is : IsWorld self.old w) → BuffersAre self.old self.new is.tables is.kernel (step.Fill hart va.0) (Filled result) }
         ensures places { SamePlaces self.old self.new }
     {

@@ -11,7 +11,7 @@ use std::{fmt, io};
 #[derive(Debug, Drop)]
 pub enum Fault {
     /// The command line is wrong, or asks for help or the version.
-    Words(clap::Error),
+    CommandLine(clap::Error),
     /// The host is out of memory.
     Memory,
     /// A script cannot be opened or read.
@@ -38,8 +38,8 @@ impl Fault {
         ensures { result ≤ 2 }
     {
         match self {
-            Fault::Words(error) if error.exit_code() == 0 => 0,
-            Fault::Words(_) => 2,
+            Fault::CommandLine(error) if error.exit_code() == 0 => 0,
+            Fault::CommandLine(_) => 2,
             Fault::Memory | Fault::File(_, _) | Fault::Read(_) | Fault::Io(_) | Fault::Told => 1,
         }
     }
@@ -51,10 +51,10 @@ impl Fault {
     pub fn tell<S: Screen>(&self, alloc: Global, screen: &mut S) -> Result<(), Fault> {
         match self {
             Fault::Told => Ok(()),
-            Fault::Words(error) if error.exit_code() == 0 => {
+            Fault::CommandLine(error) if error.exit_code() == 0 => {
                 screen.out(format!(in alloc; "{error}")?.as_str())
             }
-            Fault::Words(error) => screen.err(format!(in alloc; "{error}")?.as_str()),
+            Fault::CommandLine(error) => screen.err(format!(in alloc; "{error}")?.as_str()),
             fault => screen.err(format!(in alloc; "{fault}\n")?.as_str()),
         }
     }
@@ -81,7 +81,7 @@ impl fmt::Display for Because<'_> {
 impl fmt::Display for Fault {
     fn fmt<W: fmt::Write>(&self, f: &mut fmt::Formatter<W>) -> fmt::Result {
         match self {
-            Fault::Words(error) => write!(f, "{error}"),
+            Fault::CommandLine(error) => write!(f, "{error}"),
             Fault::Memory => write!(f, "xv6lab: out of memory"),
             Fault::File(name, error) => {
                 let (name, because) = (name.as_str(), Because(error));
@@ -115,7 +115,7 @@ impl From<clap::Error> for Fault {
     fn from(error: clap::Error) -> Fault {
         match error.kind() {
             ErrorKind::OutOfMemory => Fault::Memory,
-            _ => Fault::Words(error),
+            _ => Fault::CommandLine(error),
         }
     }
 }

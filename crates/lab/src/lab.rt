@@ -3,6 +3,7 @@
 ghost use Rattle.std.specs.Prelude.{◌≤◌};
 
 use crate::check::{BareLines, CheckLines, Tally};
+use crate::command_line::{CommandLine, Task};
 use crate::draw::DrawLines;
 use crate::elf::ElfLine;
 use crate::fault::Fault;
@@ -13,7 +14,6 @@ use crate::run::RunLines;
 use crate::screen::Screen;
 use crate::show::ShowLines;
 use crate::trace::TraceLines;
-use crate::words::{Task, Words};
 use std::alloc::Global;
 use std::fs;
 use std::io::Read;
@@ -161,7 +161,7 @@ impl<F: Files, I: Read + Drop> Host<'_, F, I> {
     }
 
     /// Does what a command line says.
-    fn do_all<S: Screen>(&mut self, screen: &mut S, words: &Words) -> Result<(), Fault> {
+    fn do_all<S: Screen>(&mut self, screen: &mut S, words: &CommandLine) -> Result<(), Fault> {
         let (alloc, file) = (self.alloc, words.file());
         match words.task {
             Task::Run => self.play(screen, file, &mut RunLines { alloc, file }),
@@ -189,7 +189,7 @@ pub fn do_words<F: Files, I: Read + Drop, S: Screen>(
 ) -> u8
     ensures { result ≤ 2 }
 {
-    let done = match Words::parse(host.alloc, words) {
+    let done = match CommandLine::parse(host.alloc, words) {
         Ok(words) => host.do_all(screen, &words),
         Err(fault) => Err(fault),
     };

@@ -6,6 +6,7 @@
 #![tactic(auto)]
 
 mod check;
+mod command_line;
 mod draw;
 mod elf;
 mod expected;
@@ -21,7 +22,6 @@ mod screen;
 mod show;
 mod threads;
 mod trace;
-mod words;
 
 pub use expected::{Expected, split};
 pub use fault::Fault;

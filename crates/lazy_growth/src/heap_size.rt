@@ -3,7 +3,7 @@
 
 ghost use Rattle.std.specs.Prelude.{[], pos, ◌≡◌, ◌<◌, ◌≤◌, ◌≤ℤ◌, ◌^◌, IfErr, IfOk, Some};
 ghost use Rattle.address_space.specs.Agreement.{body_of, IsSpace, IsAlive};
-ghost use Rattle.address_space.specs.Kept.{KeepsPlace};
+ghost use Rattle.address_space.specs.Kept.{IsUntouched, KeepsPlace};
 ghost use Rattle.address_space.specs.SpaceTeardown.{Drops};
 ghost use Rattle.address_space.specs.Layouts.{LaysOut};
 ghost use Rattle.address_space.specs.Steps.{TakesFrames};
@@ -43,9 +43,7 @@ pub fn sbrk<S: FrameSeat, F: FrameAccess<Seat = S>>(
     ensures resized { IfOk result (λ _. (t : Tables) (p : Process) →
         IsSpace (body_of S.view space.old) t p →
         Resizes (body_of S.view space.new) t p delta) }
-    ensures layout_stays { IfErr result (λ _. space.new.layout ≡ space.old.layout) }
-    ensures view_stays { IfErr result (λ _. S.view space.new.seat ≡ S.view space.old.seat) }
-    ensures store_stays { IfErr result (λ _. store.new ≡ store.old) }
+    ensures stays { IfErr result (λ _. IsUntouched S.view space.old space.new store.old store.new) }
     ensures growing_keeps_view { pos 0 ≤ℤ delta → S.view space.new.seat ≡ S.view space.old.seat }
     ensures growing_keeps_store { pos 0 ≤ℤ delta → store.new ≡ store.old }
     ensures tallies { TakesFrames (S.view space.old.seat) (S.view space.new.seat) 0 [] }

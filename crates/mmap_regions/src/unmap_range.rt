@@ -2,6 +2,7 @@
 
 ghost use Rattle.std.specs.Prelude.{[], ◌≡◌, ◌≤◌, IfErr, IfOk};
 ghost use Rattle.address_space.specs.Agreement.{body_of, IsSpace, IsAlive};
+ghost use Rattle.address_space.specs.Kept.{IsUntouched};
 ghost use Rattle.address_space.specs.Steps.{TakesFrames};
 ghost use Rattle.frame_store.specs.Laws.{IsSeatOf, KeepsSeats};
 ghost use Rattle.mmap_regions.specs.MunmapEffect.{IsUnmapRefusal, Unmaps, unmap_moves};
@@ -43,9 +44,7 @@ pub fn munmap<S: FrameSeat, F: FrameAccess<Seat = S>, C: Files>(
         IsSpace (body_of S.view space.old) t p →
         IsUnmapRefusal (C.can_refuse files.old) (C.files files.old) p address length e) }
     ensures files_stay { IfErr result (λ _. C.becomes files.old [] files.new) }
-    ensures layout_stays { IfErr result (λ _. space.new.layout ≡ space.old.layout) }
-    ensures view_stays { IfErr result (λ _. S.view space.new.seat ≡ S.view space.old.seat) }
-    ensures store_stays { IfErr result (λ _. store.new ≡ store.old) }
+    ensures stays { IfErr result (λ _. IsUntouched S.view space.old space.new store.old store.new) }
     ensures tallies { TakesFrames (S.view space.old.seat) (S.view space.new.seat) 0 [] }
     ensures root { space.new.root ≡ space.old.root }
     ensures trapframe { space.new.trapframe ≡ space.old.trapframe }

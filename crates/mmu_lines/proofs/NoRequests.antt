@@ -9,8 +9,8 @@ use Rattle.mmu_lines.specs.declared.reading.Refusal.{Refusal}
 use Rattle.mmu_lines.specs.declared.reading.Refusal.TheVariants as refusal
 use Rattle.mmu_lines.specs.declared.requests.Request.{Request}
 use Rattle.mmu_lines.specs.declared.requests.Request.TheVariants as request
-use Rattle.mmu_lines.specs.declared.words.Word.{Word}
-use Rattle.mmu_lines.specs.declared.words.Word.TheVariants as word
+use Rattle.mmu_lines.specs.declared.line_word.Word.{Word}
+use Rattle.mmu_lines.specs.declared.line_word.Word.TheVariants as word
 
 -- the word of a text, by its third byte and its second
 abbrev word_from : ℕ → ℕ → Word

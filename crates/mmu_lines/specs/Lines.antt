@@ -11,8 +11,8 @@ use Rattle.mmu.specs.Outcomes.{bytes}
 use Rattle.mmu.specs.declared.outcome.Width.{Width}
 use Rattle.mmu_lines.specs.declared.requests.Request.{Request}
 use Rattle.mmu_lines.specs.declared.requests.Request.TheVariants as request
-use Rattle.mmu_lines.specs.declared.words.Word.{Word}
-use Rattle.mmu_lines.specs.declared.words.Word.TheVariants as word
+use Rattle.mmu_lines.specs.declared.line_word.Word.{Word}
+use Rattle.mmu_lines.specs.declared.line_word.Word.TheVariants as word
 
 abbrev pub word_text : Word → List ℕ
 word_text word.Reset = codes "reset"

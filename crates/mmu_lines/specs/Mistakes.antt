@@ -9,8 +9,8 @@ use Rattle.mmu_lines.specs.Lines.{HasFields}
 use Rattle.mmu_lines.specs.declared.reading.Refusal.{Refusal}
 use Rattle.mmu_lines.specs.declared.reading.Refusal.TheVariants as refusal
 use Rattle.mmu_lines.specs.declared.requests.Request.TheVariants as request
-use Rattle.mmu_lines.specs.declared.words.Word.{Word}
-use Rattle.mmu_lines.specs.declared.words.Word.TheVariants as word
+use Rattle.mmu_lines.specs.declared.line_word.Word.{Word}
+use Rattle.mmu_lines.specs.declared.line_word.Word.TheVariants as word
 
 -- something holds if the refusal is a mistake; nothing is said of it if the host is out of memory
 abbrev pub IfMistake : Refusal → Type 0 → Type 0

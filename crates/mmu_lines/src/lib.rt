@@ -3,11 +3,11 @@
 #![tactic(auto)]
 
 mod answers;
+mod line_word;
 mod outcomes;
 mod player;
 mod reading;
 mod requests;
-mod words;
 
 pub use answers::{Answer, AnswerLine, put_answer};
 pub use outcomes::{By, OutcomeLine};

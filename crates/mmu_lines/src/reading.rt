@@ -5,12 +5,12 @@ ghost use Rattle.mmu.specs.Outcomes.{bytes};
 ghost use Rattle.mmu.specs.declared.outcome.Width.{Width};
 ghost use Rattle.mmu_lines.specs.Lines.{HasFields, IsNothing, IsPlace, IsRequest, IsWidthOf, MakesNone, NumberAt, PerhapsAt, access_word, mode_text, word_of};
 ghost use Rattle.mmu_lines.specs.Mistakes.{IfMistake, Refuses, RefusesAccess};
-ghost use Rattle.mmu_lines.specs.declared.words.Word.TheVariants as words;
+ghost use Rattle.mmu_lines.specs.declared.line_word.Word.TheVariants as words;
 ghost use Rattle.script_language.specs.Lines.{fields_of};
 ghost use Rattle.sv39_entry.specs.declared.access.Mode.{Mode};
 
+use crate::line_word::{ALL, Word};
 use crate::requests::Request;
-use crate::words::{ALL, Word};
 use fault_texts::{Mistake, Place, field_at, field_count, quoted, wrong_number};
 use mmu::Width;
 use script_reader::number;

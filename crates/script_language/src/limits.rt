@@ -1,7 +1,7 @@
 // The limits of scripts and of files for threads (the input for processes on threads), each a constant that definitions, code
 // and texts read. Those of machines and processes are `process_model`'s.
 
-/// The most bytes of a line, without its end.
+/// The most bytes of a line, without its end: enough for `elf` and an image of 1 MiB in hexadecimal digits.
 pub const LONGEST_LINE: usize = 2_097_664;
 
 /// The most bytes of a script or of a file for threads.

@@ -44,6 +44,7 @@ fn knows_kinds(rt: HostRuntime) {
         (0x20080097, Kind::Leaf),
         (0x200800c7, Kind::Leaf),
         (0x200800d5, Kind::Invalid),
+        // pointers to frame 3 with A, D or U set
         (0x20000c41, Kind::Invalid),
         (0x20000c81, Kind::Invalid),
         (0x20000c11, Kind::Invalid),

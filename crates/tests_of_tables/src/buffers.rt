@@ -11,6 +11,9 @@ use std::test::Fail;
 use sv39_entry::{Access, FrameNo, Mode, Satp, Scheme, Va};
 use table_walk::{PlainWords, Walk};
 
+/// The frames of the memory: those of `DATA`, a superpage from frame 512 on, are inside.
+const FRAMES: usize = 1024;
+
 /// Word 0 of frame 1, the root: a pointer to frame 2.
 const POINTER: u64 = 0x20000801;
 
@@ -26,7 +29,7 @@ const NOWHERE: u64 = 0x000000d7;
 /// The words of `frames` frames: all are 0 but `POINTER`, and `word` at index 1 of frame 2.
 fn tables(alloc: Global, frames: usize, word: u64) -> Result<Vec<u64>, AllocError>
     requires some { 3 ≤ frames }
-    requires few { frames ≤ 1024 }
+    requires few { frames ≤ FRAMES }
 {
     let mut words = vec![in alloc; 0; frames * 512]?;
     words[512] = POINTER;
@@ -43,7 +46,7 @@ fn satp() -> Satp
 
 #[test]
 fn fences_whole_superpages(rt: HostRuntime) -> Result<(), Fail> {
-    let words = tables(rt.alloc(), 1024, DATA)?;
+    let words = tables(rt.alloc(), FRAMES, DATA)?;
     let mut memory = PlainWords::new(&words);
     let mut buffer: Buffer<32> = Buffer::new();
     buffer.fill(&mut memory, Scheme::Sv39, satp(), Va(0x200000));
@@ -59,7 +62,7 @@ fn fences_whole_superpages(rt: HostRuntime) -> Result<(), Fail> {
 /// A leaf in the root of Sv48 is removed by a fence of any address in its 512 GiB.
 #[test]
 fn fences_leaves_of_level_3(rt: HostRuntime) -> Result<(), Fail> {
-    let mut words = vec![in rt.alloc(); 0; 1024 * 512]?;
+    let mut words = vec![in rt.alloc(); 0; FRAMES * 512]?;
     words[512] = NOWHERE;
     let mut memory = PlainWords::new(&words);
     let satp = Satp::new(Scheme::Sv48, 7, FrameNo(1));
@@ -83,7 +86,7 @@ fn fences_leaves_of_level_3(rt: HostRuntime) -> Result<(), Fail> {
 
 #[test]
 fn fences_missing_leaves_at_each_address(rt: HostRuntime) -> Result<(), Fail> {
-    let words = tables(rt.alloc(), 1024, GLOBAL)?;
+    let words = tables(rt.alloc(), FRAMES, GLOBAL)?;
     let mut memory = PlainWords::new(&words);
     let mut buffer: Buffer<32> = Buffer::new();
     buffer.fill(&mut memory, Scheme::Sv39, satp(), Va(0x400000));
@@ -99,7 +102,7 @@ fn fences_missing_leaves_at_each_address(rt: HostRuntime) -> Result<(), Fail> {
 
 #[test]
 fn keeps_the_last_32(rt: HostRuntime) -> Result<(), Fail> {
-    let words = tables(rt.alloc(), 1024, DATA)?;
+    let words = tables(rt.alloc(), FRAMES, DATA)?;
     let mut memory = PlainWords::new(&words);
     let mut buffer: Buffer<32> = Buffer::new();
     for n in 0..33 {
@@ -117,7 +120,7 @@ fn keeps_the_last_32(rt: HostRuntime) -> Result<(), Fail> {
 #[test]
 fn keeps_nothing_of_access_faults(rt: HostRuntime) -> Result<(), Fail> {
     let mut buffer: Buffer<32> = Buffer::new();
-    for (frames, word) in [(3, DATA), (1024, NOWHERE), (1024, 0x00000001)] {
+    for (frames, word) in [(3, DATA), (FRAMES, NOWHERE), (FRAMES, 0x00000001)] {
         let words = tables(rt.alloc(), frames, word)?;
         buffer.fill(
             &mut PlainWords::new(&words),
@@ -134,7 +137,7 @@ fn keeps_nothing_of_access_faults(rt: HostRuntime) -> Result<(), Fail> {
 fn answers_by_entries(rt: HostRuntime) -> Result<(), Fail> {
     let (load, fetch) = (Access::Load, Access::Fetch);
     let (user, kernel) = (Mode::User, Mode::Supervisor);
-    let words = tables(rt.alloc(), 1024, DATA)?;
+    let words = tables(rt.alloc(), FRAMES, DATA)?;
     let mut memory = PlainWords::new(&words);
     let mut buffer: Buffer<32> = Buffer::new();
     for address in [0x234567, 0x400000, 0x234fff] {
@@ -174,7 +177,7 @@ fn answers_by_entries(rt: HostRuntime) -> Result<(), Fail> {
 
 #[test]
 fn shows_what_entries_keep(rt: HostRuntime) -> Result<(), Fail> {
-    let words = tables(rt.alloc(), 1024, GLOBAL)?;
+    let words = tables(rt.alloc(), FRAMES, GLOBAL)?;
     let mut memory = PlainWords::new(&words);
     let mut buffer: Buffer<2> = Buffer::new();
     buffer.fill(&mut memory, Scheme::Sv39, satp(), Va(0x234567));

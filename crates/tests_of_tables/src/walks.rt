@@ -17,6 +17,9 @@ use table_walk::{
     protect, release_tables, translate, unmap, walks_of_tables,
 };
 
+/// The frames of the memory: those of `DATA`, a superpage from frame 512 on, are inside.
+const FRAMES: usize = 1024;
+
 /// Word 0 of frame 1: a pointer to frame 2.
 const POINTER: u64 = 0x20000801;
 
@@ -32,6 +35,9 @@ const DATA: u64 = 0x200800d7;
 /// `DATA` with a reserved bit set.
 const RESERVED: u64 = 0x00400000200800d7;
 
+/// A pointer to frame 3 with A set, which is reserved.
+const ACCESSED_POINTER: u64 = 0x20000c41;
+
 /// `DATA` without D.
 const CLEAN: u64 = 0x20080057;
 
@@ -44,7 +50,7 @@ type Row = (u64, Access, u64, Mode, Walk);
 /// The words of `frames` frames: all are 0 but `POINTER`, `UPPER`, and `word` at index 1 of frame 2.
 fn tables(alloc: Global, frames: usize, word: u64) -> Result<Vec<u64>, AllocError>
     requires some { 4 ≤ frames }
-    requires few { frames ≤ 1024 }
+    requires few { frames ≤ FRAMES }
 {
     let mut words = vec![in alloc; 0; frames * 512]?;
     words[512] = POINTER;
@@ -73,7 +79,7 @@ fn translates_accesses(rt: HostRuntime) -> Result<(), Fail> {
         (KERNEL, load, 0x200000, user, Walk::PageFault(13)),
         (KERNEL, load, 0x200000, kernel, mapped(KERNEL, 0x80200000)),
         (0x200800d5, load, 0x200000, user, Walk::PageFault(13)),
-        (0x20000c41, load, 0x200000, user, Walk::PageFault(13)),
+        (ACCESSED_POINTER, load, 0x200000, user, Walk::PageFault(13)),
         (0x000000d7, load, 0x200000, user, Walk::AccessFault(5)),
         (0x00000001, store, 0x200000, user, Walk::AccessFault(7)),
         (0x000000c7, load, 0x200000, user, Walk::PageFault(13)),
@@ -81,7 +87,7 @@ fn translates_accesses(rt: HostRuntime) -> Result<(), Fail> {
         (DATA, load, 0xffffffc000000000, user, Walk::PageFault(13)),
     ];
     for (word, access, address, mode, outcome) in rows {
-        let words = tables(rt.alloc(), 1024, word)?;
+        let words = tables(rt.alloc(), FRAMES, word)?;
         let mut memory = PlainWords::new(&words);
         for (scheme, root) in ROOTS {
             assert_eq!(rt;
@@ -98,7 +104,7 @@ fn translates_accesses(rt: HostRuntime) -> Result<(), Fail> {
 /// first of the upper half. That of the one at index 1 is not.
 #[test]
 fn walks_from_the_root(rt: HostRuntime) -> Result<(), Fail> {
-    let mut words = vec![in rt.alloc(); 0; 1024 * 512]?;
+    let mut words = vec![in rt.alloc(); 0; FRAMES * 512]?;
     words[512] = 0x000000d7;
     words[512 + 1] = DATA;
     words[512 + 256] = 0x000000d7;

@@ -3,11 +3,11 @@
 //! fault on standard error and by its exit status. `--version` prints the version.
 #![tactic(auto)]
 
+mod command_line;
 mod fault;
-mod words;
 
+use crate::command_line::{CommandLine, Task};
 use crate::fault::Fault;
-use crate::words::{Task, Words};
 use audit_player::{PlayError, Reader, Writer, play, play_threads};
 use std::alloc::Global;
 use std::io::{Read, Write};
@@ -67,12 +67,12 @@ fn play_file<T: Threads + Wait + Sync>(
 /// `Usage`: the command line is wrong. `Play`: the file cannot be opened or the version not be printed (`Io`), or an error of the
 /// player.
 fn run<T: Threads + Wait + Sync>(rt: &HostRuntime, threads: &T) -> Result<(), Fault> {
-    match Words::from_env(rt)? {
-        Words::Version => match println!(rt; "xv6vm {VERSION}") {
+    match CommandLine::from_env(rt)? {
+        CommandLine::Version => match println!(rt; "xv6vm {VERSION}") {
             Ok(()) => Ok(()),
             Err(_) => Err(Fault::Play(PlayError::Io)),
         },
-        Words::File(task, file) => {
+        CommandLine::File(task, file) => {
             play_file(rt, threads, task, file.as_str())?;
             Ok(())
         }

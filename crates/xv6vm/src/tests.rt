@@ -1,8 +1,8 @@
-// Tests that `Words::parse` accepts the right command lines and refuses the others, and that each `Fault` has its message
+// Tests that `CommandLine::parse` accepts the right command lines and refuses the others, and that each `Fault` has its message
 // and exit status: 1 for an error of the player, 2 for a wrong command line.
 
+use crate::command_line::{CommandLine, Task};
 use crate::fault::Fault;
-use crate::words::{Task, Words};
 use audit_player::PlayError;
 use script_language::Cause;
 use std::alloc::Global;
@@ -10,7 +10,7 @@ use std::io;
 use std::test::Fail;
 
 /// Parses a command line; the error is the exit status of the program, or 0 if the test has no memory.
-fn asked_or_status(alloc: Global, words: &[&str]) -> Result<Words, u8> {
+fn asked_or_status(alloc: Global, words: &[&str]) -> Result<CommandLine, u8> {
     let mut owned = Vec::new(alloc);
     for word in words {
         let Ok(word) = String::from_str(alloc, word) else {
@@ -20,7 +20,7 @@ fn asked_or_status(alloc: Global, words: &[&str]) -> Result<Words, u8> {
             return Err(0);
         }
     }
-    match Words::parse(alloc, owned.as_slice()) {
+    match CommandLine::parse(alloc, owned.as_slice()) {
         Ok(words) => Ok(words),
         Err(fault) => Err(fault.status()),
     }
@@ -53,14 +53,14 @@ fn reads_the_words(rt: HostRuntime) -> Result<(), Fail> {
         ),
     ];
     for (words, task, file) in accepted {
-        let Ok(Words::File(said, path)) = asked_or_status(rt.alloc(), words) else {
+        let Ok(CommandLine::File(said, path)) = asked_or_status(rt.alloc(), words) else {
             return Err(Fail::from("words"));
         };
         assert_eq!(rt; said, task);
         assert_eq!(rt; path.as_str(), file);
     }
     for words in [&["xv6vm", "--version"], &["xv6vm", "-V"]] {
-        assert!(rt; matches!(asked_or_status(rt.alloc(), words), Ok(Words::Version)));
+        assert!(rt; matches!(asked_or_status(rt.alloc(), words), Ok(CommandLine::Version)));
     }
     let refused: [&[&str]; 21] = [
         &["xv6vm"],

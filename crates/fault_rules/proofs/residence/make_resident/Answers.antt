@@ -62,13 +62,11 @@ returns-in_default-clause-of_file g c e is t p can =
     let body = same_body g.S.FrameSeat.view c.settled_page.new.self c.args.space.now read.reads.view read.reads.root read.reads.trapframe read.reads.layout in
     c.settle_initial.ensures.of_file e is t p (subst (λ b. CanMakeResident b t p c.args.access c.args.page) (sym body) can)
 
-pub returns-in_default-clause-view_stays : goal.returns-in_default-clause-view_stays
-returns-in_default-clause-view_stays g c e is =
-    c.settle_initial.ensures.view_stays e is ∙ c.settled_page.ensures.reads.view
-
-pub returns-in_default-clause-store_stays : goal.returns-in_default-clause-store_stays
-returns-in_default-clause-store_stays g c e is =
-    c.settle_initial.ensures.store_stays e is ∙ c.settled_page.ensures.reads.same
+pub returns-in_default-clause-stays : goal.returns-in_default-clause-stays
+returns-in_default-clause-stays g c e is =
+    let left = c.settle_initial.ensures.stays e is in
+    let read = c.settled_page.ensures.reads in
+    record { layout = left.layout ∙ read.layout; view = left.view ∙ read.view; store = left.store ∙ read.same }
 
 pub returns-in_default-clause-moves : goal.returns-in_default-clause-moves
 returns-in_default-clause-moves g c none t p can =

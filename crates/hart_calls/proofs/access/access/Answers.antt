@@ -84,7 +84,7 @@ returns-in-Ended-clause-call_result g c = λ k is t p space.
             ends_dry_by files p a k is wide x y _ _ _ c.in-Ended.rule both.1 none not dry.0 dry.1 (subst (λ (v : View). RunsDry v (g.S.FrameSeat.view c.serve.new.space.seat) (resident_need (is_shared_by dry.0) p c.args.request.access (page_of c.args.request.va.0)) (option_to_list dry.0)) n.reads.view dry.2) (t, whole) moves
       ],
       elim why as (λ _. ClaimsNone x.view y.view) [
-        | inl by ↦ ap (λ (v : View). v.tallies.claims) (e.view_stays ((λ is. cc), not_dry files p a c.in-Ended.rule by) ∙ n.reads.view)
+        | inl by ↦ ap (λ (v : View). v.tallies.claims) ((e.stays ((λ is. cc), not_dry files p a c.in-Ended.rule by)).view ∙ n.reads.view)
         | inr both ↦
             let dry = e.dry (ap served.Ended both.1) t p (can_reside (body_of g.S.FrameSeat.view c.translate-walk.new.self) t p c.args.request.access c.args.request.va.0 c.args.request.width here both.0) in
             dry.2.claims ∙ ap (λ (v : View). v.tallies.claims) n.reads.view
@@ -101,8 +101,8 @@ returns-in-Unserved-clause-call_result g c = λ k is t p space.
       record {
         could = (c.args.files.now, x.0, g.met.C.Files.stays c.args.files.now, x.1, x.2);
         of_file = access_reads_file (g.C.Files.files c.args.files.now) p k (request_of c.args.request) is (let w = c.is_width.ensures in let f = c.if-not-is_width.false in cc) (e.of_file c.in-Unserved.refusal refl t p here);
-        claims = ap (λ (v : View). v.tallies.claims) (e.view_stays ((λ is. cc), (λ is. cc)) ∙ n.reads.view);
-        space = (t, still_space g.S.FrameSeat.view c.translate-walk.new.self c.serve.new.space (e.view_stays ((λ is. cc), (λ is. cc))) e.place.root e.place.trapframe e.place.layout t p here);
+        claims = ap (λ (v : View). v.tallies.claims) ((e.stays ((λ is. cc), (λ is. cc))).view ∙ n.reads.view);
+        space = (t, still_space g.S.FrameSeat.view c.translate-walk.new.self c.serve.new.space (e.stays ((λ is. cc), (λ is. cc))).view e.place.root e.place.trapframe e.place.layout t p here);
         moves = e.files_stay c.in-Unserved.refusal refl;
       },
     )

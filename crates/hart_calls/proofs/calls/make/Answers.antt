@@ -1,5 +1,6 @@
 use Rattle.std.proofs.Common.{◌≤◌, ap, List, ℕ, of_z, refl, rules, SFits, subst, to_z, w64, ℤ}
 use Rattle.std.proofs.lemmas.Int.{to_z-of_z}
+use Rattle.std.proofs.lemmas.Result.{IfErr-weaker}
 use Rattle.address_space.specs.Accesses.{request_of}
 use Rattle.address_space.specs.Agreement.{body_of}
 use Rattle.hart_calls.specs.ReplyCases.{size_or_refused}
@@ -40,7 +41,7 @@ returns-in-Sbrk-clause-call_result g c =
     let y = body_of g.S.FrameSeat.view c.sbrk.new.space in
     let files = g.C.Files.files c.args.files.now in
     subst (λ (z : ℤ). IsCallResult x y files (λ (moves : List PageMove). g.C.Files.becomes c.args.files.now moves c.args.files.now) (RefusesPromise g.C.Files.becomes g.C.Files.can_refuse c.args.files.now) (λ (n : ℕ). n ≤ g.C.Files.room c.args.files.now) p (call.Sbrk z) (size_or_refused c.sbrk.result)) (to_z-of_z w64 c.in-Sbrk.delta fits)
-    (came_sbrk x y files (λ (moves : List PageMove). g.C.Files.becomes c.args.files.now moves c.args.files.now) (g.C.Files.can_refuse c.args.files.now) (RefusesPromise g.C.Files.becomes g.C.Files.can_refuse c.args.files.now) _ t p (to_z w64 (of_z w64 c.in-Sbrk.delta)) c.sbrk.result e.answer e.resized e.layout_stays e.view_stays
+    (came_sbrk x y files (λ (moves : List PageMove). g.C.Files.becomes c.args.files.now moves c.args.files.now) (g.C.Files.can_refuse c.args.files.now) (RefusesPromise g.C.Files.becomes g.C.Files.can_refuse c.args.files.now) _ t p (to_z w64 (of_z w64 c.in-Sbrk.delta)) c.sbrk.result e.answer e.resized (IfErr-weaker c.sbrk.result _ _ (λ e stays. stays.layout) e.stays) (IfErr-weaker c.sbrk.result _ _ (λ e stays. stays.view) e.stays)
     (ap (λ (f : FrameNo). f.0) e.root) (ap (λ (f : FrameNo). f.0) e.trapframe) (g.met.C.Files.stays c.args.files.now) space))
 
 pub returns-in-Mmap-clause-call_result : goal.returns-in-Mmap-clause-call_result
@@ -53,7 +54,7 @@ pub returns-in-Munmap-clause-call_result : goal.returns-in-Munmap-clause-call_re
 returns-in-Munmap-clause-call_result g c = rw (c.in-Munmap.is, c.done.ensures) (λ t p space.
     let e = c.munmap.ensures in
     came_unmap (body_of g.S.FrameSeat.view c.args.space.now) (body_of g.S.FrameSeat.view c.munmap.new.space) (g.C.Files.files c.args.files.now) _ (g.C.Files.can_refuse c.args.files.now) (RefusesPromise g.C.Files.becomes g.C.Files.can_refuse c.args.files.now) _ t p (λ n e could. (g.met.C.Files.asks c.args.files.now n e could, (c.args.files.now, e, g.met.C.Files.stays c.args.files.now, could, refl))) c.in-Munmap.address c.in-Munmap.length (g.C.Files.files c.munmap.new.files) c.munmap.result
-    e.unmapped e.moves e.refused e.files_stay e.layout_stays e.view_stays (ap (λ (f : FrameNo). f.0) e.root) (ap (λ (f : FrameNo). f.0) e.trapframe) space)
+    e.unmapped e.moves e.refused e.files_stay (IfErr-weaker c.munmap.result _ _ (λ e stays. stays.layout) e.stays) (IfErr-weaker c.munmap.result _ _ (λ e stays. stays.view) e.stays) (ap (λ (f : FrameNo). f.0) e.root) (ap (λ (f : FrameNo). f.0) e.trapframe) space)
 
 pub unreachable-requires : goal.unreachable-requires
 unreachable-requires g c =

@@ -1,3 +1,4 @@
+use Rattle.std.proofs.lemmas.Result.{IfErr-weaker}
 use Rattle.tests_of_mappings.proofs.Living.{alive_as, alive_unmapped}
 use Rattle.tests_of_mappings.proofs.perform.perform.Goals as goal
 
@@ -10,4 +11,4 @@ returns-in-Err-clause-alive g c = alive_as _ _ _ c.mmap.ensures.agrees c.require
 pub returns-in-Unmap-clause-alive : goal.returns-in-Unmap-clause-alive
 returns-in-Unmap-clause-alive g c =
     let asked = c.munmap.ensures in
-    alive_unmapped _ _ _ _ _ _ _ _ _ _ _ _ c.munmap.result asked.unmapped asked.view_stays asked.root asked.trapframe asked.layout_stays c.requires.alive
+    alive_unmapped _ _ _ _ _ _ _ _ _ _ _ _ c.munmap.result asked.unmapped (IfErr-weaker c.munmap.result _ _ (λ e stays. stays.view) asked.stays) asked.root asked.trapframe (IfErr-weaker c.munmap.result _ _ (λ e stays. stays.layout) asked.stays) c.requires.alive

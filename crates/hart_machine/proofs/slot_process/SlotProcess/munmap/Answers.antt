@@ -28,7 +28,7 @@ returns-in_err-munmap-clause-stays c =
     let x = c.has_settled-released.new.self in
     let e = c.munmap.ensures in
     let r = c.in_err-munmap.ensures in
-    rw told.1 (same_tenant x c.munmap.new.space r.view_stays e.root e.trapframe r.layout_stays ∙ c.has_settled-released.ensures.same)
+    rw told.1 (same_tenant x c.munmap.new.space r.stays.view e.root e.trapframe r.stays.layout ∙ c.has_settled-released.ensures.same)
 
 pub returns-clause-unmapped : goal.returns-clause-unmapped
 returns-clause-unmapped c = λ t p slot_process.

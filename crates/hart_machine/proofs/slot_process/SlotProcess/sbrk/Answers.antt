@@ -30,7 +30,7 @@ returns-in_err-before-clause-stays c =
     let x = c.loses_page-released.new.self in
     let e = c.sbrk.ensures in
     let r = c.in_err-before.ensures in
-    rw told.1 (same_tenant x c.sbrk.new.space r.view_stays e.root e.trapframe r.layout_stays ∙ c.loses_page-released.ensures.same)
+    rw told.1 (same_tenant x c.sbrk.new.space r.stays.view e.root e.trapframe r.stays.layout ∙ c.loses_page-released.ensures.same)
 
 pub returns-clause-answer : goal.returns-clause-answer
 returns-clause-answer c t p slot_process =

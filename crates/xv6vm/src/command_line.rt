@@ -1,4 +1,4 @@
-// `Words` (enum): a parsed command line, `xv6vm play FILE`, `xv6vm threads FILE --harts N` or `xv6vm --version`: a task (`Task`,
+// `CommandLine` (enum): a parsed command line, `xv6vm play FILE`, `xv6vm threads FILE --harts N` or `xv6vm --version`: a task (`Task`,
 // enum) with its file, or the version; `parse` and `from_env` make one; conversions of errors of the host, the arguments and the
 // parser to `Fault`.
 
@@ -25,7 +25,7 @@ pub enum Task {
 
 /// A parsed command line.
 #[derive(Debug, Drop)]
-pub enum Words {
+pub enum CommandLine {
     /// It asks for the version.
     Version,
     /// What to do, and the path of the script or of the file for threads, `-` for standard input.
@@ -93,15 +93,15 @@ fn command<'a>(alloc: Global) -> Result<Command<'a>, AllocError> {
         .subcommand(threads)
 }
 
-impl Words {
+impl CommandLine {
     /// Returns the parsed command line with which the program was started.
     ///
     /// # Errors
     /// `Usage`: it is wrong, or not valid text. `Play(Memory)`: host memory was refused.
-    pub fn from_env(rt: &HostRuntime) -> Result<Words, Fault> {
+    pub fn from_env(rt: &HostRuntime) -> Result<CommandLine, Fault> {
         let all = env::args(rt)?;
         let words: Vec<String> = all.collect(rt.alloc())?;
-        Words::parse(rt.alloc(), words.as_slice())
+        CommandLine::parse(rt.alloc(), words.as_slice())
     }
 
     /// Returns the parsed command line for its words, the program's name first: task and file of `xv6vm play FILE`, or of
@@ -109,10 +109,12 @@ impl Words {
     ///
     /// # Errors
     /// `Usage`: the words are none of these. `Play(Memory)`: host memory was refused.
-    pub fn parse(alloc: Global, words: &[String]) -> Result<Words, Fault> {
+    pub fn parse(alloc: Global, words: &[String]) -> Result<CommandLine, Fault> {
         let matches = match command(alloc)?.try_get_matches_from(words) {
             Ok(matches) => matches,
-            Err(error) if error.kind() == ErrorKind::DisplayVersion => return Ok(Words::Version),
+            Err(error) if error.kind() == ErrorKind::DisplayVersion => return Ok(
+                CommandLine::Version,
+            ),
             Err(error) => return Err(Fault::from(error)),
         };
         let Some((name, given)) = matches.subcommand() else {
@@ -123,13 +125,13 @@ impl Words {
         };
         let file = String::from_str(alloc, file)?;
         if name == "play" {
-            return Ok(Words::File(Task::Play, file));
+            return Ok(CommandLine::File(Task::Play, file));
         }
         let Some(harts) = given.get_str("harts") else {
             return Err(Fault::Usage);
         };
         match harts_of(harts) {
-            Some(harts) => Ok(Words::File(Task::Threads(harts), file)),
+            Some(harts) => Ok(CommandLine::File(Task::Threads(harts), file)),
             None => Err(Fault::Usage),
         }
     }

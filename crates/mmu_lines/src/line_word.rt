@@ -2,7 +2,7 @@
 
 ghost use Rattle.std.specs.Prelude.{◌≡◌, IfNone, IfSome};
 ghost use Rattle.mmu_lines.specs.Lines.{counts, word_text};
-ghost use Rattle.mmu_lines.specs.declared.words.Word.{Word};
+ghost use Rattle.mmu_lines.specs.declared.line_word.Word.{Word};
 
 /// The first field of a line.
 #[derive(Clone, Copy, PartialEq, Eq, Debug)]

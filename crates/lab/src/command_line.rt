@@ -1,4 +1,4 @@
-// `Words` (struct): a parsed command line of `xv6lab`: its task (`Task`, enum) with its files; `parse` makes one.
+// `CommandLine` (struct): a parsed command line of `xv6lab`: its task (`Task`, enum) with its files; `parse` makes one.
 
 use crate::fault::Fault;
 use clap::{Arg, ArgAction, ArgMatches, Command};
@@ -30,7 +30,7 @@ pub enum Task {
 
 /// A parsed command line.
 #[derive(Debug, Drop)]
-pub struct Words {
+pub struct CommandLine {
     pub task: Task,
     /// The paths of the scripts, `-` for standard input; none for `Repl`.
     pub files: Vec<String>,
@@ -159,7 +159,7 @@ fn task_of(name: &str, given: &ArgMatches<'_>) -> Task {
     }
 }
 
-impl Words {
+impl CommandLine {
     /// Returns the path of the only script, or of the first; `-` if there is none.
     pub fn file(&self) -> &str {
         match self.files.first() {
@@ -171,12 +171,12 @@ impl Words {
     /// Returns the parsed command line for its words, the program's name first.
     ///
     /// # Errors
-    /// `Words`: they are wrong, or ask for help or the version. `Memory`: the host is out of memory.
-    pub fn parse(alloc: Global, words: &[String]) -> Result<Words, Fault> {
+    /// `CommandLine`: they are wrong, or ask for help or the version. `Memory`: the host is out of memory.
+    pub fn parse(alloc: Global, words: &[String]) -> Result<CommandLine, Fault> {
         let matches = command(alloc)?.try_get_matches_from(words)?;
         let mut files = Vec::new(alloc);
         let Some((name, given)) = matches.subcommand() else {
-            return Ok(Words {
+            return Ok(CommandLine {
                 task: Task::Repl,
                 files,
                 out: String::new(alloc),
@@ -193,7 +193,7 @@ impl Words {
                 files.push(file).map_err(AllocError::from)?;
             }
         }
-        Ok(Words {
+        Ok(CommandLine {
             task,
             files,
             out: String::from_str(alloc, out)?,
