@@ -2,7 +2,7 @@
 -- and world (the model's state) are the model's after one hart changed, after `Switch` (`switches`) and after `Next`
 -- (`goes_on`), with their refusals.
 use Rattle.std.proofs.Common.{◌≡◌, ℕ, zero, suc, ◌+◌, ◌==◌, ◌<◌, get_or, filter, ◌⊎◌, inl, inr, Bool, true, false, Option, None, Some, option_map, is_some, List, [], ◌∷◌, map, not, ◌||◌, ◌&&◌, refl, ap, sym, subst, ◌∙◌, arith, if◌then◌else◌}
-use Rattle.std.specs.Prelude.{Contains, slice_get, slice_set, unwrap_or}
+use Rattle.std.specs.Prelude.{Contains, option_and_then, slice_get, slice_set, unwrap_or}
 use Rattle.std.specs.List.{list_any}
 use Rattle.std.specs.Vec.{vec_len, with_item}
 use Rattle.std.proofs.lemmas.Bool.{cases_eq, eq-eqb, ne_eqb}
@@ -85,6 +85,25 @@ pub record HasHart (m : Machine) (w : World) (h : ℕ) (p : Phase) : Type 0 wher
   pub phased : hart.phase ≡ p
   pub in_model : slice_get w.harts h ≡ Some (hart_of hart)
   pub within : h < vec_len m.harts
+
+-- phase and slot of the hart that is there
+
+abbrev placed : Option Hart → Option (Phase × Option ℕ)
+placed = option_map (λ x. (x.phase, x.slot))
+
+pub no_place : (harts : List Hart) (h : ℕ) → None ≡ placed (slice_get harts h) → None ≡ option_map (λ x. x.phase) (slice_get harts h)
+no_place harts h none = go (slice_get harts h) none where
+  go : (o : Option Hart) → None ≡ placed o → None ≡ option_map (λ x. x.phase) o
+  go None e = refl
+  go (Some x) e = absurd (cc)
+
+pub phase_placed : (o : Option Hart) (p : Phase) (s : Option ℕ) → Some (p, s) ≡ placed o → Some p ≡ option_map (λ x. x.phase) o
+phase_placed None p s e = absurd (cc)
+phase_placed (Some x) p s e = ap Some (ap (λ q. q.0) (same_Some (p, s) (x.phase, x.slot) e))
+
+pub slot_placed : (o : Option Hart) (p : Phase) (s : Option ℕ) → Some (p, s) ≡ placed o → s ≡ option_and_then (λ x. x.slot) o
+slot_placed None p s e = absurd (cc)
+slot_placed (Some x) p s e = ap (λ q. q.1) (same_Some (p, s) (x.phase, x.slot) e)
 
 module _ (m : Machine) (w : World) (is : IsWorld m w) where
   hart_in : (h : ℕ) → slice_get w.harts h ≡ option_map hart_of (slice_get m.harts.items h)

@@ -46,13 +46,6 @@ unmoved m n same = record {
   below = λ s x y p t at_m at_n a. (p, subst (λ (z : SlotProcess). IsSlotProcess z t p) (same_Some x y (same_Some _ _ (sym at_m ∙ ap (λ xs. slice_get xs s) (sym same.0) ∙ at_n))) a);
 }
 
-pub moved_twice : (m n o : Machine) → SamePlaces m n → SameTables n o → SameTables m o
-moved_twice m n o first then = record {
-  many = then.many ∙ ap length first.0;
-  kernel = then.kernel ∙ first.1;
-  below = λ s x y p t at_m at_o a. then.below s x y p t (ap (λ xs. slice_get xs s) first.0 ∙ at_m) at_o a;
-}
-
 pub same_places : (m n : Machine) (before after : List (Option Process)) → SamePlaces m n → KeepsTables m n before after
 same_places m n before after same = same_tables m n before after (unmoved m n same)
 

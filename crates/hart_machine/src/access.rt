@@ -5,7 +5,7 @@ ghost use Rattle.std.specs.Prelude.{◌≡◌, IsTrue, slice_get, Some};
 ghost use Rattle.frame_store.specs.Laws.{IsSeatOf, KeepsSeats};
 ghost use Rattle.frame_store.specs.Plain.{PlainStateRule};
 ghost use Rattle.address_space.specs.Accesses.{request_of};
-ghost use Rattle.hart_machine.specs.Accesses.{pending_after};
+ghost use Rattle.hart_machine.specs.Accesses.{IsWalked, pending_after};
 ghost use Rattle.hart_machine.specs.Buffers.{SameBuffers};
 ghost use Rattle.hart_machine.specs.SlotProcesses.{IsSlotProcess, pending_of, view_of};
 ghost use Rattle.table_walk.specs.Leaves.{walk_answer};
@@ -26,7 +26,7 @@ use crate::slot_process::{Pending, SlotProcess};
 use address_space::AccessRequest;
 use frame_store::PlainFrames;
 use process_model::{Phase, Refusal, ScalarReply, is_width};
-use sv39_entry::Mode;
+use sv39_entry::{Access, Mode, Va};
 use table_walk::Walk;
 
 impl Machine {
@@ -47,7 +47,7 @@ impl Machine {
         ensures buffers { SameBuffers self.old self.new }
         ensures tables { SameTables self.old self.new }
     {
-        let Some(phase) = self.phase_of(hart) else {
+        let Some((phase, on)) = self.place_of(hart) else {
             return ScalarReply::Refused(Refusal::BadArgument);
         };
         if !is_width(request.width) {
@@ -56,27 +56,33 @@ impl Machine {
         if !is_user(phase) {
             return ScalarReply::Refused(Refusal::Impossible(phase));
         }
-        let Some(slot) = self.slot_of(hart) else {
+        let Some(slot) = on else {
             return ScalarReply::Refused(Refusal::Impossible(phase));
         };
-        // the translation, which judges the rights, precedes every read or write of bytes
-        let Ok(walk) = self.translate_access(hart, via, request.va, request.access, Mode::User)
-        else {
+        let by_entry = self.outcome_by_entry(hart, via, request.va, request.access, Mode::User);
+        let Ok(by_entry) = by_entry else {
             return ScalarReply::Refused(Refusal::NoEntry);
         };
-        let reply = self.answered(slot, walk, request);
+        let reply = self.answered(slot, by_entry, request);
         if let ScalarReply::Fault(_) = reply {
             self.harts[hart].phase = Phase::Enter0;
         }
         reply
     }
 
-    /// Makes an access of the process in a slot, with what it was translated to, and returns the reply, a fault included.
-    fn answered(&mut self, slot: usize, walk: Walk, request: AccessRequest) -> ScalarReply
-        requires ready { (w : World) × (is : IsWorld self.old w) × (x : SlotProcess) × (slice_get self.old.slots.items slot ≡ Some (Some x)) × (walk ≡ walk_answer w.scheme (is.tables slot) request.va.0 request.access User) }
+    /// Makes an access of the process in a slot, by the outcome of a buffer entry or, if there is none, by a walk; returns the
+    /// reply, a fault included.
+    fn answered(
+        &mut self,
+        slot: usize,
+        by_entry: Option<Walk>,
+        request: AccessRequest,
+    ) -> ScalarReply
+        requires ready { (w : World) × (is : IsWorld self.old w) × (x : SlotProcess) × (slice_get self.old.slots.items slot ≡ Some (Some x))
+            × IsWalked w.scheme (is.tables slot) request.va.0 request.access by_entry }
         requires width { IsTrue (bytes.is_width request.width) }
         ensures made { (w : World) (is : IsWorld self.old w) (p : Process) → slice_get w.slots slot ≡ Some (Some p)
-            → walk ≡ walk_answer w.scheme (is.tables slot) request.va.0 request.access User
+            → IsWalked w.scheme (is.tables slot) request.va.0 request.access by_entry
             → (reply_of_scalar result ≡ (service.user_access p (request_of request)).reply)
             × IsWorld self.new (with_process w slot (service.user_access p (request_of request)).process) }
         ensures harts { self.new.harts ≡ self.old.harts }
@@ -87,31 +93,55 @@ impl Machine {
         let Some(slot_process) = &mut slots[slot] else {
             unreachable!()
         };
-        slot_process.access(frames, walk, request)
+        slot_process.access(frames, by_entry, request)
     }
 }
 
 impl SlotProcess {
-    /// Makes an access, with what it was translated to, and returns the reply. After a fault the access is pending, and after
-    /// an answer none is.
+    /// Makes an access, by the outcome of a buffer entry or, if there is none, by a walk, and returns the reply. After a fault
+    /// the access is pending, and after an answer none is.
     fn access(
         &mut self,
         frames: &mut PlainFrames,
-        walk: Walk,
+        by_entry: Option<Walk>,
         request: AccessRequest,
     ) -> ScalarReply
         requires fits { IsSeatOf PlainStateRule frames.old (view_of self.old) }
-        requires ready { (t : Tables) × (p : Process) × IsSlotProcess self.old t p × (walk ≡ walk_answer p.scheme t request.va.0 request.access User) }
+        requires ready { (t : Tables) × (p : Process) × IsSlotProcess self.old t p × IsWalked p.scheme t request.va.0 request.access by_entry }
         requires width { IsTrue (bytes.is_width request.width) }
-        ensures reply { (t : Tables) (p : Process) → IsSlotProcess self.old t p → walk ≡ walk_answer p.scheme t request.va.0 request.access User →
+        ensures reply { (t : Tables) (p : Process) → IsSlotProcess self.old t p → IsWalked p.scheme t request.va.0 request.access by_entry →
             reply_of_scalar result ≡ (service.user_access p (request_of request)).reply }
-        ensures after { (t : Tables) (p : Process) → IsSlotProcess self.old t p → walk ≡ walk_answer p.scheme t request.va.0 request.access User →
+        ensures after { (t : Tables) (p : Process) → IsSlotProcess self.old t p → IsWalked p.scheme t request.va.0 request.access by_entry →
             IsSlotProcess self.new t (service.user_access p (request_of request)).process }
         ensures keeps { KeepsSeats PlainStateRule frames.old (view_of self.old) frames.new (view_of self.new) }
     {
+        // the translation, which judges the rights, precedes every read or write of bytes
+        let walk = self.translated(frames, by_entry, request.va, request.access);
         let reply = self.space.user_access_scalar(frames, walk, request);
         self.keep_faulted(request, reply);
         reply
+    }
+
+    /// What a user access is translated to: the outcome of a buffer entry, or that of a walk if there is none.
+    #[inline(always)]
+    fn translated(
+        &mut self,
+        frames: &mut PlainFrames,
+        by_entry: Option<Walk>,
+        va: Va,
+        access: Access,
+    ) -> Walk
+        requires fits { IsSeatOf PlainStateRule frames.old (view_of self.old) }
+        requires ready { (t : Tables) × (p : Process) × IsSlotProcess self.old t p }
+        ensures walk { (t : Tables) (p : Process) → IsSlotProcess self.old t p → IsWalked p.scheme t va.0 access by_entry →
+            result ≡ walk_answer p.scheme t va.0 access User }
+        ensures same { self.new ≡ self.old }
+        ensures frames { frames.new ≡ frames.old }
+    {
+        match by_entry {
+            Some(walk) => walk,
+            None => self.space.translate(frames, va, access, Mode::User),
+        }
     }
 
     /// Sets the pending access after this reply to a request: the request if it faulted, else none. Each case writes the field

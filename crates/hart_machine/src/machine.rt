@@ -57,6 +57,16 @@ impl Machine {
         }
     }
 
+    /// The phase of a hart, and the slot of the process on it, if there is one; `None` if there is no such hart.
+    pub(crate) fn place_of(&self, hart: usize) -> Option<(Phase, Option<usize>)>
+        ensures { result ≡ option_map (λ x. (x.phase, x.slot)) (slice_get self.now.harts.items hart) }
+    {
+        match self.harts.get(hart) {
+            Some(hart) => Some((hart.phase, hart.slot)),
+            None => None,
+        }
+    }
+
     /// The slot of the process on a hart; `None` if there is no such hart, or no process on it.
     pub(crate) fn slot_of(&self, hart: usize) -> Option<usize>
         ensures { result ≡ option_and_then (λ x. x.slot) (slice_get self.now.harts.items hart) }

@@ -1,7 +1,7 @@
 // Translation on a hart: by a walk of the page table that its `satp` names (`SatpTable`, an enum: the kernel's or a
 // process's), or by an entry of its buffer (TLB); and fills of the buffer by such a walk.
 
-ghost use Rattle.std.specs.Prelude.{◌≡◌, IfOk, is_ok, option_map, slice_get, Some};
+ghost use Rattle.std.specs.Prelude.{◌≡◌, IfOk, IfSome, is_ok, option_map, slice_get, Some};
 ghost use Rattle.hart_machine.specs.Buffers.{BuffersAre};
 ghost use Rattle.hart_machine.specs.Harts.{hart_of};
 ghost use Rattle.hart_machine.specs.BufferEntries.{IsInWorld};
@@ -82,6 +82,35 @@ impl Machine {
             unreachable!()
         };
         Ok(self.walk(table, va, access, mode))
+    }
+
+    /// What the entry with number `via` of a hart's buffer makes of an access: the leaf with the physical address, or the fault;
+    /// `None` if `via` is `None`.
+    ///
+    /// # Errors
+    /// `NoEntry`: exactly when `via` names an entry that is not there, or is for another page or another ASID.
+    pub(crate) fn outcome_by_entry(
+        &self,
+        hart: usize,
+        via: Option<usize>,
+        va: Va,
+        access: Access,
+        mode: Mode,
+    ) -> Result<Option<Walk>, NoEntry>
+        requires world { (w : World) × IsWorld self.now w }
+        ensures serves { (w : World) (x : Hart) → IsWorld self.now w → slice_get self.now.harts.items hart ≡ Some x →
+            is_ok result ≡ entry_serves self.now.policy (hart_of x) va.0 via }
+        ensures walk { IfOk result (λ o. IfSome o (λ z. (w : World) (is : IsInWorld self.now w) (x : Hart) →
+            slice_get self.now.harts.items hart ≡ Some x → MayAsk self.now.kernel.scheme x va.0 →
+            IsTranslated self.now.kernel.scheme x (is.world).tables (is.world).kernel va.0 access mode z)) }
+    {
+        let Some(entry) = via else {
+            return Ok(None);
+        };
+        match self.translate_by_entry(hart, entry, va, access, mode) {
+            Ok(walk) => Ok(Some(walk)),
+            Err(NoEntry) => Err(NoEntry),
+        }
     }
 
     /// Translates an access by the entry with number `entry` of a hart's buffer.

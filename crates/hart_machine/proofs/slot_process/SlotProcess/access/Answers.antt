@@ -5,24 +5,34 @@ use Rattle.hart_machine.proofs.AccessingPages.{access_pending, access_wide}
 use Rattle.hart_machine.proofs.slot_process.SlotProcess.access.Goals as goal
 
 pub user_access_scalar-reply-requires : goal.user_access_scalar-reply-requires
-user_access_scalar-reply-requires c = let r = c.requires.ready in record {
-  fits = c.requires.fits;
-  ready = (r.0, r.1, r.2.agrees, r.3);
-  width = c.requires.width;
-}
+user_access_scalar-reply-requires c =
+    let r = c.requires.ready in
+    let e = c.translated-walk.ensures in
+    rw (e.same, e.frames) (record {
+      fits = c.requires.fits;
+      ready = (r.0, r.1, r.2.agrees, e.walk r.0 r.1 r.2 r.3);
+      width = c.requires.width;
+    })
 
 pub returns-clause-reply : goal.returns-clause-reply
-returns-clause-reply c t p slot_process walks = c.user_access_scalar-reply.ensures.reply t p slot_process.agrees walks
+returns-clause-reply c t p slot_process walks =
+    let e = c.translated-walk.ensures in
+    c.user_access_scalar-reply.ensures.reply t p (rw e.same slot_process.agrees) (e.walk t p slot_process walks)
 
 pub returns-clause-after : goal.returns-clause-after
 returns-clause-after c t p slot_process walks =
-    let reply = c.user_access_scalar-reply.ensures.reply t p slot_process.agrees walks in
+    let e = c.translated-walk.ensures in
+    let here = rw e.same slot_process.agrees in
+    let walk = e.walk t p slot_process walks in
+    let reply = c.user_access_scalar-reply.ensures.reply t p here walk in
     record {
-      agrees = rw c.keep_faulted.ensures.space (c.user_access_scalar-reply.ensures.after t p slot_process.agrees walks);
-      framed = rw (c.keep_faulted.ensures.space, c.user_access_scalar-reply.ensures.place.trapframe) slot_process.framed;
+      agrees = rw c.keep_faulted.ensures.space (c.user_access_scalar-reply.ensures.after t p here walk);
+      framed = rw (c.keep_faulted.ensures.space, c.user_access_scalar-reply.ensures.place.trapframe, e.same) slot_process.framed;
       pending = access_pending p (request_of c.args.request) ∙ sym (c.keep_faulted.ensures.pending ∙ ap (pending_after (request_of c.args.request)) reply);
       wide = access_wide p (request_of c.args.request) c.requires.width;
     }
 
 pub returns-clause-keeps : goal.returns-clause-keeps
-returns-clause-keeps c others rule = rw c.keep_faulted.ensures.space (c.user_access_scalar-reply.ensures.keeps others rule)
+returns-clause-keeps c others rule =
+    let e = c.translated-walk.ensures in
+    rw c.keep_faulted.ensures.space (c.user_access_scalar-reply.ensures.keeps others (rw (e.same, e.frames) rule))
