@@ -108,7 +108,8 @@ pub record IsShown (v : View) (t : Tables) (p : Process) (n : ℕ) (s : Page) : 
 -- k is the number of a leaf that the process has: TRAMPOLINE's, TRAPFRAME's or that of a settled page
 abbrev pub IsLeafNumber : Process → ℕ → Type 0
 IsLeafNumber p k =
-    (k ≡ leaf_node (trampoline_page p.scheme)) ⊎ ((k ≡ leaf_node (trapframe_page p.scheme)) ⊎ ((n : ℕ) × (s : Page) × (k ≡ leaf_node n) × (pages.get p.settled n ≡ Some s)))
+    (k ≡ leaf_node (trampoline_page p.scheme))
+    ⊎ ((k ≡ leaf_node (trapframe_page p.scheme)) ⊎ ((n : ℕ) × (s : Page) × (k ≡ leaf_node n) × (pages.get p.settled n ≡ Some s)))
 
 -- the leaves are those of the settled pages, which lie below TRAPFRAME, of TRAMPOLINE and of TRAPFRAME, and no others
 pub record ShowsPages (v : View) (trapframe : ℕ) (t : Tables) (p : Process) : Type 0 where
@@ -144,7 +145,8 @@ abbrev pub body_of : {S : Type 0} → (S → View) → Space S → Body
 body_of view x = body (view x.seat) x.root.0 x.trapframe.0 x.layout
 
 -- a law: a space's body depends on its seat's view, its root, its trapframe and its layout alone
-pub same_body : {S : Type 0} (view : S → View) (x y : Space S) → view x.seat ≡ view y.seat → x.root ≡ y.root → x.trapframe ≡ y.trapframe → x.layout ≡ y.layout → body_of view x ≡ body_of view y
+pub same_body : {S : Type 0} (view : S → View) (x y : Space S) → view x.seat ≡ view y.seat → x.root ≡ y.root → x.trapframe ≡ y.trapframe
+    → x.layout ≡ y.layout → body_of view x ≡ body_of view y
 same_body view x y seat root trapframe layout = λ i. record { view = seat i; root = (root i).0; trapframe = (trapframe i).0; layout = layout i }
 
 -- the space x is the process p, by the tables t: p is sound (its regions are in order, each settled page is tabled), x has

@@ -2,7 +2,8 @@
 -- which rights a page is mapped (frames at their own addresses, the trampoline, a stack for each slot of the process table);
 -- the outcome of a kernel access; which tables this needs, and how many; what the seat (an owner's capability at a frame
 -- store) holds; and the whole table, `IsKernelTable`. No leaf is for the user. With one law.
-use Rattle.std.specs.Prelude.{◌≡◌, ℕ, zero, suc, Bool, true, false, ◌+◌, ◌-◌, ◌*◌, ◌/◌, ◌%◌, ◌^◌, ◌<◌, ◌≤◌, ◌==◌, ◌&&◌, ◌||◌, nat_le, nat_lt, if◌then◌else◌, Option, None, Some, option_map, is_some, List, [], ◌∷◌, length, slice_get}
+use Rattle.std.specs.Prelude.{◌≡◌, ℕ, zero, suc, Bool, true, false, ◌+◌, ◌-◌, ◌*◌, ◌/◌, ◌%◌, ◌^◌, ◌<◌, ◌≤◌, ◌==◌, ◌&&◌, ◌||◌, nat_le}
+use Rattle.std.specs.Prelude.{nat_lt, if◌then◌else◌, Option, None, Some, option_map, is_some, List, [], ◌∷◌, length, slice_get}
 use Rattle.std.proofs.Common.{subst}
 use Rattle.std.proofs.lemmas.Bool.{ne_eqb}
 use Rattle.std.specs.FinMap.{FinMap, get}
@@ -43,7 +44,8 @@ abbrev pub kernel_page : Scheme → ℕ → List ℕ → ℕ → Option (ℕ × 
 kernel_page z frames stacks page =
     if page == trampoline_page z then Some (0, code_rights)
     else (if nat_le first_direct page && nat_lt page (first_direct + frames) then Some (page - first_direct, frame_rights (page - first_direct))
-    else (if nat_lt page (trampoline_page z) && ((trampoline_page z - page) % 2 == 0) then option_map (λ frame. (frame, data_rights)) (slice_get stacks ((trampoline_page z - page) / 2 - 1))
+    else (if nat_lt page (trampoline_page z)
+    && ((trampoline_page z - page) % 2 == 0) then option_map (λ frame. (frame, data_rights)) (slice_get stacks ((trampoline_page z - page) / 2 - 1))
     else None))
 
 -- the word of a page's leaf, by its frame and rights
@@ -121,5 +123,6 @@ pub record IsKernelTable (z : Scheme) (v : View) (root frames slots : ℕ) (stac
   pub credits : v.credits ≡ 0
 
 -- the leaf for the kernel of a frame other than 0 is one for data
-pub data_leaf : (x trapframe : ℕ) → (trapframe ≡ 0 → ⊥) → IsLeafOf x trapframe (frame_rights trapframe) false false true → IsLeafOf x trapframe data_rights false false true
+pub data_leaf : (x trapframe : ℕ) → (trapframe ≡ 0 → ⊥) → IsLeafOf x trapframe (frame_rights trapframe) false false true
+    → IsLeafOf x trapframe data_rights false false true
 data_leaf x trapframe apart made = subst (λ b. IsLeafOf x trapframe (if b then code_rights else data_rights) false false true) (ne_eqb trapframe 0 apart) made

@@ -33,7 +33,8 @@ frame_is f small =
 pub bytes_known : (v : View) (f : ℕ) (bytes : List ℕ) → HasBytes v f bytes → AllKnown v f
 bytes_known v f bytes has i low = has.words i low ∙ ap (λ o. Some (or_zero o)) (sym (has.words i low))
 
-pub page_backed : (v : View) (w f : ℕ) (r : Region) (mark dirty : Bool) → IsPageLeaf w f r mark dirty → AllKnown v f → ((r.writes && not mark) ≡ true → IsSole v f) → IsBacked v w
+pub page_backed : (v : View) (w f : ℕ) (r : Region) (mark dirty : Bool) → IsPageLeaf w f r mark dirty → AllKnown v f
+    → ((r.writes && not mark) ≡ true → IsSole v f) → IsBacked v w
 page_backed v w f r mark dirty made known sole =
     let named : (g : FrameNo) → frame_at (ppn w) ≡ Some g → f ≡ g.0
     = λ g at. ap (λ (x : FrameNo). x.0) (same_Some (record { 0 = f }) g (sym (frame_is f made.small) ∙ sym (ap frame_at made.names) ∙ at)) in

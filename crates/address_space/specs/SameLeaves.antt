@@ -1,7 +1,8 @@
 -- A law (`leaves_stay`): two spaces have the same leaves if they have one scheme, one trapframe, the same regions and the
 -- same settled pages (those in memory), each page on one frame and with the same marks in both. For it, `same_word`: two
 -- leaves with the same page number and flags are equal.
-use Rattle.std.proofs.Common.{◌≡◌, ℕ, ◌/◌, ◌%◌, ◌^◌, ◌==◌, ◌||◌, Bool, true, false, not, Option, None, Some, refl, ap, sym, subst, ◌∙◌, inl, inr, arith, if◌then◌else◌}
+use Rattle.std.proofs.Common.{◌≡◌, ℕ, ◌/◌, ◌%◌, ◌^◌, ◌==◌, ◌||◌, Bool, true, false, not, Option, None, Some, refl, ap, sym, subst, ◌∙◌, inl}
+use Rattle.std.proofs.Common.{inr, arith, if◌then◌else◌}
 use Rattle.std.proofs.lemmas.Bool.{cases_eq, eqb-true, eq-eqb}
 use Rattle.std.proofs.lemmas.Option.{same_Some}
 use Rattle.std.specs.FinMap.{get}
@@ -114,15 +115,18 @@ pub record WasAlike (t u : Tables) (p : Process) (n : ℕ) (z : Page) : Type 0 w
   pub dirty : z.dirty ≡ before.dirty
   pub on : (f : ℕ) → IsFrameOfPage u n f → IsFrameOfPage t n f
 
-module _ (x y : Body) (t u : Tables) (p q : Process) (a : IsSpace x t p) (b : IsSpace y u q) (trapframe : y.trapframe ≡ x.trapframe) (same_scheme : q.scheme ≡ p.scheme) (same_regions : regions q ≡ regions p)
-    (still : (n : ℕ) (s : Page) → pages.get p.settled n ≡ Some s → (z : Page) × (pages.get q.settled n ≡ Some z)) (was : (n : ℕ) (z : Page) → pages.get q.settled n ≡ Some z → WasAlike t u p n z) where
+module _ (x y : Body) (t u : Tables) (p q : Process) (a : IsSpace x t p) (b : IsSpace y u q) (trapframe : y.trapframe ≡ x.trapframe)
+    (same_scheme : q.scheme ≡ p.scheme) (same_regions : regions q ≡ regions p)
+    (still : (n : ℕ) (s : Page) → pages.get p.settled n ≡ Some s → (z : Page) × (pages.get q.settled n ≡ Some z)) (was : (n : ℕ) (z : Page)
+    → pages.get q.settled n ≡ Some z → WasAlike t u p n z) where
   kind_t : (k w : ℕ) → get t.leaves k ≡ Some w → kind_of w ≡ Leaf
   kind_t k w found = (a.stands.tables.known.leaf_hung k w found).0
 
   kind_u : (k w : ℕ) → get u.leaves k ≡ Some w → kind_of w ≡ Leaf
   kind_u k w found = (b.stands.tables.known.leaf_hung k w found).0
 
-  kernel_kept : (page f rights : ℕ) → HasKernelLeaf t page f rights → HasKernelLeaf u page f rights → get u.leaves (leaf_node page) ≡ get t.leaves (leaf_node page)
+  kernel_kept : (page f rights : ℕ) → HasKernelLeaf t page f rights → HasKernelLeaf u page f rights
+      → get u.leaves (leaf_node page) ≡ get t.leaves (leaf_node page)
   kernel_kept page f rights (w, at_w, is_w) (v, at_v, is_v) =
       let same : v ≡ w = same_word v w (kind_u _ v at_v) (kind_t _ w at_w) (kernel_same v w f rights is_v is_w) in
       at_v ∙ ap Some same ∙ sym at_w
@@ -132,22 +136,27 @@ module _ (x y : Body) (t u : Tables) (p q : Process) (a : IsSpace x t p) (b : Is
       let old = was n z there in
       let shown = a.stands.shows.settled n old.before old.settled in
       let now = b.stands.shows.settled n z there in
-      let region : now.region ≡ shown.region = same_Some now.region shown.region (sym now.in_region ∙ ap (λ rs. region_at rs n) same_regions ∙ shown.in_region) in
+      let region : now.region ≡ shown.region =
+      same_Some now.region shown.region (sym now.in_region ∙ ap (λ rs. region_at rs n) same_regions ∙ shown.in_region) in
       let on = old.on now.frame (now.leaf, now.mapped, now.made.names) in
       let names : ppn now.leaf ≡ ppn shown.leaf = now.made.names ∙ sym on.2 ∙ ap ppn (same_Some on.0 shown.leaf (sym on.1 ∙ shown.mapped)) in
-      let dirty : is_dirty_page now.region z ≡ is_dirty_page shown.region old.before = ap (λ r. is_dirty_page r z) region ∙ ap (λ m. is_dirty_page shown.region (record z { dirty = m })) old.dirty in
+      let dirty : is_dirty_page now.region z ≡ is_dirty_page shown.region old.before = ap (λ r. is_dirty_page r z) region
+      ∙ ap (λ m. is_dirty_page shown.region (record z { dirty = m })) old.dirty in
       let made : IsPageLeaf now.leaf now.frame shown.region old.before.cow (is_dirty_page shown.region old.before) =
       subst (λ (d : Bool). IsPageLeaf now.leaf now.frame shown.region old.before.cow d) dirty
       (subst (λ (m : Bool). IsPageLeaf now.leaf now.frame shown.region m (is_dirty_page now.region z)) old.cow
       (subst (λ (r : Region). IsPageLeaf now.leaf now.frame r z.cow (is_dirty_page now.region z)) region now.made)) in
-      let same : now.leaf ≡ shown.leaf = same_word now.leaf shown.leaf (kind_u _ now.leaf now.mapped) (kind_t _ shown.leaf shown.mapped) (page_same now.leaf shown.leaf now.frame shown.frame shown.region _ _ names made shown.made) in
+      let same : now.leaf ≡ shown.leaf =
+      same_word now.leaf shown.leaf (kind_u _ now.leaf now.mapped) (kind_t _ shown.leaf shown.mapped)
+      (page_same now.leaf shown.leaf now.frame shown.frame shown.region _ _ names made shown.made) in
       now.mapped ∙ ap Some same ∙ sym shown.mapped
 
   on_trampoline : get u.leaves (leaf_node (trampoline_page p.scheme)) ≡ get t.leaves (leaf_node (trampoline_page p.scheme))
   on_trampoline = kernel_kept (trampoline_page p.scheme) 0 code_rights a.stands.shows.on_trampoline (rw same_scheme at b.stands.shows.on_trampoline)
 
   on_trapframe : get u.leaves (leaf_node (trapframe_page p.scheme)) ≡ get t.leaves (leaf_node (trapframe_page p.scheme))
-  on_trapframe = kernel_kept (trapframe_page p.scheme) x.trapframe data_rights a.stands.shows.on_trapframe (subst (λ (f : ℕ). HasKernelLeaf u (trapframe_page p.scheme) f data_rights) trapframe (rw same_scheme at b.stands.shows.on_trapframe))
+  on_trapframe = kernel_kept (trapframe_page p.scheme) x.trapframe data_rights a.stands.shows.on_trapframe (subst (λ (f : ℕ).
+      HasKernelLeaf u (trapframe_page p.scheme) f data_rights) trapframe (rw same_scheme at b.stands.shows.on_trapframe))
 
   at_number : (k j : ℕ) → k ≡ j → get u.leaves j ≡ get t.leaves j → get u.leaves k ≡ get t.leaves k
   at_number k j same kept = ap (get u.leaves) same ∙ kept ∙ sym (ap (get t.leaves) same)

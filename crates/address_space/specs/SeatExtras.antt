@@ -14,7 +14,8 @@ use Rattle.address_space.specs.Layouts.{Layout}
 -- the view w has `more f` references of each frame f beyond those of v, and of each frame that v holds the same known words
 -- and sole mark
 module _ (v w : View) (more : ℕ → ℕ) (counts : (f : ℕ) → references w f ≡ references v f + more f)
-    (same : (f : ℕ) → IsHeld v f → ((hold_of w f).words ≡ (hold_of v f).words) × ((hold_of w f).sole ≡ (hold_of v f).sole)) (root saved : ℕ) (t : Tables) (p : Process)
+    (same : (f : ℕ) → IsHeld v f → ((hold_of w f).words ≡ (hold_of v f).words)
+    × ((hold_of w f).sole ≡ (hold_of v f).sole)) (root saved : ℕ) (t : Tables) (p : Process)
     (s : IsInMemory v root saved no_extra t p) where
   named_held : (f k : ℕ) → NamesFrame t f k → IsHeld v f
   named_held f k names = let one = s.owns.named f k names in omega (arith, one)
@@ -54,7 +55,9 @@ module _ (v w : View) (more : ℕ → ℕ) (counts : (f : ℕ) → references w 
         bytes = record {
           length = shown.bytes.length;
           small = shown.bytes.small;
-          words = λ i low. ap (λ m. finite.get m i) (same shown.frame (named_held shown.frame (leaf_node n) (inr (shown.leaf, shown.mapped, shown.made.names)))).0 ∙ shown.bytes.words i low;
+          words = λ i low. ap (λ m.
+              finite.get m i) (same shown.frame (named_held shown.frame (leaf_node n) (inr (shown.leaf, shown.mapped, shown.made.names)))).0
+              ∙ shown.bytes.words i low;
         };
       };
       only = s.shows.only;
@@ -66,7 +69,8 @@ module _ (v w : View) (more : ℕ → ℕ) (counts : (f : ℕ) → references w 
 
 -- a space with such extra references, as when it begins to fork
 pub forking_beside : (v w : View) (more : ℕ → ℕ) → ((f : ℕ) → references w f ≡ references v f + more f)
-    → ((f : ℕ) → IsHeld v f → ((hold_of w f).words ≡ (hold_of v f).words) × ((hold_of w f).sole ≡ (hold_of v f).sole)) → (root saved : ℕ) (l : Layout) (t : Tables) (p : Process)
+    → ((f : ℕ) → IsHeld v f → ((hold_of w f).words ≡ (hold_of v f).words) × ((hold_of w f).sole ≡ (hold_of v f).sole))
+    → (root saved : ℕ) (l : Layout) (t : Tables) (p : Process)
     → IsSpace (body v root saved l) t p → IsSpaceInCall (body w root saved l) t p more
 forking_beside v w more counts same root saved l t p space =
     record { sound = space.sound; lays = space.lays; stands = stands_beside v w more counts same root saved t p space.stands }

@@ -5,7 +5,8 @@
 ghost use Rattle.std.specs.Prelude.{[], ◌≡◌, ◌-◌, ◌≤◌, ◌↔◌, if◌then◌else◌, IfErr, IfOk, is_ok, IsOk, ℕ};
 ghost use Rattle.address_space.specs.Agreement.{body_of, IsSpace, HoldsTrampoline, HoldsTrapframe};
 ghost use Rattle.address_space.specs.SpaceTeardown.{CanEnd};
-ghost use Rattle.address_space.specs.Parts.{AreParts, bare_process, build_need, CanFill, CanOpen, FillsPages, OpensSpace, OwnsAlone, pages_need, pages_of, part_pages, process_of_parts, StandsAlone, tree_need};
+ghost use Rattle.address_space.specs.Parts.{AreParts, bare_process, build_need, CanFill, CanOpen, FillsPages, OpensSpace, OwnsAlone};
+ghost use Rattle.address_space.specs.Parts.{pages_need, pages_of, part_pages, process_of_parts, StandsAlone, tree_need};
 ghost use Rattle.address_space.specs.Steps.{TakesFrames};
 ghost use Rattle.frame_store.specs.Laws.{IsSeatOf, IsDry, KeepsSeats};
 ghost use Rattle.frame_store.specs.View.{hold_of};
@@ -46,7 +47,8 @@ impl<S: FrameSeat> Space<S> {
         requires fits { IsSeatOf F.rule store.old seat }
         requires parts { AreParts scheme parts.now }
         requires seat { HoldsTrampoline (S.view seat) }
-        ensures built { IfOk result (λ s. (t : Tables) × ((fresh : ℕ) → IsSpace (body_of S.view s) t (process_of_parts scheme fresh parts.now)) × OwnsAlone (S.view s.seat) t) }
+        ensures built { IfOk result (λ s. (t : Tables)
+            × ((fresh : ℕ) → IsSpace (body_of S.view s) t (process_of_parts scheme fresh parts.now)) × OwnsAlone (S.view s.seat) t) }
         ensures takes { IfOk result (λ s. TakesFrames (S.view seat) (S.view s.seat) (build_need scheme parts.now) []) }
         ensures refused { IfErr result (λ e. IsDry (build_need scheme parts.now) (S.view seat) (S.view e.1)) }
         ensures exact { F.alone → IsOk result ↔ (build_need scheme parts.now ≤ F.free store.old) }
@@ -75,7 +77,8 @@ impl<S: FrameSeat> Space<S> {
         requires parts { AreParts scheme parts.now }
         requires seat { HoldsTrapframe (S.view seat) trapframe.0 }
         requires credits { (S.view seat).credits ≡ tree_need scheme parts.now }
-        ensures built { (t : Tables) × ((fresh : ℕ) → IsSpace (body_of S.view result) t (process_of_parts scheme fresh parts.now)) × OwnsAlone (S.view result.seat) t }
+        ensures built { (t : Tables) × ((fresh : ℕ) → IsSpace (body_of S.view result) t (process_of_parts scheme fresh parts.now))
+            × OwnsAlone (S.view result.seat) t }
         ensures trapframe { result.trapframe ≡ trapframe }
         ensures saved { hold_of (S.view result.seat) trapframe.0 ≡ hold_of (S.view seat) trapframe.0 }
         ensures takes { TakesFrames (S.view seat) (S.view result.seat) (tree_need scheme parts.now) [] }
@@ -101,7 +104,9 @@ impl<S: FrameSeat> Space<S> {
         requires parts { AreParts self.old.layout.scheme parts.now }
         requires ready { (t : Tables) × (p : Process) × CanEnd (body_of S.view self.old) t p }
         requires credits { (S.view self.old.seat).credits ≡ tree_need self.old.layout.scheme parts.now }
-        ensures built { (t : Tables) × ((fresh : ℕ) → IsSpace (body_of S.view self.new) t (process_of_parts self.old.layout.scheme fresh parts.now)) × OwnsAlone (S.view self.new.seat) t }
+        ensures built { (t : Tables)
+            × ((fresh : ℕ) → IsSpace (body_of S.view self.new) t (process_of_parts self.old.layout.scheme fresh parts.now))
+            × OwnsAlone (S.view self.new.seat) t }
         ensures trapframe { self.new.trapframe ≡ self.old.trapframe }
         ensures saved { hold_of (S.view self.new.seat) self.old.trapframe.0 ≡ hold_of (S.view self.old.seat) self.old.trapframe.0 }
         ensures takes { TakesFrames (S.view self.old.seat) (S.view self.new.seat) (tree_need self.old.layout.scheme parts.now) [] }
@@ -185,7 +190,8 @@ fn fill_part<F: FrameSupply>(
     part: &Part,
 )
     requires fits { IsSeatOf F.rule store.old seat.old }
-    requires ready { (trapframe : ℕ) × (t : Tables) × (p : Process) × (p.scheme ≡ scheme) × CanFill (F.Seat.view seat.old) root.0 trapframe t p part.now × (pages_need p (part_pages part.now) ≤ (F.Seat.view seat.old).credits) }
+    requires ready { (trapframe : ℕ) × (t : Tables) × (p : Process) × (p.scheme ≡ scheme)
+        × CanFill (F.Seat.view seat.old) root.0 trapframe t p part.now × (pages_need p (part_pages part.now) ≤ (F.Seat.view seat.old).credits) }
     ensures filled { (trapframe : ℕ) (t : Tables) (p : Process) → p.scheme ≡ scheme → CanFill (F.Seat.view seat.old) root.0 trapframe t p part.now →
         (u : Tables) × FillsPages (F.Seat.view seat.old) (F.Seat.view seat.new) root.0 trapframe u p (part_pages part.now) }
     ensures keeps { KeepsSeats F.rule store.old seat.old store.new seat.new }

@@ -81,8 +81,11 @@ impl<S: FrameSeat> KernelTable<S> {
         access: Access,
     ) -> Walk
         requires fits { IsSeatOf F.rule store.old self.old.seat }
-        requires built { (frames slots : ℕ) × (stacks : List ℕ) × (t : Tables) × IsKernelTable self.old.scheme (S.view self.old.seat) self.old.root.0 frames slots stacks t }
-        ensures walk { (frames slots : ℕ) (stacks : List ℕ) (t : Tables) → IsKernelTable self.old.scheme (S.view self.old.seat) self.old.root.0 frames slots stacks t → result ≡ kernel_walk self.old.scheme frames stacks va.0 access }
+        requires built { (frames slots : ℕ) × (stacks : List ℕ) × (t : Tables)
+            × IsKernelTable self.old.scheme (S.view self.old.seat) self.old.root.0 frames slots stacks t }
+        ensures walk { (frames slots : ℕ) (stacks : List ℕ) (t : Tables)
+            → IsKernelTable self.old.scheme (S.view self.old.seat) self.old.root.0 frames slots stacks t
+            → result ≡ kernel_walk self.old.scheme frames stacks va.0 access }
         ensures view { S.view self.new.seat ≡ S.view self.old.seat }
         ensures root { self.new.root ≡ self.old.root }
         ensures scheme { self.new.scheme ≡ self.old.scheme }
@@ -167,7 +170,8 @@ fn map_stacks<F: FrameSupply>(
     requires fits { IsSeatOf F.rule store.old seat.old }
     requires few { slots ≤ MOST_SLOTS }
     requires ready { (t : Tables) × MapsKernel scheme (F.Seat.view seat.old) root.0 0 [] t × (slots ≤ (F.Seat.view seat.old).credits) }
-    ensures mapped { (t : Tables) → MapsKernel scheme (F.Seat.view seat.old) root.0 0 [] t → (stacks : List ℕ) × (u : Tables) × MapsKernel scheme (F.Seat.view seat.new) root.0 0 stacks u × (length stacks ≡ slots) }
+    ensures mapped { (t : Tables) → MapsKernel scheme (F.Seat.view seat.old) root.0 0 [] t → (stacks : List ℕ) × (u : Tables)
+        × MapsKernel scheme (F.Seat.view seat.new) root.0 0 stacks u × (length stacks ≡ slots) }
     ensures spends { SpendsCredits (F.Seat.view seat.old) (F.Seat.view seat.new) slots }
     ensures keeps { KeepsSeats F.rule store.old seat.old store.new seat.new }
     ensures free { F.alone → F.free store.new ≡ F.free store.old }
@@ -195,8 +199,10 @@ fn map_frames<F: FrameSupply>(
 )
     requires fits { IsSeatOf F.rule store.old seat.old }
     requires few { frames ≤ MOST_FRAMES }
-    requires ready { (stacks : List ℕ) × (t : Tables) × MapsKernel scheme (F.Seat.view seat.old) root.0 0 stacks t × (direct_tables scheme frames ≤ (F.Seat.view seat.old).credits) }
-    ensures mapped { (stacks : List ℕ) (t : Tables) → MapsKernel scheme (F.Seat.view seat.old) root.0 0 stacks t → (u : Tables) × MapsKernel scheme (F.Seat.view seat.new) root.0 frames stacks u }
+    requires ready { (stacks : List ℕ) × (t : Tables) × MapsKernel scheme (F.Seat.view seat.old) root.0 0 stacks t
+        × (direct_tables scheme frames ≤ (F.Seat.view seat.old).credits) }
+    ensures mapped { (stacks : List ℕ) (t : Tables) → MapsKernel scheme (F.Seat.view seat.old) root.0 0 stacks t → (u : Tables)
+        × MapsKernel scheme (F.Seat.view seat.new) root.0 frames stacks u }
     ensures spends { SpendsCredits (F.Seat.view seat.old) (F.Seat.view seat.new) (direct_tables scheme frames) }
     ensures keeps { KeepsSeats F.rule store.old seat.old store.new seat.new }
     ensures free { F.alone → F.free store.new ≡ F.free store.old }

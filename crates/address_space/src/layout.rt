@@ -44,7 +44,13 @@ impl Model for Layout {
 
     ghost coded = { layout_code };
 
-    ghost view = { λ l. record { scheme = l.scheme; parts = map region_of l.parts.items; mappings = map region_of l.mappings.items; heap_base = l.heap_base; size = l.size } };
+    ghost view = { λ l. record {
+      scheme = l.scheme;
+      parts = map region_of l.parts.items;
+      mappings = map region_of l.mappings.items;
+      heap_base = l.heap_base;
+      size = l.size;
+    } };
 }
 
 impl Layout {

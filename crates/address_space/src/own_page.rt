@@ -91,7 +91,8 @@ fn separate<F: FrameSupply>(
     dirty: bool,
 )
     requires fits { IsSeatOf F.rule store.old seat.old }
-    requires ready { (trapframe : ℕ) × (t : Tables) × (p : Process) × (s : Page) × (p.scheme ≡ scheme) × CanSeparate (F.Seat.view seat.old) root.0 trapframe t p page s (region_of region.now) shared.0 dirty }
+    requires ready { (trapframe : ℕ) × (t : Tables) × (p : Process) × (s : Page) × (p.scheme ≡ scheme)
+        × CanSeparate (F.Seat.view seat.old) root.0 trapframe t p page s (region_of region.now) shared.0 dirty }
     requires credit { 0 < (F.Seat.view seat.old).credits }
     ensures separated { (trapframe : ℕ) (t : Tables) (p : Process) (s : Page) → p.scheme ≡ scheme →
         CanSeparate (F.Seat.view seat.old) root.0 trapframe t p page s (region_of region.now) shared.0 dirty →

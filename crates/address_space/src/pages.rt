@@ -3,7 +3,8 @@
 // page's leaf names.
 
 ghost use Rattle.std.specs.FinMap.{get};
-ghost use Rattle.std.specs.Prelude.{[], ◌≡◌, ◌+◌, ◌-◌, ◌^◌, ◌<◌, ◌≤◌, ◌↔◌, ◌==◌, false, if◌then◌else◌, IfErr, IfOk, is_ok, IsOk, length, option_and_then, option_map, Some, ℕ};
+ghost use Rattle.std.specs.Prelude.{[], ◌≡◌, ◌+◌, ◌-◌, ◌^◌, ◌<◌, ◌≤◌, ◌↔◌, ◌==◌, false, if◌then◌else◌, IfErr, IfOk, is_ok, IsOk, length};
+ghost use Rattle.std.specs.Prelude.{option_and_then, option_map, Some, ℕ};
 ghost use Rattle.address_space.specs.Agreement.{body_of, IsSpace};
 ghost use Rattle.address_space.specs.Kept.{KeepsPlace};
 ghost use Rattle.address_space.specs.Layouts.{region_of};
@@ -58,9 +59,11 @@ pub(crate) fn add_page<F: FrameSupply>(
     bytes: &[u8],
 )
     requires fits { IsSeatOf F.rule store.old seat.old }
-    requires ready { (trapframe : ℕ) × (t : Tables) × (p : Process) × (p.scheme ≡ scheme) × CanAdd (F.Seat.view seat.old) root.0 trapframe t p page (region_of region.now) × (1 + missing scheme t page ≤ (F.Seat.view seat.old).credits) }
+    requires ready { (trapframe : ℕ) × (t : Tables) × (p : Process) × (p.scheme ≡ scheme)
+        × CanAdd (F.Seat.view seat.old) root.0 trapframe t p page (region_of region.now) × (1 + missing scheme t page ≤ (F.Seat.view seat.old).credits) }
     requires inside { length bytes.now ≤ 4096 }
-    ensures added { (trapframe : ℕ) (t : Tables) (p : Process) → p.scheme ≡ scheme → CanAdd (F.Seat.view seat.old) root.0 trapframe t p page (region_of region.now) →
+    ensures added { (trapframe : ℕ) (t : Tables) (p : Process) → p.scheme ≡ scheme
+        → CanAdd (F.Seat.view seat.old) root.0 trapframe t p page (region_of region.now) →
         (u : Tables) × (f : ℕ) × AddsPage (F.Seat.view seat.old) (F.Seat.view seat.new) root.0 trapframe t u p page bytes.now f }
     ensures soles { (f : ℕ) → IsSole (F.Seat.view seat.old) f → IsSole (F.Seat.view seat.new) f }
     ensures keeps { KeepsSeats F.rule store.old seat.old store.new seat.new }

@@ -103,8 +103,10 @@ impl<S: FrameSeat> Space<S> {
         requires fits { IsSeatOf F.rule store.old self.old.seat }
         requires ready { (t : Tables) × (p : Process) × IsSpaceInCall (body_of S.view self.old) t p no_extra × IsLastTable p.scheme t last.old }
         requires low { end ≤ trapframe_page self.old.layout.scheme }
-        ensures page { (t : Tables) (p : Process) → IsSpaceInCall (body_of S.view self.old) t p no_extra → IsLastTable p.scheme t last.old → IsNextSettled t p first end result }
-        ensures kept { (t : Tables) (p : Process) → IsSpaceInCall (body_of S.view self.old) t p no_extra → IsLastTable p.scheme t last.old → IsLastTable p.scheme t last.new }
+        ensures page { (t : Tables) (p : Process) → IsSpaceInCall (body_of S.view self.old) t p no_extra → IsLastTable p.scheme t last.old
+            → IsNextSettled t p first end result }
+        ensures kept { (t : Tables) (p : Process) → IsSpaceInCall (body_of S.view self.old) t p no_extra → IsLastTable p.scheme t last.old
+            → IsLastTable p.scheme t last.new }
         ensures reads { OnlyReads S.view self.old self.new store.old store.new }
         ensures keeps { KeepsSeats F.rule store.old self.old.seat store.new self.new.seat }
     {
@@ -127,8 +129,10 @@ impl<S: FrameSeat> Space<S> {
         requires fits { IsSeatOf F.rule store.old self.old.seat }
         requires ready { (t : Tables) × (p : Process) × IsSpaceInCall (body_of S.view self.old) t p no_extra × IsLastTable p.scheme t last.old }
         requires low { end ≤ trapframe_page self.old.layout.scheme }
-        ensures leaf { (t : Tables) (p : Process) → IsSpaceInCall (body_of S.view self.old) t p no_extra → IsLastTable p.scheme t last.old → IsFirstLeaf t p first end result }
-        ensures kept { (t : Tables) (p : Process) → IsSpaceInCall (body_of S.view self.old) t p no_extra → IsLastTable p.scheme t last.old → IsLastTable p.scheme t last.new }
+        ensures leaf { (t : Tables) (p : Process) → IsSpaceInCall (body_of S.view self.old) t p no_extra → IsLastTable p.scheme t last.old
+            → IsFirstLeaf t p first end result }
+        ensures kept { (t : Tables) (p : Process) → IsSpaceInCall (body_of S.view self.old) t p no_extra → IsLastTable p.scheme t last.old
+            → IsLastTable p.scheme t last.new }
         ensures reads { OnlyReads S.view self.old self.new store.old store.new }
         ensures keeps { KeepsSeats F.rule store.old self.old.seat store.new self.new.seat }
     {
@@ -181,7 +185,8 @@ fn leaf_before<F: FrameAccess>(
 ) -> Option<Entry>
     requires fits { IsSeatOf F.rule store.old seat.old }
     requires held { (t : Tables) × HasTables scheme (F.Seat.view seat.old) root.0 t × IsLastTable scheme t last.old }
-    ensures leaf { (t : Tables) → HasTables scheme (F.Seat.view seat.old) root.0 t → IsLastTable scheme t last.old → IfSome result (λ leaf. (page < end) × (get t.leaves (walk_leaf scheme page) ≡ Some leaf)) }
+    ensures leaf { (t : Tables) → HasTables scheme (F.Seat.view seat.old) root.0 t → IsLastTable scheme t last.old
+        → IfSome result (λ leaf. (page < end) × (get t.leaves (walk_leaf scheme page) ≡ Some leaf)) }
     ensures kept { (t : Tables) → HasTables scheme (F.Seat.view seat.old) root.0 t → IsLastTable scheme t last.old → IsLastTable scheme t last.new }
     ensures view { F.Seat.view seat.new ≡ F.Seat.view seat.old }
     ensures same { store.new ≡ store.old }

@@ -76,10 +76,12 @@ impl<S: FrameSeat> Space<S> {
         width: u64,
     ) -> u64
         requires fits { IsSeatOf F.rule store.old self.old.seat }
-        requires ready { (t : Tables) × (p : Process) × (s : Page) × CanRead (body_of S.view self.old) t p (page_of va.0) s × IsFrameOfPage t (page_of va.0) frame.0 }
+        requires ready { (t : Tables) × (p : Process) × (s : Page) × CanRead (body_of S.view self.old) t p (page_of va.0) s
+            × IsFrameOfPage t (page_of va.0) frame.0 }
         requires width { IsTrue (is_width width) }
         requires aligned { va.0 % width ≡ 0 }
-        ensures value { (t : Tables) (p : Process) (s : Page) → CanRead (body_of S.view self.old) t p (page_of va.0) s → IsFrameOfPage t (page_of va.0) frame.0 → result ≡ loaded s (va.0 % 4096) width }
+        ensures value { (t : Tables) (p : Process) (s : Page) → CanRead (body_of S.view self.old) t p (page_of va.0) s
+            → IsFrameOfPage t (page_of va.0) frame.0 → result ≡ loaded s (va.0 % 4096) width }
         ensures reads { OnlyReads S.view self.old self.new store.old store.new }
         ensures keeps { KeepsSeats F.rule store.old self.old.seat store.new self.new.seat }
     {
@@ -140,7 +142,8 @@ impl<S: FrameSeat> Space<S> {
         value: u64,
     )
         requires fits { IsSeatOf F.rule store.old self.old.seat }
-        requires ready { (t : Tables) × (p : Process) × (s : Page) × CanWrite (body_of S.view self.old) t p (page_of va.0) s × IsFrameOfPage t (page_of va.0) frame.0 }
+        requires ready { (t : Tables) × (p : Process) × (s : Page) × CanWrite (body_of S.view self.old) t p (page_of va.0) s
+            × IsFrameOfPage t (page_of va.0) frame.0 }
         requires width { IsTrue (is_width width) }
         requires aligned { va.0 % width ≡ 0 }
         ensures agrees { HasStored (body_of S.view self.old) (body_of S.view self.new) va.0 width value (λ t. IsFrameOfPage t (page_of va.0) frame.0) }

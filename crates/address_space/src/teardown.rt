@@ -34,9 +34,11 @@ fn drop_leaf<F: FrameAccess>(
     last: &mut Option<LastTable>,
 ) -> bool
     requires fits { IsSeatOf F.rule store.old seat.old }
-    requires ready { (t : Tables) × HasTables scheme (F.Seat.view seat.old) root.0 t × MayDrop scheme (F.Seat.view seat.old) root.0 t page end × IsLastTable scheme t last.old }
+    requires ready { (t : Tables) × HasTables scheme (F.Seat.view seat.old) root.0 t
+        × MayDrop scheme (F.Seat.view seat.old) root.0 t page end × IsLastTable scheme t last.old }
     requires low { end ≤ page_limit scheme }
-    ensures dropped { (t : Tables) → HasTables scheme (F.Seat.view seat.old) root.0 t → MayDrop scheme (F.Seat.view seat.old) root.0 t page end → IsLastTable scheme t last.old →
+    ensures dropped { (t : Tables) → HasTables scheme (F.Seat.view seat.old) root.0 t
+        → MayDrop scheme (F.Seat.view seat.old) root.0 t page end → IsLastTable scheme t last.old →
         DropsIf scheme result (F.Seat.view seat.old) (F.Seat.view seat.new) root.0 t page end }
     ensures kept { (t : Tables) → HasTables scheme (F.Seat.view seat.old) root.0 t → IsLastTable scheme t last.old → IsLastTable scheme t last.new }
     ensures keeps { KeepsSeats F.rule store.old seat.old store.new seat.new }
@@ -69,11 +71,14 @@ fn drop_first<F: FrameAccess>(
     last: &mut Option<LastTable>,
 ) -> Option<u64>
     requires fits { IsSeatOf F.rule store.old seat.old }
-    requires ready { (t : Tables) × HasTables scheme (F.Seat.view seat.old) root.0 t × ((page : ℕ) → MayDrop scheme (F.Seat.view seat.old) root.0 t page end) × IsLastTable scheme t last.old }
+    requires ready { (t : Tables) × HasTables scheme (F.Seat.view seat.old) root.0 t
+        × ((page : ℕ) → MayDrop scheme (F.Seat.view seat.old) root.0 t page end) × IsLastTable scheme t last.old }
     requires low { end ≤ page_limit scheme }
-    ensures dropped { (t : Tables) → HasTables scheme (F.Seat.view seat.old) root.0 t → ((page : ℕ) → MayDrop scheme (F.Seat.view seat.old) root.0 t page end) → IsLastTable scheme t last.old →
+    ensures dropped { (t : Tables) → HasTables scheme (F.Seat.view seat.old) root.0 t
+        → ((page : ℕ) → MayDrop scheme (F.Seat.view seat.old) root.0 t page end) → IsLastTable scheme t last.old →
         DropsFirst scheme result (F.Seat.view seat.old) (F.Seat.view seat.new) root.0 t first end }
-    ensures kept { (t : Tables) → HasTables scheme (F.Seat.view seat.old) root.0 t → ((page : ℕ) → MayDrop scheme (F.Seat.view seat.old) root.0 t page end) → IsLastTable scheme t last.old →
+    ensures kept { (t : Tables) → HasTables scheme (F.Seat.view seat.old) root.0 t
+        → ((page : ℕ) → MayDrop scheme (F.Seat.view seat.old) root.0 t page end) → IsLastTable scheme t last.old →
         IsLastTable scheme t last.new }
     ensures keeps { KeepsSeats F.rule store.old seat.old store.new seat.new }
     ensures free { F.alone → F.free store.old ≤ F.free store.new }

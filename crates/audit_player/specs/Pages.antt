@@ -8,7 +8,8 @@ use Rattle.audit_player.specs.InputOutput.{WroteUpTo, WroteSome}
 -- was on the page. If the call returned true, the sink has all of the text and the piece but what is on the page; if
 -- false, a prefix of these.
 abbrev pub AppendsPiece : Bool → Option (List ℕ) → Option (List ℕ) → List ℕ → List ℕ → List ℕ → Type 0
-AppendsPiece true old new page after piece = (start : Option (List ℕ)) (text : List ℕ) → WroteUpTo start old text page → WroteUpTo start new (text ++ piece) after
+AppendsPiece true old new page after piece = (start : Option (List ℕ)) (text : List ℕ) → WroteUpTo start old text page
+    → WroteUpTo start new (text ++ piece) after
 AppendsPiece false old new page after piece = (start : Option (List ℕ)) (text : List ℕ) → WroteUpTo start old text page → WroteSome start new (text ++ piece)
 
 -- `AppendsPiece` for a call that appends nothing

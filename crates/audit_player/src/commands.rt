@@ -36,7 +36,8 @@ pub fn lend(image: &OwnedImage) -> Image<'_>
 /// Starts a process of an image.
 fn start(machine: &mut Machine, image: &OwnedImage) -> ScalarReply
     requires world { (w : World) × IsInWorld machine.old w }
-    ensures made { (w : World) → IsInWorld machine.old w → GivesOutcome machine.new (reply_of_scalar result) (model.step w (steps.Start (words.lent image.now))) }
+    ensures made { (w : World) → IsInWorld machine.old w
+        → GivesOutcome machine.new (reply_of_scalar result) (model.step w (steps.Start (words.lent image.now))) }
 {
     machine.step_scalar(Step::Start(lend(image)))
 }
@@ -44,7 +45,8 @@ fn start(machine: &mut Machine, image: &OwnedImage) -> ScalarReply
 /// Replaces the process on a hart by one of an image.
 fn exec(machine: &mut Machine, hart: usize, image: &OwnedImage) -> ScalarReply
     requires world { (w : World) × IsInWorld machine.old w }
-    ensures made { (w : World) → IsInWorld machine.old w → GivesOutcome machine.new (reply_of_scalar result) (model.step w (steps.Exec hart (words.lent image.now))) }
+    ensures made { (w : World) → IsInWorld machine.old w
+        → GivesOutcome machine.new (reply_of_scalar result) (model.step w (steps.Exec hart (words.lent image.now))) }
 {
     let image = lend(image);
     machine.step_scalar(Step::Exec { hart, image })
@@ -53,7 +55,8 @@ fn exec(machine: &mut Machine, hart: usize, image: &OwnedImage) -> ScalarReply
 /// Copies bytes to the process on a hart, as the kernel (`copyout`).
 fn copy_out(machine: &mut Machine, hart: usize, address: u64, bytes: &[u8]) -> ScalarReply
     requires world { (w : World) × IsInWorld machine.old w }
-    ensures made { (w : World) → IsInWorld machine.old w → GivesOutcome machine.new (reply_of_scalar result) (model.step w (steps.CopyOut hart address (record { ref_ptr = (0, 0); now = bytes.now }))) }
+    ensures made { (w : World) → IsInWorld machine.old w
+        → GivesOutcome machine.new (reply_of_scalar result) (model.step w (steps.CopyOut hart address (record { ref_ptr = (0, 0); now = bytes.now }))) }
 {
     machine.step_scalar(Step::CopyOut {
         hart,
@@ -66,7 +69,8 @@ fn copy_out(machine: &mut Machine, hart: usize, address: u64, bytes: &[u8]) -> S
 /// that is refused is the last that is tried, and its refusal is the reply; if none is, the reply is `reply`.
 fn three_next(machine: &mut Machine, hart: usize, reply: ScalarReply) -> ScalarReply
     requires world { (w : World) × IsInWorld machine.old w }
-    ensures made { (w : World) → IsInWorld machine.old w → GivesOutcome machine.new (reply_of_scalar result) (words.series_of w (words.three_next hart) (reply_of_scalar reply)) }
+    ensures made { (w : World) → IsInWorld machine.old w
+        → GivesOutcome machine.new (reply_of_scalar result) (words.series_of w (words.three_next hart) (reply_of_scalar reply)) }
 {
     'instructions: for _ in 0..3usize {
         let said = machine.step_scalar(Step::Next { hart });
@@ -83,7 +87,8 @@ fn three_next(machine: &mut Machine, hart: usize, reply: ScalarReply) -> ScalarR
 fn go_through(machine: &mut Machine, hart: usize, step: Step<'_>) -> ScalarReply
     requires world { (w : World) × IsInWorld machine.old w }
     requires scalar { is_scalar step ≡ true }
-    ensures made { (w : World) → IsInWorld machine.old w → GivesOutcome machine.new (reply_of_scalar result) (words.series_of w (step.entry ∷ words.three_next hart) Done) }
+    ensures made { (w : World) → IsInWorld machine.old w
+        → GivesOutcome machine.new (reply_of_scalar result) (words.series_of w (step.entry ∷ words.three_next hart) Done) }
 {
     let first = machine.step_scalar(step);
     if let ScalarReply::Refused(_) = first {
@@ -95,7 +100,8 @@ fn go_through(machine: &mut Machine, hart: usize, step: Step<'_>) -> ScalarReply
 /// Schedules the process of a slot on a hart, and returns to user mode (`on`).
 fn put_on(machine: &mut Machine, hart: usize, slot: usize) -> ScalarReply
     requires world { (w : World) × IsInWorld machine.old w }
-    ensures made { (w : World) → IsInWorld machine.old w → GivesOutcome machine.new (reply_of_scalar result) (words.series_of w (words.on_steps hart slot) Done) }
+    ensures made { (w : World) → IsInWorld machine.old w
+        → GivesOutcome machine.new (reply_of_scalar result) (words.series_of w (words.on_steps hart slot) Done) }
 {
     let slot = Some(slot);
     go_through(machine, hart, Step::Switch { hart, slot })
@@ -131,7 +137,8 @@ fn fix(machine: &mut Machine, hart: usize) -> ScalarReply
 fn put_whole(machine: &mut Machine, step: Step<'_>, text: &mut Vec<u8>)
     requires world { (w : World) × IsInWorld machine.old w }
     requires room { vec_len text.old + LONGEST_TEXT ≤ vec_capacity text.old }
-    ensures line_text { (w : World) → IsInWorld machine.old w → AppendsLine machine.new text.old.items text.new.items (words.line_result_of (model.step w step.entry)) }
+    ensures line_text { (w : World) → IsInWorld machine.old w
+        → AppendsLine machine.new text.old.items text.new.items (words.line_result_of (model.step w step.entry)) }
     ensures len { vec_len text.new ≤ vec_len text.old + LONGEST_TEXT }
     ensures capacity { vec_capacity text.old ≤ vec_capacity text.new }
 {
@@ -145,7 +152,8 @@ fn put_other(machine: &mut Machine, step: Step<'_>, text: &mut Vec<u8>)
     requires scalar { is_scalar step ≡ true }
     requires world { (w : World) × IsInWorld machine.old w }
     requires room { vec_len text.old + LONGEST_TEXT ≤ vec_capacity text.old }
-    ensures line_text { (w : World) → IsInWorld machine.old w → AppendsLine machine.new text.old.items text.new.items (words.line_result_of (model.step w step.entry)) }
+    ensures line_text { (w : World) → IsInWorld machine.old w
+        → AppendsLine machine.new text.old.items text.new.items (words.line_result_of (model.step w step.entry)) }
     ensures len { vec_len text.new ≤ vec_len text.old + LONGEST_TEXT }
     ensures capacity { vec_capacity text.old ≤ vec_capacity text.new }
 {
@@ -158,7 +166,8 @@ fn put_other(machine: &mut Machine, step: Step<'_>, text: &mut Vec<u8>)
 fn put_step(machine: &mut Machine, step: Step<'_>, text: &mut Vec<u8>)
     requires world { (w : World) × IsInWorld machine.old w }
     requires room { vec_len text.old + LONGEST_TEXT ≤ vec_capacity text.old }
-    ensures line_text { (w : World) → IsInWorld machine.old w → AppendsLine machine.new text.old.items text.new.items (words.line_result_of (model.step w step.entry)) }
+    ensures line_text { (w : World) → IsInWorld machine.old w
+        → AppendsLine machine.new text.old.items text.new.items (words.line_result_of (model.step w step.entry)) }
     ensures len { vec_len text.new ≤ vec_len text.old + LONGEST_TEXT }
     ensures capacity { vec_capacity text.old ≤ vec_capacity text.new }
 {
@@ -209,7 +218,8 @@ pub fn put_answer(
     requires world { (w : World) × IsInWorld machine.old w }
     requires declared { (files : List FileText) × IsDeclared files images.now command.now }
     requires room { vec_len text.old + LONGEST_TEXT ≤ vec_capacity text.old }
-    ensures line_text { (w : World) → IsInWorld machine.old w → AppendsLine machine.new text.old.items text.new.items (words.line_result images.now w command.now) }
+    ensures line_text { (w : World) → IsInWorld machine.old w
+        → AppendsLine machine.new text.old.items text.new.items (words.line_result images.now w command.now) }
     ensures len { vec_len text.new ≤ vec_len text.old + LONGEST_TEXT }
     ensures capacity { vec_capacity text.old ≤ vec_capacity text.new }
 {
@@ -252,7 +262,8 @@ pub fn put_line(
     requires world { (w : World) × IsInWorld machine.old w }
     requires declared { (files : List FileText) × IsDeclared files images.now (shown line) }
     requires room { vec_len text.old + LONGEST_TEXT ≤ vec_capacity text.old }
-    ensures line_text { (w : World) → IsInWorld machine.old w → AppendsLine machine.new text.old.items text.new.items (words.line_result images.now w (shown line.entry)) }
+    ensures line_text { (w : World) → IsInWorld machine.old w
+        → AppendsLine machine.new text.old.items text.new.items (words.line_result images.now w (shown line.entry)) }
     ensures len { vec_len text.new ≤ vec_len text.old + LONGEST_TEXT }
     ensures capacity { vec_capacity text.old ≤ vec_capacity text.new }
 {

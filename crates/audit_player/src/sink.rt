@@ -24,7 +24,8 @@ pub trait Sink {
         ensures failed { broken self.new ≡ (broken self.old || is_none result) }
         ensures bound { IfSome result (λ n. n ≤ length piece.now) }
         ensures some { IfSome result (λ n. 0 < length piece.now → 0 < n) }
-        ensures bytes { MatchOption result (Keeps (contents self.old) (contents self.new)) (λ n. Appends (contents self.old) (contents self.new) (take n piece.now)) };
+        ensures bytes { MatchOption result (Keeps (contents self.old) (contents self.new)) (λ n.
+            Appends (contents self.old) (contents self.new) (take n piece.now)) };
 }
 
 /// A writer of std, over memory or a file, and whether a write has failed.

@@ -23,7 +23,8 @@ pub trait Source {
     fn read(&mut self, buffer: &mut [u8]) -> Option<usize>
         ensures failed { broken self.new ≡ (broken self.old || is_none result) }
         ensures bound { IfSome result (λ n. n ≤ length buffer.new) }
-        ensures bytes { MatchOption result (Keeps (remaining self.old) (remaining self.new)) (λ n. Consumes (remaining self.old) (remaining self.new) (take n buffer.new)) }
+        ensures bytes { MatchOption result (Keeps (remaining self.old) (remaining self.new)) (λ n.
+            Consumes (remaining self.old) (remaining self.new) (take n buffer.new)) }
         ensures end { IfSome result (λ n. n ≡ 0 → 0 < length buffer.new → IsAtEnd (remaining self.new)) };
 }
 

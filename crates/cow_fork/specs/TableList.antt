@@ -12,7 +12,8 @@ use Rattle.process_model.specs.declared.limits.TheConstants.{MOST_FRAMES}
 
 -- each table is on the way to a leaf: it is d levels below the root for a page n that has one
 abbrev pub IsLed : Scheme → Tables → Type 0
-IsLed z t = (k f : ℕ) → get t.tables k ≡ Some f → (n d w : ℕ) × (d ≤ top_level z) × (n < page_limit z) × (k ≡ node z n d) × (get t.leaves (leaf_node n) ≡ Some w)
+IsLed z t = (k f : ℕ) → get t.tables k ≡ Some f → (n d w : ℕ) × (d ≤ top_level z) × (n < page_limit z) × (k ≡ node z n d)
+    × (get t.leaves (leaf_node n) ≡ Some w)
 
 -- no page from `end` up to, but without, TRAPFRAME has a leaf, and none above TRAMPOLINE; TRAPFRAME has one
 pub record IsEdged (z : Scheme) (t : Tables) (end : ℕ) : Type 0 where

@@ -96,14 +96,17 @@ pub fn fork<S: FrameSeat, F: FrameSupply<Seat = S>>(
     requires ready { IsAlive (body_of S.view space.old) }
     ensures forked { IfOk result (λ child. HasForked (body_of S.view space.old) (body_of S.view space.new) (body_of S.view child)) }
     ensures whole { IfErr result (λ _. (t : Tables) (p : Process) → IsSpace (body_of S.view space.old) t p → IsSpace (body_of S.view space.new) t p) }
-    ensures dry { IsNoFrameError result → (t : Tables) (p : Process) → IsSpace (body_of S.view space.old) t p → RunsDry (S.view space.old.seat) (S.view space.new.seat) (model.fork_need p) [] }
+    ensures dry { IsNoFrameError result → (t : Tables) (p : Process) → IsSpace (body_of S.view space.old) t p
+        → RunsDry (S.view space.old.seat) (S.view space.new.seat) (model.fork_need p) [] }
     ensures full { IsSharersFullError result → TakesFrames (S.view space.old.seat) (S.view space.new.seat) 0 (65535 ∷ []) }
-    ensures short { F.alone → (t : Tables) (p : Process) → IsSpace (body_of S.view space.old) t p → IsNoFrameError result ↔ (F.free store.old < model.fork_need p) }
+    ensures short { F.alone → (t : Tables) (p : Process) → IsSpace (body_of S.view space.old) t p
+        → IsNoFrameError result ↔ (F.free store.old < model.fork_need p) }
     ensures sharers { F.alone → IsSharersFullError result → (f : ℕ) × IsHeld (S.view space.old.seat) f × (F.count store.old f < 65535 → ⊥) }
     ensures free { F.alone → (t : Tables) (p : Process) → IsSpace (body_of S.view space.old) t p → (IsSharersFullError result → ⊥) →
         F.free store.new ≡ F.free store.old - (if is_ok result then model.fork_need p else 0) }
     ensures place { KeepsPlace space.old space.new }
-    ensures keeps { IfOk result (λ child. (others : List S) → F.rule store.old (space.old.seat ∷ others) → F.rule store.new (space.new.seat ∷ child.seat ∷ others)) }
+    ensures keeps { IfOk result (λ child. (others : List S) → F.rule store.old (space.old.seat ∷ others)
+        → F.rule store.new (space.new.seat ∷ child.seat ∷ others)) }
     ensures keeps_refused { IfErr result (λ _. KeepsSeats F.rule store.old space.old.seat store.new space.new.seat) }
 {
     let mut list = PageList::new();
@@ -141,16 +144,20 @@ pub fn fork_with<S: FrameSeat, F: FrameSupply<Seat = S>>(
 ) -> Result<Child<S>, ForkError>
     requires fits { IsSeatOf F.rule store.old space.old.seat }
     requires ready { IsAlive (body_of S.view space.old) }
-    ensures forked { IfOk result (λ child. HasForked (body_of S.view space.old) (body_of S.view space.new) (body (S.view child.seat) child.root.0 child.trapframe.0 space.old.layout)) }
+    ensures forked { IfOk result (λ child.
+        HasForked (body_of S.view space.old) (body_of S.view space.new) (body (S.view child.seat) child.root.0 child.trapframe.0 space.old.layout)) }
     ensures whole { IfErr result (λ _. (t : Tables) (p : Process) → IsSpace (body_of S.view space.old) t p → IsSpace (body_of S.view space.new) t p) }
-    ensures dry { IsNoFrameError result → (t : Tables) (p : Process) → IsSpace (body_of S.view space.old) t p → RunsDry (S.view space.old.seat) (S.view space.new.seat) (model.fork_need p) [] }
+    ensures dry { IsNoFrameError result → (t : Tables) (p : Process) → IsSpace (body_of S.view space.old) t p
+        → RunsDry (S.view space.old.seat) (S.view space.new.seat) (model.fork_need p) [] }
     ensures full { IsSharersFullError result → TakesFrames (S.view space.old.seat) (S.view space.new.seat) 0 (65535 ∷ []) }
-    ensures short { F.alone → (t : Tables) (p : Process) → IsSpace (body_of S.view space.old) t p → IsNoFrameError result ↔ (F.free store.old < model.fork_need p) }
+    ensures short { F.alone → (t : Tables) (p : Process) → IsSpace (body_of S.view space.old) t p
+        → IsNoFrameError result ↔ (F.free store.old < model.fork_need p) }
     ensures sharers { F.alone → IsSharersFullError result → (f : ℕ) × IsHeld (S.view space.old.seat) f × (F.count store.old f < 65535 → ⊥) }
     ensures free { F.alone → (t : Tables) (p : Process) → IsSpace (body_of S.view space.old) t p → (IsSharersFullError result → ⊥) →
         F.free store.new ≡ F.free store.old - (if is_ok result then model.fork_need p else 0) }
     ensures place { KeepsPlace space.old space.new }
-    ensures keeps { IfOk result (λ child. (others : List S) → F.rule store.old (space.old.seat ∷ others) → F.rule store.new (space.new.seat ∷ child.seat ∷ others)) }
+    ensures keeps { IfOk result (λ child. (others : List S) → F.rule store.old (space.old.seat ∷ others)
+        → F.rule store.new (space.new.seat ∷ child.seat ∷ others)) }
     ensures keeps_refused { IfErr result (λ _. KeepsSeats F.rule store.old space.old.seat store.new space.new.seat) }
 {
     let settled = list.settled_pages(space, store);
@@ -171,16 +178,20 @@ pub fn fork_listed<S: FrameSeat, F: FrameSupply<Seat = S>>(
     requires fits { IsSeatOf F.rule store.old space.old.seat }
     requires ready { IsAlive (body_of S.view space.old) }
     requires settled { (t : Tables) (p : Process) → IsSpace (body_of S.view space.old) t p → AreSettled t p 0 (trapframe_page p.scheme) settled.now }
-    ensures forked { IfOk result (λ child. HasForked (body_of S.view space.old) (body_of S.view space.new) (body (S.view child.seat) child.root.0 child.trapframe.0 space.old.layout)) }
+    ensures forked { IfOk result (λ child.
+        HasForked (body_of S.view space.old) (body_of S.view space.new) (body (S.view child.seat) child.root.0 child.trapframe.0 space.old.layout)) }
     ensures whole { IfErr result (λ _. (t : Tables) (p : Process) → IsSpace (body_of S.view space.old) t p → IsSpace (body_of S.view space.new) t p) }
-    ensures dry { IsNoFrameError result → (t : Tables) (p : Process) → IsSpace (body_of S.view space.old) t p → RunsDry (S.view space.old.seat) (S.view space.new.seat) (model.fork_need p) [] }
+    ensures dry { IsNoFrameError result → (t : Tables) (p : Process) → IsSpace (body_of S.view space.old) t p
+        → RunsDry (S.view space.old.seat) (S.view space.new.seat) (model.fork_need p) [] }
     ensures full { IsSharersFullError result → TakesFrames (S.view space.old.seat) (S.view space.new.seat) 0 (65535 ∷ []) }
-    ensures short { F.alone → (t : Tables) (p : Process) → IsSpace (body_of S.view space.old) t p → IsNoFrameError result ↔ (F.free store.old < model.fork_need p) }
+    ensures short { F.alone → (t : Tables) (p : Process) → IsSpace (body_of S.view space.old) t p
+        → IsNoFrameError result ↔ (F.free store.old < model.fork_need p) }
     ensures sharers { F.alone → IsSharersFullError result → (f : ℕ) × IsHeld (S.view space.old.seat) f × (F.count store.old f < 65535 → ⊥) }
     ensures free { F.alone → (t : Tables) (p : Process) → IsSpace (body_of S.view space.old) t p → (IsSharersFullError result → ⊥) →
         F.free store.new ≡ F.free store.old - (if is_ok result then model.fork_need p else 0) }
     ensures place { KeepsPlace space.old space.new }
-    ensures keeps { IfOk result (λ child. (others : List S) → F.rule store.old (space.old.seat ∷ others) → F.rule store.new (space.new.seat ∷ child.seat ∷ others)) }
+    ensures keeps { IfOk result (λ child. (others : List S) → F.rule store.old (space.old.seat ∷ others)
+        → F.rule store.new (space.new.seat ∷ child.seat ∷ others)) }
     ensures keeps_refused { IfErr result (λ _. KeepsSeats F.rule store.old space.old.seat store.new space.new.seat) }
 {
     let scheme = space.layout.scheme();
@@ -212,7 +223,8 @@ fn prepare<S: FrameSeat, F: FrameSupply<Seat = S>>(
     requires few { length settled.now < MOST_FRAMES }
     requires empty { frames.old.items ≡ [] }
     requires credits { (S.view space.old.seat).credits ≡ 0 }
-    ensures prepared { IfOk result (λ _. Prepares (S.view space.old.seat) (S.view space.new.seat) need (map (λ f. f.0) frames.new.items) (0 ∷ frames_of settled.now)) }
+    ensures prepared { IfOk result (λ _. Prepares (S.view space.old.seat) (S.view space.new.seat) need (map (λ f. f.0) frames.new.items) (0
+        ∷ frames_of settled.now)) }
     ensures dry { IsNoFrameError result → IsDry need (S.view space.old.seat) (S.view space.new.seat) }
     ensures back { IsSharersFullError result → IsGivenBack (S.view space.old.seat) (S.view space.new.seat) }
     ensures short { F.alone → IsNoFrameError result ↔ (F.free store.old < need) }
@@ -241,7 +253,8 @@ fn divide<S: FrameSeat, F: FrameSupply<Seat = S>>(
     requires fits { IsSeatOf F.rule store.old space.old.seat }
     requires ready { (v : View) × (t : Tables) × (p : Process) × CanDivide v (body_of S.view space.old) t p settled.now (map (λ f. f.0) frames.old.items) }
     ensures divided { (v : View) (t : Tables) (p : Process) → CanDivide v (body_of S.view space.old) t p settled.now (map (λ f. f.0) frames.old.items) →
-        (u w : Tables) × Forks (body v space.old.root.0 space.old.trapframe.0 space.old.layout) (body_of S.view space.new) (body (S.view result.seat) result.root.0 result.trapframe.0 space.old.layout) t u w p }
+        (u w : Tables) × Forks (body v space.old.root.0 space.old.trapframe.0 space.old.layout) (body_of S.view space.new)
+        (body (S.view result.seat) result.root.0 result.trapframe.0 space.old.layout) t u w p }
     ensures place { KeepsPlace space.old space.new }
     ensures keeps { (others : List S) → F.rule store.old (space.old.seat ∷ others) → F.rule store.new (space.new.seat ∷ result.seat ∷ others) }
     ensures free { F.alone → F.free store.new ≡ F.free store.old }

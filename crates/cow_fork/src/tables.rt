@@ -27,8 +27,10 @@ pub(crate) fn list_tables<S: FrameSeat, F: FrameAccess<Seat = S>>(
     frames: &mut ArrayVec<FrameNo, MOST_FRAMES>,
 )
     requires fits { IsSeatOf F.rule store.old seat.old }
-    requires ready { (t : Tables) × HasTables scheme (S.view seat.old) root.0 t × IsLed scheme t × CanList t (map (λ f. f.0) frames.old.items) × IsEdged scheme t end }
-    ensures listed { (t : Tables) → HasTables scheme (S.view seat.old) root.0 t → IsLed scheme t → CanList t (map (λ f. f.0) frames.old.items) → IsEdged scheme t end →
+    requires ready { (t : Tables) × HasTables scheme (S.view seat.old) root.0 t × IsLed scheme t
+        × CanList t (map (λ f. f.0) frames.old.items) × IsEdged scheme t end }
+    ensures listed { (t : Tables) → HasTables scheme (S.view seat.old) root.0 t → IsLed scheme t
+        → CanList t (map (λ f. f.0) frames.old.items) → IsEdged scheme t end →
         ListsTables t (map (λ f. f.0) frames.old.items) (map (λ f. f.0) frames.new.items) }
     ensures view { S.view seat.new ≡ S.view seat.old }
     ensures same { store.new ≡ store.old }
@@ -58,8 +60,10 @@ fn list_level<S: FrameSeat, F: FrameAccess<Seat = S>>(
     requires fits { IsSeatOf F.rule store.old seat.old }
     requires deep { depth ≤ top_level scheme }
     requires size { pages ≡ places (top_level scheme - depth) }
-    requires ready { (t : Tables) × (L : List ℕ) × IsListing scheme (S.view seat.old) root.0 t (512 ^ (above_root scheme + depth)) L (map (λ f. f.0) frames.old.items) × IsEdged scheme t end }
-    ensures listed { (t : Tables) (L : List ℕ) → IsListing scheme (S.view seat.old) root.0 t (512 ^ (above_root scheme + depth)) L (map (λ f. f.0) frames.old.items) → IsEdged scheme t end →
+    requires ready { (t : Tables) × (L : List ℕ)
+        × IsListing scheme (S.view seat.old) root.0 t (512 ^ (above_root scheme + depth)) L (map (λ f. f.0) frames.old.items) × IsEdged scheme t end }
+    ensures listed { (t : Tables) (L : List ℕ)
+        → IsListing scheme (S.view seat.old) root.0 t (512 ^ (above_root scheme + depth)) L (map (λ f. f.0) frames.old.items) → IsEdged scheme t end →
         IsListing scheme (S.view seat.old) root.0 t (512 ^ (above_root scheme + suc depth)) L (map (λ f. f.0) frames.new.items) }
     ensures view { S.view seat.new ≡ S.view seat.old }
     ensures same { store.new ≡ store.old }

@@ -85,7 +85,8 @@ fn open_tables<S: FrameSeat, F: FrameSupply<Seat = S>>(
 ) -> FrameNo
     requires fits { IsSeatOf F.rule store.old seat.old }
     requires ready { CanOpen scheme (S.view seat.old) trapframe.0 }
-    ensures opened { (u : Tables) × ((t : Tables) (p : Process) → p.scheme ≡ scheme → CopiesPages (S.view seat.old) (S.view seat.new) t u p result.0 trapframe.0 0 []) }
+    ensures opened { (u : Tables)
+        × ((t : Tables) (p : Process) → p.scheme ≡ scheme → CopiesPages (S.view seat.old) (S.view seat.new) t u p result.0 trapframe.0 0 []) }
     ensures keeps { KeepsSeats F.rule store.old seat.old store.new seat.new }
     ensures free { F.alone → F.free store.new ≡ F.free store.old }
 {
@@ -106,8 +107,10 @@ pub(crate) fn mark_pages<S: FrameSeat, F: FrameAccess<Seat = S>>(
     settled: &[SettledPage],
 )
     requires fits { IsSeatOf F.rule store.old space.old.seat }
-    requires ready { (t : Tables) × (p : Process) × (extra : ℕ → ℕ) × IsSpaceInCall (body_of S.view space.old) t p extra × AreSettled t p 0 (trapframe_page p.scheme) settled.now }
-    ensures marked { (t : Tables) (p : Process) (extra : ℕ → ℕ) → IsSpaceInCall (body_of S.view space.old) t p extra → AreSettled t p 0 (trapframe_page p.scheme) settled.now →
+    requires ready { (t : Tables) × (p : Process) × (extra : ℕ → ℕ) × IsSpaceInCall (body_of S.view space.old) t p extra
+        × AreSettled t p 0 (trapframe_page p.scheme) settled.now }
+    ensures marked { (t : Tables) (p : Process) (extra : ℕ → ℕ) → IsSpaceInCall (body_of S.view space.old) t p extra
+        → AreSettled t p 0 (trapframe_page p.scheme) settled.now →
         (w : Tables) × IsSpaceInCall (body_of S.view space.new) w (marked p) extra × RewritesLeaves (body_of S.view space.old) (body_of S.view space.new) t w }
     ensures place { KeepsPlace space.old space.new }
     ensures keeps { KeepsSeats F.rule store.old space.old.seat store.new space.new.seat }

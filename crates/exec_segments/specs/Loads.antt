@@ -32,7 +32,15 @@ abbrev pub load_code : Coded LoadSegment
 load_code = code_by (ℕ × (ℕ × (ℕ × (Bool × (Bool × (Bool × List ℕ))))))
     (coded× coded_ℕ (coded× coded_ℕ (coded× coded_ℕ (coded× coded_bool (coded× coded_bool (coded× coded_bool (coded_list coded_ℕ)))))))
     (λ l. (l.address, (l.memory_size, (l.file_size, (l.writes, (l.executes, (l.inside, l.bytes)))))))
-    (λ p. record { address = p.0; memory_size = p.1.0; file_size = p.1.1.0; writes = p.1.1.1.0; executes = p.1.1.1.1.0; inside = p.1.1.1.1.1.0; bytes = p.1.1.1.1.1.1 })
+    (λ p. record {
+      address = p.0;
+      memory_size = p.1.0;
+      file_size = p.1.1.0;
+      writes = p.1.1.1.0;
+      executes = p.1.1.1.1.0;
+      inside = p.1.1.1.1.1.0;
+      bytes = p.1.1.1.1.1.1;
+    })
     (λ _. refl)
 
 -- a segment has pages, no more bytes in the image than in memory, and starts at a multiple of 4,096, on page `end` or later;

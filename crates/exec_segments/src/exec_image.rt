@@ -48,13 +48,19 @@ pub fn exec<S: FrameSeat, F: FrameSupply<Seat = S>, C: Files>(
     requires fits { IsSeatOf F.rule store.old space.old.seat }
     requires ready { IsAlive (body_of S.view space.old) }
     requires scheme { image.now.scheme ≡ space.old.layout.scheme }
-    ensures replaced { IfOk result (λ _. (t : tables.Tables) × ((fresh : ℕ) → IsSpace (body_of S.view space.new) t (model.process_of image.now.scheme fresh image.now.loads)) × OwnsAlone (S.view space.new.seat) t) }
-    ensures moves { IfOk result (λ _. (t : tables.Tables) (p : Process) → IsSpace (body_of S.view space.old) t p → C.becomes files.old (all_moves p) files.new) }
-    ensures written { IfOk result (λ _. (t : tables.Tables) (p : Process) → IsSpace (body_of S.view space.old) t p → C.files files.new ≡ all_written_back (C.files files.old) p) }
+    ensures replaced { IfOk result (λ _. (t : tables.Tables)
+        × ((fresh : ℕ) → IsSpace (body_of S.view space.new) t (model.process_of image.now.scheme fresh image.now.loads))
+        × OwnsAlone (S.view space.new.seat) t) }
+    ensures moves { IfOk result (λ _. (t : tables.Tables) (p : Process) → IsSpace (body_of S.view space.old) t p
+        → C.becomes files.old (all_moves p) files.new) }
+    ensures written { IfOk result (λ _. (t : tables.Tables) (p : Process) → IsSpace (body_of S.view space.old) t p
+        → C.files files.new ≡ all_written_back (C.files files.old) p) }
     ensures takes { IfOk result (λ _. TakesFrames (S.view space.old.seat) (S.view space.new.seat) (exec_need image.now.scheme image.now.loads) []) }
     ensures saved { IfOk result (λ _. hold_of (S.view space.new.seat) space.old.trapframe.0 ≡ hold_of (S.view space.old.seat) space.old.trapframe.0) }
-    ensures refused { IfErr result (λ e. (t : tables.Tables) (p : Process) → IsSpace (body_of S.view space.old) t p → IsExecRefusal (C.can_refuse files.old (length (all_moves p))) e) }
-    ensures promised { IfErr result (λ e. e ≡ NoFrame → (t : tables.Tables) (p : Process) → IsSpace (body_of S.view space.old) t p → length (all_moves p) ≤ C.room files.new) }
+    ensures refused { IfErr result (λ e. (t : tables.Tables) (p : Process) → IsSpace (body_of S.view space.old) t p
+        → IsExecRefusal (C.can_refuse files.old (length (all_moves p))) e) }
+    ensures promised { IfErr result (λ e. e ≡ NoFrame → (t : tables.Tables) (p : Process) → IsSpace (body_of S.view space.old) t p
+        → length (all_moves p) ≤ C.room files.new) }
     ensures dry { IfErr result (λ e. e ≡ NoFrame → RunsDry (S.view space.old.seat) (S.view space.new.seat) (exec_need image.now.scheme image.now.loads) []) }
     ensures whole { IfErr result (λ _. (t : tables.Tables) (p : Process) → IsSpace (body_of S.view space.old) t p → IsSpace (body_of S.view space.new) t p) }
     ensures files_stay { IfErr result (λ _. C.becomes files.old [] files.new) }

@@ -35,7 +35,8 @@ pub(crate) struct Load<'a> {
 impl Default for Load<'_> {
     ghost use Rattle.std.specs.Prelude.{◌≡◌, ℕ, false, []};
 
-    ghost is_default = { λ l. (l.address ≡ 0) × (l.memory_size ≡ 0) × (l.file_size ≡ 0) × (l.writes ≡ false) × (l.executes ≡ false) × (l.is_inside ≡ false) × (l.bytes.now ≡ []) };
+    ghost is_default = { λ l. (l.address ≡ 0) × (l.memory_size ≡ 0) × (l.file_size ≡ 0) × (l.writes ≡ false) × (l.executes ≡ false)
+        × (l.is_inside ≡ false) × (l.bytes.now ≡ []) };
 
     fn default() -> Self {
         Load {

@@ -38,7 +38,8 @@ pub fn start<F: FrameSupply<Seat = S>, S: FrameSeat>(
 ) -> Result<Space<S>, (NoFrame, S)>
     requires fits { IsSeatOf F.rule store.old seat }
     requires seat { HoldsTrampoline (S.view seat) }
-    ensures started { IfOk result (λ s. (t : tables.Tables) × ((fresh : ℕ) → IsSpace (body_of S.view s) t (model.process_of image.now.scheme fresh image.now.loads)) × OwnsAlone (S.view s.seat) t) }
+    ensures started { IfOk result (λ s. (t : tables.Tables)
+        × ((fresh : ℕ) → IsSpace (body_of S.view s) t (model.process_of image.now.scheme fresh image.now.loads)) × OwnsAlone (S.view s.seat) t) }
     ensures takes { IfOk result (λ s. TakesFrames (S.view seat) (S.view s.seat) (start_need image.now.scheme image.now.loads) []) }
     ensures refused { IfErr result (λ e. IsDry (start_need image.now.scheme image.now.loads) (S.view seat) (S.view e.1)) }
     ensures exact { F.alone → IsOk result ↔ (start_need image.now.scheme image.now.loads ≤ F.free store.old) }

@@ -21,12 +21,15 @@ aligned_copy : (b : Bool) (o : Option Rule) → (if b then o else Some rule.Misa
 aligned_copy true o is = is
 aligned_copy false o is = absurd (cc)
 
-pub can_reside : (x : Body) (t : Tables) (p : Process) (a : Access) (address width : ℕ) → IsSpace x t p → first_rule p.scheme (regions p) a address width ≡ None → CanMakeResident x t p a (page_of address)
+pub can_reside : (x : Body) (t : Tables) (p : Process) (a : Access) (address width : ℕ) → IsSpace x t p
+    → first_rule p.scheme (regions p) a address width ≡ None → CanMakeResident x t p a (page_of address)
 can_reside x t p a address width space none =
-    let tests = none_true (copy_tests p.scheme (regions p) a address) (aligned_copy (is_aligned address width) (copy_rule p.scheme (regions p) a address) none) in
+    let tests = none_true (copy_tests p.scheme (regions p) a address)
+    (aligned_copy (is_aligned address width) (copy_rule p.scheme (regions p) a address) none) in
     go (region_at (regions p) (page_of address)) refl tests.1.1.1.1.0
   where
-    go : (o : Option Region) → region_at (regions p) (page_of address) ≡ o → lacks_right a (region_at (regions p) (page_of address)) ≡ false → CanMakeResident x t p a (page_of address)
+    go : (o : Option Region) → region_at (regions p) (page_of address) ≡ o → lacks_right a (region_at (regions p) (page_of address)) ≡ false
+        → CanMakeResident x t p a (page_of address)
     go None is right = absurd (let lacks = subst (λ o. lacks_right a o ≡ false) is right in cc)
     go (Some r) is right = record { agrees = space; region = r; in_region = is; right = subst (λ o. lacks_right a o ≡ false) is right }
 

@@ -61,13 +61,15 @@ pub record MakesResident (v : View) (x : Body) (t u : Tables) (p : Process) (fil
 -- the count that was read, if one was
 abbrev pub HasMadeResident : Body → Body → List File → Access → ℕ → (ℕ → ℕ → Type 0) → Type 0
 HasMadeResident x y files access page IsCount = (t : Tables) (p : Process) → CanMakeResident x t p access page
-    → (u : Tables) × (count : Option ℕ) × MakesResident x.view y t u p files access page count × ((f c : ℕ) → IsFrameOfPage t page f → count ≡ Some c → IsCount f c)
+    → (u : Tables) × (count : Option ℕ) × MakesResident x.view y t u p files access page count
+    × ((f c : ℕ) → IsFrameOfPage t page f → count ≡ Some c → IsCount f c)
 
 -- no frame was claimed: the free count was read as 0 while fewer frames were reserved than `resident_need`, by the count
 -- that was read, if one was
 abbrev pub LacksFrames : Body → Body → Access → ℕ → Type 0
 LacksFrames x y access page = (t : Tables) (p : Process) → CanMakeResident x t p access page
-    → (count : Option ℕ) × (is_some count ≡ is_counted access (get p.settled page)) × RunsDry x.view y.view (resident_need (is_shared_by count) p access page) (option_to_list count)
+    → (count : Option ℕ) × (is_some count ≡ is_counted access (get p.settled page))
+    × RunsDry x.view y.view (resident_need (is_shared_by count) p access page) (option_to_list count)
 
 -- P holds of how many frames the page needs, by whether the count of its frame is 1
 abbrev pub WhenMadeResident : Body → Access → ℕ → (ℕ → ℕ) → (ℕ → Type 0) → Type 0

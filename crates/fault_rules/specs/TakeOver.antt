@@ -27,4 +27,5 @@ pub record Unshares (v : View) (x : Body) (t u : Tables) (p : Process) (page : �
 -- page's frame and the count that was read, if one was
 abbrev pub HasUnshared : Body → Body → SettledPage → (ℕ → ℕ → Type 0) → Type 0
 HasUnshared x y settled IsCount = (t : Tables) (p : Process) → CanMakeResident x t p Store settled.page → (is : IsSettledPage t p settled)
-    → (u : Tables) × (count : Option ℕ) × Unshares x.view y t u p settled.page is.page count × ((f c : ℕ) → IsFrameOfPage t settled.page f → count ≡ Some c → IsCount f c)
+    → (u : Tables) × (count : Option ℕ) × Unshares x.view y t u p settled.page is.page count
+    × ((f c : ℕ) → IsFrameOfPage t settled.page f → count ≡ Some c → IsCount f c)

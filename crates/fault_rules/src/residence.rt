@@ -2,7 +2,8 @@
 // its first frame, with zeros or bytes of its file; a settled page is taken over for a store (copy-on-write). Enum
 // `ResidenceError`: too few frames, or the files refused the promise (reservation) of a page read.
 
-ghost use Rattle.std.specs.Prelude.{[], ◌≡◌, ◌≢◌, ◌+◌, ◌-◌, ◌*◌, ◌^◌, ◌<◌, ◌≤◌, ◌↔◌, ℕ, Err, if◌then◌else◌, IfErr, IfOk, is_ok, false, IsOk, length, List, None, Some};
+ghost use Rattle.std.specs.Prelude.{[], ◌≡◌, ◌≢◌, ◌+◌, ◌-◌, ◌*◌, ◌^◌, ◌<◌, ◌≤◌, ◌↔◌, ℕ, Err, if◌then◌else◌, IfErr, IfOk, is_ok, false, IsOk};
+ghost use Rattle.std.specs.Prelude.{length, List, None, Some};
 ghost use Rattle.address_space.specs.Agreement.{body_of, IsSpace};
 ghost use Rattle.address_space.specs.Kept.{IsUntouched, KeepsPlace};
 ghost use Rattle.address_space.specs.Layouts.{region_of};
@@ -80,17 +81,22 @@ pub fn make_resident<S: FrameSeat, F: FrameSupply<Seat = S>, C: Files>(
 ) -> Result<(), ResidenceError>
     requires fits { IsSeatOf F.rule store.old space.old.seat }
     requires ready { (t : Tables) × (p : Process) × CanMakeResident (body_of S.view space.old) t p access page }
-    ensures resident { IfOk result (λ _. HasMadeResident (body_of S.view space.old) (body_of S.view space.new) (C.files files.old) access page (λ f c. F.alone → c ≡ F.count store.old f)) }
+    ensures resident { IfOk result (λ _.
+        HasMadeResident (body_of S.view space.old) (body_of S.view space.new) (C.files files.old) access page (λ f c. F.alone → c ≡ F.count store.old f)) }
     ensures dry { IsNoFrameError result → LacksFrames (body_of S.view space.old) (body_of S.view space.new) access page }
     ensures whole { IsNoFrameError result → (t : Tables) (p : Process) → IsSpace (body_of S.view space.old) t p → IsSpace (body_of S.view space.new) t p }
     ensures unpromised { (e : PromiseError) → result ≡ Err (Unpromised e) → C.can_refuse files.old 1 e }
-    ensures of_file { (e : PromiseError) → result ≡ Err (Unpromised e) → (t : Tables) (p : Process) → CanMakeResident (body_of S.view space.old) t p access page → 0 < length (resident_reads (C.files files.old) p page) }
+    ensures of_file { (e : PromiseError) → result ≡ Err (Unpromised e) → (t : Tables) (p : Process)
+        → CanMakeResident (body_of S.view space.old) t p access page → 0 < length (resident_reads (C.files files.old) p page) }
     ensures stays { (e : PromiseError) → result ≡ Err (Unpromised e) → IsUntouched S.view space.old space.new store.old store.new }
     ensures files_stay { (e : PromiseError) → result ≡ Err (Unpromised e) → C.becomes files.old [] files.new }
-    ensures moves { ((e : PromiseError) → result ≢ Err (Unpromised e)) → (t : Tables) (p : Process) → CanMakeResident (body_of S.view space.old) t p access page → C.becomes files.old (resident_reads (C.files files.old) p page) files.new }
+    ensures moves { ((e : PromiseError) → result ≢ Err (Unpromised e)) → (t : Tables) (p : Process)
+        → CanMakeResident (body_of S.view space.old) t p access page → C.becomes files.old (resident_reads (C.files files.old) p page) files.new }
     ensures enough { F.alone → WhenMadeResident (body_of S.view space.old) access page (F.count store.old) (λ need. IsOk result → need ≤ F.free store.old) }
-    ensures short { F.alone → WhenMadeResident (body_of S.view space.old) access page (F.count store.old) (λ need. IsNoFrameError result → F.free store.old < need) }
-    ensures free { F.alone → WhenMadeResident (body_of S.view space.old) access page (F.count store.old) (λ need. F.free store.new ≡ F.free store.old - taken_of result need) }
+    ensures short { F.alone → WhenMadeResident (body_of S.view space.old) access page (F.count store.old) (λ need. IsNoFrameError result
+        → F.free store.old < need) }
+    ensures free { F.alone → WhenMadeResident (body_of S.view space.old) access page (F.count store.old) (λ need.
+        F.free store.new ≡ F.free store.old - taken_of result need) }
     ensures place { KeepsPlace space.old space.new }
     ensures keeps { KeepsSeats F.rule store.old space.old.seat store.new space.new.seat }
 {
@@ -115,17 +121,22 @@ fn settle_initial<S: FrameSeat, F: FrameSupply<Seat = S>, C: Files>(
     requires fits { IsSeatOf F.rule store.old space.old.seat }
     requires ready { (t : Tables) × (p : Process) × CanMakeResident (body_of S.view space.old) t p access page }
     requires unsettled { (t : Tables) (p : Process) → IsSpace (body_of S.view space.old) t p → get p.settled page ≡ None }
-    ensures resident { IfOk result (λ _. HasMadeResident (body_of S.view space.old) (body_of S.view space.new) (C.files files.old) access page (λ f c. F.alone → c ≡ F.count store.old f)) }
+    ensures resident { IfOk result (λ _.
+        HasMadeResident (body_of S.view space.old) (body_of S.view space.new) (C.files files.old) access page (λ f c. F.alone → c ≡ F.count store.old f)) }
     ensures dry { IsNoFrameError result → LacksFrames (body_of S.view space.old) (body_of S.view space.new) access page }
     ensures whole { IsNoFrameError result → (t : Tables) (p : Process) → IsSpace (body_of S.view space.old) t p → IsSpace (body_of S.view space.new) t p }
     ensures unpromised { (e : PromiseError) → result ≡ Err (Unpromised e) → C.can_refuse files.old 1 e }
-    ensures of_file { (e : PromiseError) → result ≡ Err (Unpromised e) → (t : Tables) (p : Process) → CanMakeResident (body_of S.view space.old) t p access page → 0 < length (resident_reads (C.files files.old) p page) }
+    ensures of_file { (e : PromiseError) → result ≡ Err (Unpromised e) → (t : Tables) (p : Process)
+        → CanMakeResident (body_of S.view space.old) t p access page → 0 < length (resident_reads (C.files files.old) p page) }
     ensures stays { (e : PromiseError) → result ≡ Err (Unpromised e) → IsUntouched S.view space.old space.new store.old store.new }
     ensures files_stay { (e : PromiseError) → result ≡ Err (Unpromised e) → C.becomes files.old [] files.new }
-    ensures moves { ((e : PromiseError) → result ≢ Err (Unpromised e)) → (t : Tables) (p : Process) → CanMakeResident (body_of S.view space.old) t p access page → C.becomes files.old (resident_reads (C.files files.old) p page) files.new }
+    ensures moves { ((e : PromiseError) → result ≢ Err (Unpromised e)) → (t : Tables) (p : Process)
+        → CanMakeResident (body_of S.view space.old) t p access page → C.becomes files.old (resident_reads (C.files files.old) p page) files.new }
     ensures enough { F.alone → WhenMadeResident (body_of S.view space.old) access page (F.count store.old) (λ need. IsOk result → need ≤ F.free store.old) }
-    ensures short { F.alone → WhenMadeResident (body_of S.view space.old) access page (F.count store.old) (λ need. IsNoFrameError result → F.free store.old < need) }
-    ensures free { F.alone → WhenMadeResident (body_of S.view space.old) access page (F.count store.old) (λ need. F.free store.new ≡ F.free store.old - taken_of result need) }
+    ensures short { F.alone → WhenMadeResident (body_of S.view space.old) access page (F.count store.old) (λ need. IsNoFrameError result
+        → F.free store.old < need) }
+    ensures free { F.alone → WhenMadeResident (body_of S.view space.old) access page (F.count store.old) (λ need.
+        F.free store.new ≡ F.free store.old - taken_of result need) }
     ensures place { KeepsPlace space.old space.new }
     ensures keeps { KeepsSeats F.rule store.old space.old.seat store.new space.new.seat }
 {
@@ -166,17 +177,22 @@ fn settle_from_file<S: FrameSeat, F: FrameSupply<Seat = S>, C: Files>(
     requires unsettled { (t : Tables) (p : Process) → IsSpace (body_of S.view space.old) t p → get p.settled page ≡ None }
     requires region { (t : Tables) (p : Process) → IsSpace (body_of S.view space.old) t p → region_at (regions p) page ≡ Some (region_of region.now) }
     requires source { (offset : ℕ) × ((region_of region.now).source ≡ model.file file offset) × (at ≡ offset + 4096 * (page - region.now.first)) }
-    ensures resident { IfOk result (λ _. HasMadeResident (body_of S.view space.old) (body_of S.view space.new) (C.files files.old) access page (λ f c. F.alone → c ≡ F.count store.old f)) }
+    ensures resident { IfOk result (λ _.
+        HasMadeResident (body_of S.view space.old) (body_of S.view space.new) (C.files files.old) access page (λ f c. F.alone → c ≡ F.count store.old f)) }
     ensures dry { IsNoFrameError result → LacksFrames (body_of S.view space.old) (body_of S.view space.new) access page }
     ensures whole { IsNoFrameError result → (t : Tables) (p : Process) → IsSpace (body_of S.view space.old) t p → IsSpace (body_of S.view space.new) t p }
     ensures unpromised { (e : PromiseError) → result ≡ Err (Unpromised e) → C.can_refuse files.old 1 e }
-    ensures of_file { (e : PromiseError) → result ≡ Err (Unpromised e) → (t : Tables) (p : Process) → CanMakeResident (body_of S.view space.old) t p access page → 0 < length (resident_reads (C.files files.old) p page) }
+    ensures of_file { (e : PromiseError) → result ≡ Err (Unpromised e) → (t : Tables) (p : Process)
+        → CanMakeResident (body_of S.view space.old) t p access page → 0 < length (resident_reads (C.files files.old) p page) }
     ensures stays { (e : PromiseError) → result ≡ Err (Unpromised e) → IsUntouched S.view space.old space.new store.old store.new }
     ensures files_stay { (e : PromiseError) → result ≡ Err (Unpromised e) → C.becomes files.old [] files.new }
-    ensures moves { ((e : PromiseError) → result ≢ Err (Unpromised e)) → (t : Tables) (p : Process) → CanMakeResident (body_of S.view space.old) t p access page → C.becomes files.old (resident_reads (C.files files.old) p page) files.new }
+    ensures moves { ((e : PromiseError) → result ≢ Err (Unpromised e)) → (t : Tables) (p : Process)
+        → CanMakeResident (body_of S.view space.old) t p access page → C.becomes files.old (resident_reads (C.files files.old) p page) files.new }
     ensures enough { F.alone → WhenMadeResident (body_of S.view space.old) access page (F.count store.old) (λ need. IsOk result → need ≤ F.free store.old) }
-    ensures short { F.alone → WhenMadeResident (body_of S.view space.old) access page (F.count store.old) (λ need. IsNoFrameError result → F.free store.old < need) }
-    ensures free { F.alone → WhenMadeResident (body_of S.view space.old) access page (F.count store.old) (λ need. F.free store.new ≡ F.free store.old - taken_of result need) }
+    ensures short { F.alone → WhenMadeResident (body_of S.view space.old) access page (F.count store.old) (λ need. IsNoFrameError result
+        → F.free store.old < need) }
+    ensures free { F.alone → WhenMadeResident (body_of S.view space.old) access page (F.count store.old) (λ need.
+        F.free store.new ≡ F.free store.old - taken_of result need) }
     ensures place { KeepsPlace space.old space.new }
     ensures keeps { KeepsSeats F.rule store.old space.old.seat store.new space.new.seat }
 {
@@ -209,12 +225,16 @@ fn settle_bytes<S: FrameSeat, F: FrameSupply<Seat = S>>(
     requires unsettled { (t : Tables) (p : Process) → IsSpace (body_of S.view space.old) t p → get p.settled page ≡ None }
     requires region { (t : Tables) (p : Process) → IsSpace (body_of S.view space.old) t p → region_at (regions p) page ≡ Some (region_of region.now) }
     requires inside { length bytes.now ≤ 4096 }
-    ensures resident { IfOk result (λ _. (files : List File) → padded 4096 bytes.now ≡ source_page files (region_of region.now).source (4096 * (page - region.now.first)) → HasMadeResident (body_of S.view space.old) (body_of S.view space.new) files access page (λ f c. F.alone → c ≡ F.count store.old f)) }
+    ensures resident { IfOk result (λ _. (files : List File)
+        → padded 4096 bytes.now ≡ source_page files (region_of region.now).source (4096 * (page - region.now.first))
+        → HasMadeResident (body_of S.view space.old) (body_of S.view space.new) files access page (λ f c. F.alone → c ≡ F.count store.old f)) }
     ensures dry { IfErr result (λ _. LacksFrames (body_of S.view space.old) (body_of S.view space.new) access page) }
     ensures whole { IfErr result (λ _. (t : Tables) (p : Process) → IsSpace (body_of S.view space.old) t p → IsSpace (body_of S.view space.new) t p) }
     ensures enough { F.alone → WhenMadeResident (body_of S.view space.old) access page (F.count store.old) (λ need. IsOk result → need ≤ F.free store.old) }
-    ensures short { F.alone → WhenMadeResident (body_of S.view space.old) access page (F.count store.old) (λ need. IfErr result (λ _. F.free store.old < need)) }
-    ensures free { F.alone → WhenMadeResident (body_of S.view space.old) access page (F.count store.old) (λ need. F.free store.new ≡ F.free store.old - (if is_ok result then need else 0)) }
+    ensures short { F.alone → WhenMadeResident (body_of S.view space.old) access page (F.count store.old) (λ need.
+        IfErr result (λ _. F.free store.old < need)) }
+    ensures free { F.alone → WhenMadeResident (body_of S.view space.old) access page (F.count store.old) (λ need.
+        F.free store.new ≡ F.free store.old - (if is_ok result then need else 0)) }
     ensures place { KeepsPlace space.old space.new }
     ensures keeps { KeepsSeats F.rule store.old space.old.seat store.new space.new.seat }
 {

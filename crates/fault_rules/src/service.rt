@@ -55,17 +55,25 @@ pub fn serve<S: FrameSeat, F: FrameSupply<Seat = S>, C: Files>(
     requires ready { IsAlive (body_of S.view space.old) }
     requires width { 0 < width }
     ensures ended { (t : Tables) (p : Process) → IsSpace (body_of S.view space.old) t p → IsEnd (first_rule p.scheme (regions p) access va.0 width) result }
-    ensures ready { result ≡ Ready → HasMadeResident (body_of S.view space.old) (body_of S.view space.new) (C.files files.old) access (page_of va.0) (λ f c. F.alone → c ≡ F.count store.old f) }
+    ensures ready { result ≡ Ready
+        → HasMadeResident (body_of S.view space.old) (body_of S.view space.new) (C.files files.old) access (page_of va.0) (λ f c. F.alone
+        → c ≡ F.count store.old f) }
     ensures dry { result ≡ Ended NoFrame → LacksFrames (body_of S.view space.old) (body_of S.view space.new) access (page_of va.0) }
-    ensures whole { (rule : Rule) → result ≡ Ended rule → (t : Tables) (p : Process) → IsSpace (body_of S.view space.old) t p → IsSpace (body_of S.view space.new) t p }
+    ensures whole { (rule : Rule) → result ≡ Ended rule → (t : Tables) (p : Process) → IsSpace (body_of S.view space.old) t p
+        → IsSpace (body_of S.view space.new) t p }
     ensures unpromised { (e : Refusal) → result ≡ Unserved e → (x : PromiseError) × C.can_refuse files.old 1 x × (e ≡ refusal_of x) }
-    ensures of_file { (e : Refusal) → result ≡ Unserved e → (t : Tables) (p : Process) → IsSpace (body_of S.view space.old) t p → 0 < length (served_moves (C.files files.old) p (page_of va.0) (first_rule p.scheme (regions p) access va.0 width)) }
+    ensures of_file { (e : Refusal) → result ≡ Unserved e → (t : Tables) (p : Process) → IsSpace (body_of S.view space.old) t p
+        → 0 < length (served_moves (C.files files.old) p (page_of va.0) (first_rule p.scheme (regions p) access va.0 width)) }
     ensures stays { DoesNothing result → IsUntouched S.view space.old space.new store.old store.new }
     ensures files_stay { (e : Refusal) → result ≡ Unserved e → C.becomes files.old [] files.new }
-    ensures moves { ((e : Refusal) → result ≢ Unserved e) → (t : Tables) (p : Process) → IsSpace (body_of S.view space.old) t p → C.becomes files.old (served_moves (C.files files.old) p (page_of va.0) (first_rule p.scheme (regions p) access va.0 width)) files.new }
-    ensures enough { F.alone → WhenMadeResident (body_of S.view space.old) access (page_of va.0) (F.count store.old) (λ need. result ≡ Ready → need ≤ F.free store.old) }
-    ensures short { F.alone → WhenMadeResident (body_of S.view space.old) access (page_of va.0) (F.count store.old) (λ need. result ≡ Ended NoFrame → F.free store.old < need) }
-    ensures free { F.alone → WhenMadeResident (body_of S.view space.old) access (page_of va.0) (F.count store.old) (λ need. F.free store.new ≡ F.free store.old - (if is_ready result then need else 0)) }
+    ensures moves { ((e : Refusal) → result ≢ Unserved e) → (t : Tables) (p : Process) → IsSpace (body_of S.view space.old) t p
+        → C.becomes files.old (served_moves (C.files files.old) p (page_of va.0) (first_rule p.scheme (regions p) access va.0 width)) files.new }
+    ensures enough { F.alone
+        → WhenMadeResident (body_of S.view space.old) access (page_of va.0) (F.count store.old) (λ need. result ≡ Ready → need ≤ F.free store.old) }
+    ensures short { F.alone → WhenMadeResident (body_of S.view space.old) access (page_of va.0) (F.count store.old) (λ need.
+        result ≡ Ended NoFrame → F.free store.old < need) }
+    ensures free { F.alone → WhenMadeResident (body_of S.view space.old) access (page_of va.0) (F.count store.old) (λ need.
+        F.free store.new ≡ F.free store.old - (if is_ready result then need else 0)) }
     ensures place { KeepsPlace space.old space.new }
     ensures keeps { KeepsSeats F.rule store.old space.old.seat store.new space.new.seat }
 {

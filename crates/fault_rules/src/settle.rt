@@ -36,10 +36,13 @@ pub(crate) fn settle_as<S: FrameSeat, F: FrameSupply<Seat = S>>(
     requires inside { length bytes.now ≤ 4096 }
     requires kept { (t : Tables) (p : Process) → CanSettle (body_of S.view space.old) t p page → mark ≡ true → keeps_stores (region_on p page) ≡ true }
     ensures settled { IfOk result (λ _. HasSettledAs (body_of S.view space.old) (body_of S.view space.new) page bytes.now mark) }
-    ensures dry { IfErr result (λ _. (t : Tables) (p : Process) → CanSettle (body_of S.view space.old) t p page → RunsDry (S.view space.old.seat) (S.view space.new.seat) (settle_need p page) []) }
+    ensures dry { IfErr result (λ _. (t : Tables) (p : Process) → CanSettle (body_of S.view space.old) t p page
+        → RunsDry (S.view space.old.seat) (S.view space.new.seat) (settle_need p page) []) }
     ensures whole { IfErr result (λ _. (t : Tables) (p : Process) → IsSpace (body_of S.view space.old) t p → IsSpace (body_of S.view space.new) t p) }
-    ensures exact { F.alone → (t : Tables) (p : Process) → CanSettle (body_of S.view space.old) t p page → IsOk result ↔ (settle_need p page ≤ F.free store.old) }
-    ensures free { F.alone → (t : Tables) (p : Process) → CanSettle (body_of S.view space.old) t p page → F.free store.new ≡ F.free store.old - (if is_ok result then settle_need p page else 0) }
+    ensures exact { F.alone → (t : Tables) (p : Process) → CanSettle (body_of S.view space.old) t p page
+        → IsOk result ↔ (settle_need p page ≤ F.free store.old) }
+    ensures free { F.alone → (t : Tables) (p : Process) → CanSettle (body_of S.view space.old) t p page
+        → F.free store.new ≡ F.free store.old - (if is_ok result then settle_need p page else 0) }
     ensures place { KeepsPlace space.old space.new }
     ensures keeps { KeepsSeats F.rule store.old space.old.seat store.new space.new.seat }
 {

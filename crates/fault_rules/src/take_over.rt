@@ -32,11 +32,14 @@ pub(crate) fn take_over<S: FrameSeat, F: FrameSupply<Seat = S>>(
     requires fits { IsSeatOf F.rule store.old space.old.seat }
     requires ready { (t : Tables) × (p : Process) × CanMakeResident (body_of S.view space.old) t p Store settled.now.page }
     requires settled { (t : Tables) (p : Process) → IsSpace (body_of S.view space.old) t p → IsSettledPage t p settled.now }
-    ensures resident { IfOk result (λ _. (files : List File) → HasMadeResident (body_of S.view space.old) (body_of S.view space.new) files Store settled.now.page (λ f c. F.alone → c ≡ F.count store.old f)) }
+    ensures resident { IfOk result (λ _. (files : List File)
+        → HasMadeResident (body_of S.view space.old) (body_of S.view space.new) files Store settled.now.page (λ f c. F.alone → c ≡ F.count store.old f)) }
     ensures dry { IfErr result (λ _. LacksFrames (body_of S.view space.old) (body_of S.view space.new) Store settled.now.page) }
     ensures whole { IfErr result (λ _. (t : Tables) (p : Process) → IsSpace (body_of S.view space.old) t p → IsSpace (body_of S.view space.new) t p) }
-    ensures exact { F.alone → WhenMadeResident (body_of S.view space.old) Store settled.now.page (F.count store.old) (λ need. IsOk result ↔ (need ≤ F.free store.old)) }
-    ensures free { F.alone → WhenMadeResident (body_of S.view space.old) Store settled.now.page (F.count store.old) (λ need. F.free store.new ≡ F.free store.old - (if is_ok result then need else 0)) }
+    ensures exact { F.alone → WhenMadeResident (body_of S.view space.old) Store settled.now.page (F.count store.old) (λ need.
+        IsOk result ↔ (need ≤ F.free store.old)) }
+    ensures free { F.alone → WhenMadeResident (body_of S.view space.old) Store settled.now.page (F.count store.old) (λ need.
+        F.free store.new ≡ F.free store.old - (if is_ok result then need else 0)) }
     ensures place { KeepsPlace space.old space.new }
     ensures keeps { KeepsSeats F.rule store.old space.old.seat store.new space.new.seat }
 {
@@ -56,11 +59,14 @@ fn unshare<S: FrameSeat, F: FrameSupply<Seat = S>>(
     requires fits { IsSeatOf F.rule store.old space.old.seat }
     requires ready { (t : Tables) × (p : Process) × CanMakeResident (body_of S.view space.old) t p Store settled.now.page }
     requires settled { (t : Tables) (p : Process) → IsSpace (body_of S.view space.old) t p → IsSettledPage t p settled.now }
-    ensures unshared { IfOk result (λ _. HasUnshared (body_of S.view space.old) (body_of S.view space.new) settled.now (λ f c. F.alone → c ≡ F.count store.old f)) }
+    ensures unshared { IfOk result (λ _. HasUnshared (body_of S.view space.old) (body_of S.view space.new) settled.now (λ f c. F.alone
+        → c ≡ F.count store.old f)) }
     ensures dry { IfErr result (λ _. LacksFrames (body_of S.view space.old) (body_of S.view space.new) Store settled.now.page) }
     ensures whole { IfErr result (λ _. (t : Tables) (p : Process) → IsSpace (body_of S.view space.old) t p → IsSpace (body_of S.view space.new) t p) }
-    ensures exact { F.alone → WhenMadeResident (body_of S.view space.old) Store settled.now.page (F.count store.old) (λ need. IsOk result ↔ (need ≤ F.free store.old)) }
-    ensures free { F.alone → WhenMadeResident (body_of S.view space.old) Store settled.now.page (F.count store.old) (λ need. F.free store.new ≡ F.free store.old - (if is_ok result then need else 0)) }
+    ensures exact { F.alone → WhenMadeResident (body_of S.view space.old) Store settled.now.page (F.count store.old) (λ need.
+        IsOk result ↔ (need ≤ F.free store.old)) }
+    ensures free { F.alone → WhenMadeResident (body_of S.view space.old) Store settled.now.page (F.count store.old) (λ need.
+        F.free store.new ≡ F.free store.old - (if is_ok result then need else 0)) }
     ensures place { KeepsPlace space.old space.new }
     ensures keeps { KeepsSeats F.rule store.old space.old.seat store.new space.new.seat }
 {

@@ -85,7 +85,8 @@ fn after_the_word(
     line: &[u8],
     cause: Cause,
 ) -> Result<Option<Mistake>, AllocError>
-    ensures found { (text : List ℕ) (fields : List (List ℕ)) (r : words_of.Row) → fields_of line.now ≡ text ∷ fields → row_among command_table text ≡ Some r → after_word draft.now r fields ≡ Err cause → AfterWord cause → IfOk result IsSome }
+    ensures found { (text : List ℕ) (fields : List (List ℕ)) (r : words_of.Row) → fields_of line.now ≡ text ∷ fields
+        → row_among command_table text ≡ Some r → after_word draft.now r fields ≡ Err cause → AfterWord cause → IfOk result IsSome }
     ensures column { IfOk result (λ m. IfSome m (λ m. IsOfLine line.now m)) }
 {
     let Some((word, fields)) = first_field(line) else {

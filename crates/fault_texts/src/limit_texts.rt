@@ -220,7 +220,8 @@ fn show_limits(
     draft: &Draft,
     values: &[FieldValue],
 ) -> Result<Option<Outside>, AllocError>
-    ensures { IfOk result (λ found. is_none found ≡ (words.has_file draft.now (words.number_at values.now 0) && nat_le (words.number_at values.now 2) longest_copy)) }
+    ensures { IfOk result (λ found. is_none found ≡ (words.has_file draft.now (words.number_at values.now 0)
+        && nat_le (words.number_at values.now 2) longest_copy)) }
 {
     let file = index_at(values, 0);
     if !draft.has_file(file) {
@@ -265,7 +266,8 @@ pub fn outside_limits(
     line: &[u8],
     fields: &[u8],
 ) -> Result<Option<Mistake>, AllocError>
-    ensures found { (vs : List FieldValue) → values_of (seen row.now) (fields_of fields.now) ≡ Ok vs → words.item_of draft.now row.now.word vs ≡ Err Cause.Limits → IfOk result IsSome }
+    ensures found { (vs : List FieldValue) → values_of (seen row.now) (fields_of fields.now) ≡ Ok vs
+        → words.item_of draft.now row.now.word vs ≡ Err Cause.Limits → IfOk result IsSome }
     ensures column { IfOk result (λ m. IfSome m (λ m. IsOfLine line.now m)) }
 {
     let Ok(values) = read_values(alloc, row, fields)? else {

@@ -34,9 +34,15 @@ impl Model for Shelf {
 
     ghost Value = { ShelfState };
 
-    ghost view = { λ s. record { first = s.first.value; files = s.cabinet; history = s.history.items; room = min (vec_capacity s.history) most_uses - length s.history.items } };
+    ghost view = { λ s. record {
+      first = s.first.value;
+      files = s.cabinet;
+      history = s.history.items;
+      room = min (vec_capacity s.history) most_uses - length s.history.items;
+    } };
 
-    ghost invariant = { λ s. (length s.history.items ≤ most_uses) × HistoryReplays s.first.value s.history.items × (s.cabinet ≡ files_after s.first.value s.history.items) };
+    ghost invariant = { λ s. (length s.history.items ≤ most_uses) × HistoryReplays s.first.value s.history.items
+        × (s.cabinet ≡ files_after s.first.value s.history.items) };
 }
 
 impl Shelf {

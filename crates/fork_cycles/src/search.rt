@@ -21,9 +21,11 @@ fn step(
     path: &mut Vec<usize>,
     last: usize,
 ) -> Result<Option<usize>, AllocError>
-    ensures kept { IfOk result (λ next. (first : ℕ) → IsSearch lists.now first marks.old (path.old.items ++ last ∷ []) → next ≡ None → IsSearch lists.now first marks.new path.new.items) }
+    ensures kept { IfOk result (λ next. (first : ℕ) → IsSearch lists.now first marks.old (path.old.items ++ last ∷ []) → next ≡ None
+        → IsSearch lists.now first marks.new path.new.items) }
     ensures less { IfOk result (λ next. next ≡ None → work marks.new path.new.items < work marks.old (path.old.items ++ last ∷ [])) }
-    ensures closes { IfOk result (λ next. (first : ℕ) → IsSearch lists.now first marks.old (path.old.items ++ last ∷ []) → IfSome next (Closes lists.now first path.new.items)) }
+    ensures closes { IfOk result (λ next. (first : ℕ) → IsSearch lists.now first marks.old (path.old.items ++ last ∷ [])
+        → IfSome next (Closes lists.now first path.new.items)) }
 {
     let Some(next) = next_fork(calls_of(lists, last), marks) else {
         set_mark(marks, last, Mark::Ended);

@@ -28,12 +28,14 @@ find-enumerate_from n i [] = refl
 find-enumerate_from n zero (w ∷ words) = rw (unsigned_tied (n + 0) n, eq-eqb (n + 0) n (omega arith)) refl
 find-enumerate_from n (suc i) (w ∷ words) =
     let later : n + suc i ≡ n + 1 + i = omega arith in
-    rw (unsigned_tied (n + suc i) n, ne_eqb (n + suc i) n (λ e. omega arith)) (ap (λ q. map.find nat_cmp q (enumerate_from (n + 1) words)) later ∙ find-enumerate_from (n + 1) i words)
+    rw (unsigned_tied (n + suc i) n, ne_eqb (n + suc i) n (λ e. omega arith)) (ap (λ q.
+    map.find nat_cmp q (enumerate_from (n + 1) words)) later ∙ find-enumerate_from (n + 1) i words)
 
 -- the word at an index is that of the list
 pub get-words_by_index : (words : List ℕ) (i : ℕ) → map.get (words_by_index words) i ≡ slice_get words i
 unfolding words_by_index
-get-words_by_index words i = map.get-from_entries nat_cmp_total (enumerate_from 0 words) i ∙ (let e : i ≡ 0 + i = omega arith in ap (λ q. map.find nat_cmp q (enumerate_from 0 words)) e ∙ find-enumerate_from 0 i words)
+get-words_by_index words i = map.get-from_entries nat_cmp_total (enumerate_from 0 words) i
+    ∙ (let e : i ≡ 0 + i = omega arith in ap (λ q. map.find nat_cmp q (enumerate_from 0 words)) e ∙ find-enumerate_from 0 i words)
 
 -- what the view `filled` has of each frame
 module _ (f : ℕ) (words : List ℕ) (v : View) where
@@ -41,7 +43,8 @@ module _ (f : ℕ) (words : List ℕ) (v : View) where
   hold_of-filled_same = hold_of-with_hold_same f (page_hold words) (record v { tallies = spent 1 v.tallies })
 
   pub hold_of-filled_other : (g : ℕ) → (g ≡ f → ⊥) → hold_of (filled f words v) g ≡ hold_of v g
-  hold_of-filled_other g apart = hold_of-with_hold_other f (page_hold words) (record v { tallies = spent 1 v.tallies }) g apart ∙ hold_of-frames (record v { tallies = spent 1 v.tallies }) v refl g
+  hold_of-filled_other g apart = hold_of-with_hold_other f (page_hold words) (record v { tallies = spent 1 v.tallies }) g apart
+      ∙ hold_of-frames (record v { tallies = spent 1 v.tallies }) v refl g
 
   pub known_word-filled : (i : ℕ) → known_word (filled f words v) f i ≡ slice_get words i
   known_word-filled i = ap (λ (h : Hold). map.get h.words i) hold_of-filled_same ∙ get-words_by_index words i

@@ -12,7 +12,8 @@ pub record Holdings : Type 0 where
   pub seats : List (Option View)
 
 abbrev pub holdings_code : Coded Holdings
-holdings_code = code_by (ℕ × List (Option View)) (coded× coded_ℕ (coded_list (coded_option view_code))) (λ h. (h.free, h.seats)) (λ p. record { free = p.0; seats = p.1 }) (λ _. refl)
+holdings_code = code_by (ℕ
+    × List (Option View)) (coded× coded_ℕ (coded_list (coded_option view_code))) (λ h. (h.free, h.seats)) (λ p. record { free = p.0; seats = p.1 }) (λ _. refl)
 
 abbrev pub view_or_empty : Option (Option View) → View
 view_or_empty (Some (Some v)) = v

@@ -2,31 +2,37 @@
 -- after the hold of one frame was set (`with_hold`) or removed (`without_hold`), and in an empty or opening view; of two
 -- sets the later counts, and to set what is there changes nothing; lookups in maps of numbers; a release or a split keeps
 -- the number of frames (`size`).
-use Rattle.std.proofs.Common.{◌≡◌, ℕ, ◌-◌, ◌<◌, ◌==◌, List, [], ◌∷◌, Bool, true, false, cond, refl, ap, sym, ◌∙◌, Option, None, Some, IsTrue, inl, inr, subst, arith, lit<}
+use Rattle.std.proofs.Common.{◌≡◌, ℕ, ◌-◌, ◌<◌, ◌==◌, List, [], ◌∷◌, Bool, true, false, cond, refl, ap, sym, ◌∙◌, Option, None, Some}
+use Rattle.std.proofs.Common.{IsTrue, inl, inr, subst, arith, lit<}
 use Rattle.std.proofs.lemmas.Bool.{ne_eqb, eq-eqb}
 use Rattle.std.proofs.lemmas.Bool.Decides.{eqb_tells}
 use Rattle.std.specs.Cmp.{nat_cmp_total, unsigned_tied}
 use Rattle.std.specs.Ordering.{nat_cmp}
 use Rattle.std.specs.FinMap as map
-use Rattle.frame_store.specs.View.{View, Hold, hold_of, with_hold, without_hold, or_not_held, not_held, empty_view, opening_view, IsHeld, IsSole, references, released, moved_from, moved_to, split_off}
+use Rattle.frame_store.specs.View.{View, Hold, hold_of, with_hold, without_hold, or_not_held, not_held, empty_view, opening_view, IsHeld}
+use Rattle.frame_store.specs.View.{IsSole, references, released, moved_from, moved_to, split_off}
 
 module _ (f : ℕ) (h : Hold) (v : View) where
   pub hold_of-with_hold_same : hold_of (with_hold f h v) f ≡ h
   unfolding hold_of
-  hold_of-with_hold_same = ap or_not_held (map.get-insert nat_cmp_total v.frames f h f ∙ ap (λ b. cond b (Some h) (map.get v.frames f)) (unsigned_tied f f ∙ eq-eqb f f refl))
+  hold_of-with_hold_same =
+      ap or_not_held (map.get-insert nat_cmp_total v.frames f h f ∙ ap (λ b. cond b (Some h) (map.get v.frames f)) (unsigned_tied f f ∙ eq-eqb f f refl))
 
   pub hold_of-with_hold_other : (g : ℕ) → (g ≡ f → ⊥) → hold_of (with_hold f h v) g ≡ hold_of v g
   unfolding hold_of
-  hold_of-with_hold_other g apart = ap or_not_held (map.get-insert nat_cmp_total v.frames f h g ∙ ap (λ b. cond b (Some h) (map.get v.frames g)) (unsigned_tied g f ∙ ne_eqb g f apart))
+  hold_of-with_hold_other g apart =
+      ap or_not_held (map.get-insert nat_cmp_total v.frames f h g ∙ ap (λ b. cond b (Some h) (map.get v.frames g)) (unsigned_tied g f ∙ ne_eqb g f apart))
 
 module _ (f : ℕ) (v : View) where
   pub hold_of-without_hold_same : hold_of (without_hold f v) f ≡ not_held
   unfolding hold_of
-  hold_of-without_hold_same = ap or_not_held (map.get-remove nat_cmp_total v.frames f f ∙ ap (λ b. cond b None (map.get v.frames f)) (unsigned_tied f f ∙ eq-eqb f f refl))
+  hold_of-without_hold_same =
+      ap or_not_held (map.get-remove nat_cmp_total v.frames f f ∙ ap (λ b. cond b None (map.get v.frames f)) (unsigned_tied f f ∙ eq-eqb f f refl))
 
   pub hold_of-without_hold_other : (g : ℕ) → (g ≡ f → ⊥) → hold_of (without_hold f v) g ≡ hold_of v g
   unfolding hold_of
-  hold_of-without_hold_other g apart = ap or_not_held (map.get-remove nat_cmp_total v.frames f g ∙ ap (λ b. cond b None (map.get v.frames g)) (unsigned_tied g f ∙ ne_eqb g f apart))
+  hold_of-without_hold_other g apart =
+      ap or_not_held (map.get-remove nat_cmp_total v.frames f g ∙ ap (λ b. cond b None (map.get v.frames g)) (unsigned_tied g f ∙ ne_eqb g f apart))
 
 -- a view's holds depend on its frames alone, not on credits or tallies
 pub hold_of-frames : (v w : View) → v.frames ≡ w.frames → (g : ℕ) → hold_of v g ≡ hold_of w g
@@ -38,7 +44,9 @@ unfolding hold_of
 hold_of-empty size g = ap or_not_held (map.get-empty {X = Hold} nat_cmp g)
 
 pub opening_holds : {size : ℕ} (v : View) → v ≡ opening_view size → IsHeld v 0
-opening_holds {size} v e = subst (λ (k : Hold). 0 < k.references) (sym (ap (λ w. hold_of w 0) e ∙ hold_of-with_hold_same 0 record { references = 1; sole = true; words = map.empty } (empty_view size))) (lit< tt)
+opening_holds {size} v e =
+    subst (λ (k : Hold). 0 < k.references) (sym (ap (λ w. hold_of w 0) e
+    ∙ hold_of-with_hold_same 0 record { references = 1; sole = true; words = map.empty } (empty_view size))) (lit< tt)
 
 -- what a lookup in a map of numbers gives after an insertion
 pub get-insert_at : {X : Type 0} (m : map.FinMap nat_cmp X) (k : ℕ) (x : X) (q : ℕ) → map.get (map.insert m k x) q ≡ cond (q == k) (Some x) (map.get m q)
@@ -87,11 +95,16 @@ with_sole_hold_back f v sole = put_back f (hold_of v f) v (sole_there _ sole)
 -- no release and no move of references changes how many frames the store has
 
 pub size-released : (f : ℕ) (v : View) → (released f v).size ≡ v.size
-size-released f v = elim (references v f == 1) as (λ b. (cond b (without_hold f v) (with_hold f (record (hold_of v f) { references = references v f - 1 }) v)).size ≡ v.size) [ true ↦ refl | false ↦ refl ]
+size-released f v = elim (references v f == 1) as (λ b.
+    (cond b (without_hold f v) (with_hold f (record (hold_of v f) { references = references v f - 1 }) v)).size ≡ v.size) [ true ↦ refl | false ↦ refl ]
 
 size-moved_from : (f : ℕ) (v : View) → (moved_from f v).size ≡ v.size
 size-moved_from f v =
-    elim (references v f == 1) as (λ b. (cond b (without_hold f v) (with_hold f record { references = references v f - 1; sole = false; words = (hold_of v f).words } v)).size ≡ v.size) [ true ↦ refl | false ↦ refl ]
+    elim (references v f == 1) as (λ b. (cond b (without_hold f v) (with_hold f record {
+      references = references v f - 1;
+      sole = false;
+      words = (hold_of v f).words;
+    } v)).size ≡ v.size) [ true ↦ refl | false ↦ refl ]
 
 pub size-split : (fs : List ℕ) (v w : View) → ((split_off fs v w).0).size ≡ v.size × ((split_off fs v w).1).size ≡ w.size
 size-split [] v w = (refl, refl)

@@ -33,9 +33,11 @@ abbrev pub IsAnchored : View → Type 0
 IsAnchored v = (f : ℕ) → IsHeld v f → IsHeld v 0
 
 -- after a call that keeps the seats, its seat meets the requirement of the next call
-pub fits_after : {Store Seat : Type 0} (rule : Store → List Seat → Type 0) {store after : Store} {seat seat_after : Seat} → KeepsSeats rule store seat after seat_after → IsSeatOf rule store seat → IsSeatOf rule after seat_after
+pub fits_after : {Store Seat : Type 0} (rule : Store → List Seat → Type 0) {store after : Store} {seat seat_after : Seat}
+    → KeepsSeats rule store seat after seat_after → IsSeatOf rule store seat → IsSeatOf rule after seat_after
 fits_after rule keeps fits = (fits.0, keeps fits.0 fits.1)
 
 -- two calls in sequence keep the seats if each does
-pub keeps_both : {Store Seat : Type 0} (rule : Store → List Seat → Type 0) {s t u : Store} {a b c : Seat} → KeepsSeats rule s a t b → KeepsSeats rule t b u c → KeepsSeats rule s a u c
+pub keeps_both : {Store Seat : Type 0} (rule : Store → List Seat → Type 0) {s t u : Store} {a b c : Seat} → KeepsSeats rule s a t b
+    → KeepsSeats rule t b u c → KeepsSeats rule s a u c
 keeps_both rule first second others r = second others (first others r)

@@ -5,7 +5,8 @@
 use Rattle.std.proofs.Common.{sym, subst, ap, ◌∙◌, arith, inl, inr}
 use Rattle.std.proofs.lemmas.Bool.{cases_lt}
 use Rattle.std.proofs.lemmas.List.{get_or_past}
-use Rattle.std.specs.Prelude.{◌≡◌, ◌≢◌, refl, ℕ, ◌+◌, ◌-◌, ◌*◌, ◌<◌, ◌≤◌, Bool, List, [], ◌∷◌, ◌++◌, length, replicate, slice_index, slice_set, count_by, nat_lt, sum, ◌==◌, Some, IsTrue}
+use Rattle.std.specs.Prelude.{◌≡◌, ◌≢◌, refl, ℕ, ◌+◌, ◌-◌, ◌*◌, ◌<◌, ◌≤◌, Bool, List, [], ◌∷◌, ◌++◌, length, replicate, slice_index}
+use Rattle.std.specs.Prelude.{slice_set, count_by, nat_lt, sum, ◌==◌, Some, IsTrue}
 use Rattle.process_model.specs.declared.step.Report.{Report}
 use Rattle.std.specs.FinMap as finite
 use Rattle.std.specs.Ordering.{nat_cmp}
@@ -92,7 +93,8 @@ abbrev pub PlainStateRule : PlainState → List View → Type 0
 PlainStateRule b views = PlainRule b.words b.counts b.free views
 
 -- the order of the views does not matter: one may be moved to the front of the list, and from there to any place
-total_references-move : (f : ℕ) (xs : List View) (a : View) (ys : List View) → total_references f (xs ++ a ∷ ys) ≡ references a f + total_references f (xs ++ ys)
+total_references-move : (f : ℕ) (xs : List View) (a : View) (ys : List View)
+    → total_references f (xs ++ a ∷ ys) ≡ references a f + total_references f (xs ++ ys)
 total_references-move f [] a ys = refl
 total_references-move f (x ∷ xs) a ys = omega (arith, total_references-move f xs a ys)
 
@@ -100,11 +102,13 @@ total_credits-move : (xs : List View) (a : View) (ys : List View) → total_cred
 total_credits-move [] a ys = refl
 total_credits-move (x ∷ xs) a ys = omega (arith, total_credits-move xs a ys)
 
-all_agree-front : (words counts : List ℕ) (xs : List View) (a : View) (ys : List View) → AllAgree words counts (xs ++ a ∷ ys) → AllAgree words counts (a ∷ xs ++ ys)
+all_agree-front : (words counts : List ℕ) (xs : List View) (a : View) (ys : List View) → AllAgree words counts (xs ++ a ∷ ys)
+    → AllAgree words counts (a ∷ xs ++ ys)
 all_agree-front words counts [] a ys h = h
 all_agree-front words counts (x ∷ xs) a ys h = let t = all_agree-front words counts xs a ys h.1 in (t.0, (h.0, t.1))
 
-all_agree-back : (words counts : List ℕ) (xs : List View) (a : View) (ys : List View) → AllAgree words counts (a ∷ xs ++ ys) → AllAgree words counts (xs ++ a ∷ ys)
+all_agree-back : (words counts : List ℕ) (xs : List View) (a : View) (ys : List View) → AllAgree words counts (a ∷ xs ++ ys)
+    → AllAgree words counts (xs ++ a ∷ ys)
 all_agree-back words counts [] a ys h = h
 all_agree-back words counts (x ∷ xs) a ys h = (h.1.0, all_agree-back words counts xs a ys (h.0, h.1.1))
 
@@ -147,8 +151,11 @@ count_there counts f some = elim (cases_lt f (length counts)) as (λ _. f < leng
 
 pub held_within : (b : PlainState) (v : View) (vs : List View) → PlainStateRule b (v ∷ vs) → (v.size ≤ MOST_FRAMES) × ((f : ℕ) → IsHeld v f → f < v.size)
 held_within b v vs r =
-    let says = r.sizes.0 in
-    (omega (arith, says, r.few), λ f held. let total = r.counted f in let inside = count_there b.counts f (omega (arith, held, total)) in omega (arith, says, inside))
+    let says = r.sizes.0 in (
+      omega (arith, says, r.few),
+      λ f held.
+          let total = r.counted f in let inside = count_there b.counts f (omega (arith, held, total)) in omega (arith, says, inside),
+    )
 
 -- the invariant also holds with one more seat, which has nothing
 
@@ -159,7 +166,8 @@ not_held_agrees words counts f = record {
   bare = λ _. refl;
 }
 
-pub rule-empty : (words counts : List ℕ) (free : ℕ) (v : View) (vs : List View) → PlainRule words counts free (v ∷ vs) → PlainRule words counts free (v ∷ empty_view v.size ∷ vs)
+pub rule-empty : (words counts : List ℕ) (free : ℕ) (v : View) (vs : List View) → PlainRule words counts free (v ∷ vs)
+    → PlainRule words counts free (v ∷ empty_view v.size ∷ vs)
 rule-empty words counts free v vs r = record {
   few = r.few;
   sized = r.sized;
@@ -171,4 +179,5 @@ rule-empty words counts free v vs r = record {
 
 -- a call that keeps all seats does not change how many frames there are
 pub kept_size : (b c : PlainState) (v w : View) (vs : List View) → KeepsSeats PlainStateRule b v c w → PlainStateRule b (v ∷ vs) → w.size ≡ v.size
-kept_size b c v w vs keeps rule = let after = keeps (empty_view v.size ∷ vs) (rule-empty b.words b.counts b.free v vs rule) in after.sizes.0 ∙ sym after.sizes.1.0
+kept_size b c v w vs keeps rule = let after = keeps (empty_view v.size ∷ vs) (rule-empty b.words b.counts b.free v vs rule) in after.sizes.0
+    ∙ sym after.sizes.1.0

@@ -50,4 +50,5 @@ module _ (v w : View) (f : ℕ) where
   joined_second held = subst (λ (h : Hold). 0 < h.references) (sym (hold_of-joined v w f)) (added_second (hold_of v f) (hold_of w f) held)
 
   pub joined_knows : (i : ℕ) → IsHeld w f → IsSome (known_word w f i) → IsSome (known_word (joined v w) f i)
-  joined_knows i held known = subst (λ (h : Hold). IsSome (map.get h.words i)) (sym (hold_of-joined v w f)) (added_knows (hold_of v f) (hold_of w f) i held known)
+  joined_knows i held known =
+      subst (λ (h : Hold). IsSome (map.get h.words i)) (sym (hold_of-joined v w f)) (added_knows (hold_of v f) (hold_of w f) i held known)

@@ -17,4 +17,8 @@ pub opener_held : (v : View) → IsHeld v 0 → IsHeld (opener v) 0
 opener_held v held = subst (λ (h : Hold). 0 < h.references) (sym (hold_of-with_hold_same 0 (record (hold_of v 0) { sole = false }) v)) held
 
 pub opened_held : (v : View) → IsHeld (opened v) 0
-opened_held v = subst (λ (h : Hold). 0 < h.references) (sym (hold_of-with_hold_same 0 record { references = 1; sole = false; words = (hold_of v 0).words } (empty_view v.size))) (lit< tt)
+opened_held v = subst (λ (h : Hold). 0 < h.references) (sym (hold_of-with_hold_same 0 record {
+  references = 1;
+  sole = false;
+  words = (hold_of v 0).words;
+} (empty_view v.size))) (lit< tt)

@@ -36,11 +36,13 @@ module _ {Seat : Type 0} (holds : List Seat → Type 0) (k : Seat) (front : Come
 module _ {Seat Owner : Type 0} (holds : List Seat → Type 0) (seat_of : Owner → Seat) where
   pub comes_front-map : ComesFront holds → ComesFront (λ owners. holds (map seat_of owners))
   comes_front-map front xs a ys h =
-      subst (λ seats. holds (seat_of a ∷ seats)) (sym (map-append seat_of xs ys)) (front (map seat_of xs) (seat_of a) (map seat_of ys) (subst holds (map-append seat_of xs (a ∷ ys)) h))
+      subst (λ seats. holds (seat_of a
+      ∷ seats)) (sym (map-append seat_of xs ys)) (front (map seat_of xs) (seat_of a) (map seat_of ys) (subst holds (map-append seat_of xs (a ∷ ys)) h))
 
   pub goes_back-map : GoesBack holds → GoesBack (λ owners. holds (map seat_of owners))
   goes_back-map back xs a ys h =
-      subst holds (sym (map-append seat_of xs (a ∷ ys))) (back (map seat_of xs) (seat_of a) (map seat_of ys) (subst (λ seats. holds (seat_of a ∷ seats)) (map-append seat_of xs ys) h))
+      subst holds (sym (map-append seat_of xs (a
+      ∷ ys))) (back (map seat_of xs) (seat_of a) (map seat_of ys) (subst (λ seats. holds (seat_of a ∷ seats)) (map-append seat_of xs ys) h))
 
 -- what is read at a place after a write to it, and after a write to another place
 pub place_set_same : {A : Type 0} (places : List A) (i : ℕ) (a : A) → i < length places → slice_get (slice_set places i a) i ≡ Some a
@@ -62,8 +64,10 @@ place_set_back (x ∷ places) zero a is = ap (λ y. y ∷ places) (sym (same_Som
 place_set_back (x ∷ places) (suc i) a is = ap (λ ys. x ∷ ys) (place_set_back places i a is)
 
 -- a place with a seat is not an empty place
-pub places_apart : {Seat : Type 0} (places : List (Option Seat)) (i j : ℕ) (s : Seat) → slice_get places i ≡ Some (Some s) → slice_get places j ≡ Some None → j ≡ i → ⊥
-places_apart places i j s is empty e = let both : ◌≡◌ {A = Option (Option _)} (Some (Some s)) (Some None) = sym is ∙ ap (slice_get places) (sym e) ∙ empty in absurd (cc)
+pub places_apart : {Seat : Type 0} (places : List (Option Seat)) (i j : ℕ) (s : Seat) → slice_get places i ≡ Some (Some s)
+    → slice_get places j ≡ Some None → j ≡ i → ⊥
+places_apart places i j s is empty e = let both : ◌≡◌ {A = Option (Option _)} (Some (Some s)) (Some None) = sym is
+    ∙ ap (slice_get places) (sym e) ∙ empty in absurd (cc)
 
 present-append : {Seat : Type 0} (before after : List (Option Seat)) → present (before ++ after) ≡ present before ++ present after
 present-append [] after = refl
@@ -80,14 +84,16 @@ module _ {Seat : Type 0} (holds : List Seat → Type 0) (places : List (Option S
   pub place_out : ComesFront holds → (s : Seat) → slice_get places i ≡ Some (Some s) → holds (present places) → holds (s ∷ present (slice_set places i None))
   place_out front s is h =
       let lt : i < length places = slice_get_within places i (Some s) is in
-      let whole : present places ≡ present (take i places) ++ s ∷ present (drop (suc i) places) = ap present (sym (place_set_back places i (Some s) is)) ∙ present-set places i (Some s) lt in
+      let whole : present places ≡ present (take i places) ++ s ∷ present (drop (suc i) places) =
+      ap present (sym (place_set_back places i (Some s) is)) ∙ present-set places i (Some s) lt in
       subst (λ seats. holds (s ∷ seats)) (sym (present-set places i None lt)) (front _ _ _ (subst holds whole h))
 
   -- the seat at the front of the list is moved to the empty place i
   pub place_in : GoesBack holds → (s : Seat) → slice_get places i ≡ Some None → holds (s ∷ present places) → holds (present (slice_set places i (Some s)))
   place_in back s is h =
       let lt : i < length places = slice_get_within places i None is in
-      let whole : present places ≡ present (take i places) ++ present (drop (suc i) places) = ap present (sym (place_set_back places i None is)) ∙ present-set places i None lt in
+      let whole : present places ≡ present (take i places) ++ present (drop (suc i) places) =
+      ap present (sym (place_set_back places i None is)) ∙ present-set places i None lt in
       subst holds (sym (present-set places i (Some s) lt)) (back _ _ _ (subst (λ seats. holds (s ∷ seats)) whole h))
 
 -- the seats of places i and j are moved to the front of the list
@@ -95,7 +101,9 @@ module _ {Seat : Type 0} (holds : List Seat → Type 0) (front : ComesFront hold
   pub places_out : (s t : Seat) → slice_get places i ≡ Some (Some s) → slice_get places j ≡ Some (Some t) → (j ≡ i → ⊥)
       → holds (present places) → holds (t ∷ s ∷ present (slice_set (slice_set places i None) j None))
   places_out s t is also apart h =
-      front (s ∷ []) t _ (place_out (λ seats. holds (s ∷ seats)) (slice_set places i None) j (comes_front-behind holds s front back) t (place_set_other places i j None apart ∙ also) (place_out holds places i front s is h))
+      front (s ∷ []) t _ (place_out (λ seats. holds (s
+      ∷ seats)) (slice_set places i None) j (comes_front-behind holds s front back) t (place_set_other places i j None apart
+      ∙ also) (place_out holds places i front s is h))
 
 -- A call of the store: `holds` is its invariant before the call, `after` its invariant afterwards.
 module _ {Seat : Type 0} (holds after : List Seat → Type 0) (front : ComesFront holds) (back : GoesBack after) (places : List (Option Seat)) (i : ℕ) where
@@ -104,7 +112,8 @@ module _ {Seat : Type 0} (holds after : List Seat → Type 0) (front : ComesFron
       → holds (present places) → after (present (slice_set places i (Some t)))
   place_step s t is step h =
       subst (λ ps. after (present ps)) (set-set places i None (Some t))
-      (place_in after (slice_set places i None) i back t (place_set_same places i None (slice_get_within places i (Some s) is)) (step _ (place_out holds places i front s is h)))
+      (place_in after (slice_set places i None) i back t (place_set_same places i None (slice_get_within places i (Some s) is))
+      (step _ (place_out holds places i front s is h)))
 
   -- the seat of place i makes a call that returns a new seat, for the empty place j
   pub place_split : ComesFront after → (j : ℕ) (s t u : Seat) → slice_get places i ≡ Some (Some s) → slice_get places j ≡ Some None
@@ -113,7 +122,8 @@ module _ {Seat : Type 0} (holds after : List Seat → Type 0) (front : ComesFron
   place_split onward j s t u is empty step h =
       place_in after (slice_set places i (Some t)) j back u (place_set_other places i j (Some t) (places_apart places i j s is empty) ∙ empty)
       (subst (λ ps. after (u ∷ present ps)) (set-set places i None (Some t))
-      (place_in (λ seats. after (u ∷ seats)) (slice_set places i None) i (goes_back-behind after u onward back) t (place_set_same places i None (slice_get_within places i (Some s) is))
+      (place_in (λ seats. after (u
+      ∷ seats)) (slice_set places i None) i (goes_back-behind after u onward back) t (place_set_same places i None (slice_get_within places i (Some s) is))
       (onward (t ∷ []) u _ (step _ (place_out holds places i front s is h)))))
 
   -- the seat of place i ends, joined to the seat of place j, and place i is empty then

@@ -40,10 +40,12 @@ module _ (first : ℕ) (word : ℕ → ℕ) (words : map.FinMap nat_cmp ℕ) whe
 module _ (f first : ℕ) (word : ℕ → ℕ) (v : View) where
   -- a run of no words changes nothing
   pub many_none : IsSole v f → v ≡ with_many f first 0 word v
-  many_none sole = sym (with_sole_hold_back f v sole) ∙ ap (λ ws. with_hold f (record (hold_of v f) { words = ws }) v) (sym (put-none first word (hold_of v f).words))
+  many_none sole = sym (with_sole_hold_back f v sole)
+      ∙ ap (λ ws. with_hold f (record (hold_of v f) { words = ws }) v) (sym (put-none first word (hold_of v f).words))
 
   -- a run and the next word are a run that is longer by one
-  pub many_more : (n i x : ℕ) (w u : View) → w ≡ with_many f first n word v → i ≡ first + n → x ≡ word i → u ≡ with_word f i x w → u ≡ with_many f first (suc n) word v
+  pub many_more : (n i x : ℕ) (w u : View) → w ≡ with_many f first n word v → i ≡ first + n → x ≡ word i → u ≡ with_word f i x w
+      → u ≡ with_many f first (suc n) word v
   many_more n i x w u so_far at is stored =
       let ws = (hold_of v f).words in
       let h : Hold = record (hold_of v f) { words = put_many first n word ws } in
@@ -56,11 +58,13 @@ module _ (f first : ℕ) (word : ℕ → ℕ) (v : View) where
       ∙ ap (with_hold f k) so_far ∙ with_hold-with_hold f k h v
 
   pub many_sole : (n : ℕ) (w : View) → w ≡ with_many f first n word v → IsSole v f → IsSole w f
-  many_sole n w is sole = subst (λ (h : Hold). IsTrue h.sole) (sym (ap (λ z. hold_of z f) is ∙ hold_of-with_hold_same f (record (hold_of v f) { words = put_many first n word (hold_of v f).words }) v)) sole
+  many_sole n w is sole = subst (λ (h : Hold). IsTrue h.sole) (sym (ap (λ z. hold_of z f) is
+      ∙ hold_of-with_hold_same f (record (hold_of v f) { words = put_many first n word (hold_of v f).words }) v)) sole
 
   -- the words of the frame that are known afterwards
   pub many_known : (n q : ℕ) → known_word (with_many f first n word v) f q ≡ map.get (put_many first n word (hold_of v f).words) q
-  many_known n q = ap (λ (h : Hold). map.get h.words q) (hold_of-with_hold_same f (record (hold_of v f) { words = put_many first n word (hold_of v f).words }) v)
+  many_known n q = ap (λ (h : Hold).
+      map.get h.words q) (hold_of-with_hold_same f (record (hold_of v f) { words = put_many first n word (hold_of v f).words }) v)
 
   -- every other frame is as it was
   pub many_apart : (n g : ℕ) → (g ≡ f → ⊥) → hold_of (with_many f first n word v) g ≡ hold_of v g

@@ -2,7 +2,8 @@
 -- (references, whether the seat is known to be the sole holder, known words), then credits (reserved frames) and
 -- `Tallies` (what it has claimed and read). Then functions that give the view after each call: store, reserve, give back,
 -- claim, share, look, release, join, split.
-use Rattle.std.specs.Prelude.{map as list_map, ◌||◌, ℕ, zero, suc, ◌+◌, ◌-◌, ◌<◌, ◌≡◌, Bool, true, false, cond, ◌==◌, List, [], ◌∷◌, ◌++◌, refl, Option, None, Some, IsTrue}
+use Rattle.std.specs.Prelude.{map as list_map, ◌||◌, ℕ, zero, suc, ◌+◌, ◌-◌, ◌<◌, ◌≡◌, Bool, true, false, cond, ◌==◌, List, [], ◌∷◌, ◌++◌}
+use Rattle.std.specs.Prelude.{refl, Option, None, Some, IsTrue}
 use Rattle.std.specs.Ordering.{nat_cmp}
 use Rattle.std.specs.Coded.{Coded, code_by, coded×, coded_ℕ, coded_bool, coded_list}
 use Rattle.std.specs.FinMap as map
@@ -17,7 +18,9 @@ pub record Hold : Type 0 where
   pub words : map.FinMap nat_cmp ℕ
 
 abbrev pub hold_code : Coded Hold
-hold_code = code_by (ℕ × (Bool × map.FinMap nat_cmp ℕ)) (coded× coded_ℕ (coded× coded_bool (map.code coded_ℕ coded_ℕ))) (λ h. (h.references, (h.sole, h.words))) (λ p. record { references = p.0; sole = p.1.0; words = p.1.1 }) (λ _. refl)
+hold_code = code_by (ℕ × (Bool
+    × map.FinMap nat_cmp ℕ)) (coded× coded_ℕ (coded× coded_bool (map.code coded_ℕ coded_ℕ))) (λ h. (h.references, (h.sole, h.words))) (λ p.
+    record { references = p.0; sole = p.1.0; words = p.1.1 }) (λ _. refl)
 
 -- what a seat has read from the store and claimed, since the seat was made
 pub record Tallies : Type 0 where
@@ -30,7 +33,9 @@ pub record Tallies : Type 0 where
   pub looks : List ℕ
 
 abbrev pub tallies_code : Coded Tallies
-tallies_code = code_by (ℕ × (ℕ × (ℕ × List ℕ))) (coded× coded_ℕ (coded× coded_ℕ (coded× coded_ℕ (coded_list coded_ℕ)))) (λ t. (t.zeros, (t.short, (t.claims, t.looks)))) (λ p. record { zeros = p.0; short = p.1.0; claims = p.1.1.0; looks = p.1.1.1 }) (λ _. refl)
+tallies_code = code_by (ℕ
+    × (ℕ × (ℕ × List ℕ))) (coded× coded_ℕ (coded× coded_ℕ (coded× coded_ℕ (coded_list coded_ℕ)))) (λ t.
+    (t.zeros, (t.short, (t.claims, t.looks)))) (λ p. record { zeros = p.0; short = p.1.0; claims = p.1.1.0; looks = p.1.1.1 }) (λ _. refl)
 
 -- n more frames were claimed
 abbrev pub spent : ℕ → Tallies → Tallies
@@ -53,7 +58,9 @@ pub record View : Type 0 where
   pub tallies : Tallies
 
 abbrev pub view_code : Coded View
-view_code = code_by (ℕ × (map.FinMap nat_cmp Hold × (ℕ × Tallies))) (coded× coded_ℕ (coded× (map.code coded_ℕ hold_code) (coded× coded_ℕ tallies_code))) (λ v. (v.size, (v.frames, (v.credits, v.tallies)))) (λ p. record { size = p.0; frames = p.1.0; credits = p.1.1.0; tallies = p.1.1.1 })
+view_code = code_by (ℕ × (map.FinMap nat_cmp Hold
+    × (ℕ × Tallies))) (coded× coded_ℕ (coded× (map.code coded_ℕ hold_code) (coded× coded_ℕ tallies_code))) (λ v.
+    (v.size, (v.frames, (v.credits, v.tallies)))) (λ p. record { size = p.0; frames = p.1.0; credits = p.1.1.0; tallies = p.1.1.1 })
     (λ _. refl)
 
 -- nothing: no reference, and no word known
@@ -175,7 +182,11 @@ union a b = map.from_entries (list_map (λ i. (i, or_zero (either (map.get a i) 
 
 -- what the joined seat has of a frame of which the two seats had h and k
 abbrev pub added : Hold → Hold → Hold
-added h k = cond (k.references == 0) h (cond (h.references == 0) k record { references = h.references + k.references; sole = h.sole || k.sole; words = union h.words k.words })
+added h k = cond (k.references == 0) h (cond (h.references == 0) k record {
+  references = h.references + k.references;
+  sole = h.sole || k.sole;
+  words = union h.words k.words;
+})
 
 unfoldable pub joined_frames : View → View → map.FinMap nat_cmp Hold
 joined_frames v w = map.from_entries (list_map (λ f. (f, added (hold_of v f) (hold_of w f))) (map.keys v.frames ++ map.keys w.frames))
@@ -188,7 +199,11 @@ joined v w = record v { frames = joined_frames v w; credits = v.credits + w.cred
 -- reference a seat passes its sole-holder flag on; otherwise both seats have the flag cleared.
 
 abbrev pub moved_from : ℕ → View → View
-moved_from f v = cond (references v f == 1) (without_hold f v) (with_hold f record { references = references v f - 1; sole = false; words = (hold_of v f).words } v)
+moved_from f v = cond (references v f == 1) (without_hold f v) (with_hold f record {
+  references = references v f - 1;
+  sole = false;
+  words = (hold_of v f).words;
+} v)
 
 abbrev pub moved_to : ℕ → Hold → View → View
 moved_to f h w = with_hold f record { references = references w f + 1; sole = cond (h.references == 1) h.sole false; words = h.words } w

@@ -15,15 +15,19 @@ use Rattle.frame_store.specs.View.{View, Hold, hold_of, or_not_held, either, or_
 module _ {X : Type 0} (G : ℕ → X) (f : ℕ) where
   pub find-made : (ks : List ℕ) → map.find nat_cmp f (list_map (λ k. (k, G k)) ks) ≡ cond (list_any (eq_by_cmp nat_cmp f) ks) (Some (G f)) None
   find-made [] = refl
-  find-made (k ∷ ks) = elim (eqb_tells f k) as (λ _. map.find nat_cmp f ((k, G k) ∷ list_map (λ k. (k, G k)) ks) ≡ cond (eq_by_cmp nat_cmp f k || list_any (eq_by_cmp nat_cmp f) ks) (Some (G f)) None) [
-    | inl t ↦ rw (unsigned_tied f k, t.0, t.1)
-    | inr t ↦ rw (unsigned_tied f k, t.0) (find-made ks)
-  ]
+  find-made (k ∷ ks) = elim (eqb_tells f k) as (λ _. map.find nat_cmp f ((k, G k)
+      ∷ list_map (λ k. (k, G k)) ks) ≡ cond (eq_by_cmp nat_cmp f k || list_any (eq_by_cmp nat_cmp f) ks) (Some (G f)) None) [
+        | inl t ↦ rw (unsigned_tied f k, t.0, t.1)
+        | inr t ↦ rw (unsigned_tied f k, t.0) (find-made ks)
+      ]
 
   pub get-made : {Y Z : Type 0} (a : map.FinMap nat_cmp Y) (b : map.FinMap nat_cmp Z)
-      → map.get (map.from_entries {R = nat_cmp} (list_map (λ k. (k, G k)) (map.keys a ++ map.keys b))) f ≡ cond (is_some (map.get a f) || is_some (map.get b f)) (Some (G f)) None
+      → map.get (map.from_entries {R = nat_cmp} (list_map (λ k. (k, G k)) (map.keys a ++ map.keys b))) f ≡ cond (is_some (map.get a f)
+      || is_some (map.get b f)) (Some (G f)) None
   get-made a b = map.get-from_entries nat_cmp_total _ f ∙ find-made (map.keys a ++ map.keys b)
-      ∙ ap (λ t. cond t (Some (G f)) None) (list_any-append (eq_by_cmp nat_cmp f) (map.keys a) (map.keys b) ∙ sym (ap (λ t. t || list_any (eq_by_cmp nat_cmp f) (map.keys b)) (map.contains_key-keys a f)) ∙ sym (ap (λ t. is_some (map.get a f) || t) (map.contains_key-keys b f)))
+      ∙ ap (λ t. cond t (Some (G f)) None) (list_any-append (eq_by_cmp nat_cmp f) (map.keys a) (map.keys b)
+      ∙ sym (ap (λ t. t || list_any (eq_by_cmp nat_cmp f) (map.keys b)) (map.contains_key-keys a f))
+      ∙ sym (ap (λ t. is_some (map.get a f) || t) (map.contains_key-keys b f)))
 
 picked : (a b : Option ℕ) → cond (is_some a || is_some b) (Some (or_zero (either a b))) None ≡ either a b
 picked (Some x) b = refl
@@ -34,11 +38,13 @@ pub get-union : (a b : map.FinMap nat_cmp ℕ) (i : ℕ) → map.get (union a b)
 unfolding union
 get-union a b i = get-made (λ k. or_zero (either (map.get a k) (map.get b k))) i a b ∙ picked (map.get a i) (map.get b i)
 
-held_in : (a b : Option Hold) → or_not_held (cond (is_some a || is_some b) (Some (added (or_not_held a) (or_not_held b))) None) ≡ added (or_not_held a) (or_not_held b)
+held_in : (a b : Option Hold)
+    → or_not_held (cond (is_some a || is_some b) (Some (added (or_not_held a) (or_not_held b))) None) ≡ added (or_not_held a) (or_not_held b)
 held_in (Some x) b = refl
 held_in None (Some y) = refl
 held_in None None = refl
 
 pub hold_of-joined : (v w : View) (f : ℕ) → hold_of (joined v w) f ≡ added (hold_of v f) (hold_of w f)
 unfolding hold_of joined_frames
-hold_of-joined v w f = ap or_not_held (get-made (λ k. added (hold_of v k) (hold_of w k)) f v.frames w.frames) ∙ held_in (map.get v.frames f) (map.get w.frames f)
+hold_of-joined v w f = ap or_not_held (get-made (λ k. added (hold_of v k) (hold_of w k)) f v.frames w.frames)
+    ∙ held_in (map.get v.frames f) (map.get w.frames f)

@@ -7,7 +7,8 @@ ghost use Rattle.std.specs.Int.{from_le_bytes, w64};
 ghost use Rattle.std.specs.Prelude.{◌≡◌, ◌≢◌, ◌+◌, ◌-◌, ◌*◌, ◌/◌, ◌<◌, ◌≤◌, ◌==◌, ◌++◌, ◌∷◌, ℕ, cond, drop, length, List, Some, take};
 ghost use Rattle.frame_store.specs.Laws.{CountBecomes, IsSeatOf, IsAnchored, KeepsSeats};
 ghost use Rattle.frame_store.specs.NextWord.{IsNextBusyWord, IsNextWord};
-ghost use Rattle.frame_store.specs.View.{AllKnown, IsHeld, IsSole, joined, known_word, looked, released, View, with_many, with_word, without_credits, words_known};
+ghost use Rattle.frame_store.specs.View.{AllKnown, IsHeld, IsSole, joined, known_word, looked, released, View, with_many, with_word};
+ghost use Rattle.frame_store.specs.View.{without_credits, words_known};
 ghost use Rattle.process_model.specs.declared.limits.TheConstants.{MOST_FRAMES};
 
 use crate::bytes::word_at;
@@ -142,7 +143,8 @@ pub trait FrameAccess {
         requires fits { IsSeatOf rule self.old seat.old }
         requires sole { IsSole (Self.Seat.view seat.old) frame.0 }
         requires in_page { length bytes.now ≤ 4096 }
-        ensures view { Self.Seat.view seat.new ≡ with_many frame.0 0 (length bytes.now / 8) (λ i. from_le_bytes w64 (take 8 (drop (8 * i) bytes.now))) (Self.Seat.view seat.old) }
+        ensures view { Self.Seat.view seat.new ≡ with_many frame.0 0 (length bytes.now / 8) (λ i.
+            from_le_bytes w64 (take 8 (drop (8 * i) bytes.now))) (Self.Seat.view seat.old) }
         ensures keeps { KeepsSeats rule self.old seat.old self.new seat.new }
         ensures free { alone → free self.new ≡ free self.old }
         ensures counts { alone → (f : ℕ) → count self.new f ≡ count self.old f }

@@ -3,7 +3,8 @@
 // part, fill and copy.
 
 ghost use Rattle.std.specs.Int.{from_le_bytes, w64};
-ghost use Rattle.std.specs.Prelude.{◌≡◌, ◌+◌, ◌-◌, ◌*◌, ◌/◌, ◌<◌, ◌≤◌, ◌≢◌, ℕ, IfOk, IfSome, None, drop, length, max, replicate, slice_index, slice_set, take, vec_capacity};
+ghost use Rattle.std.specs.Prelude.{◌≡◌, ◌+◌, ◌-◌, ◌*◌, ◌/◌, ◌<◌, ◌≤◌, ◌≢◌, ℕ, IfOk, IfSome, None, drop, length, max, replicate};
+ghost use Rattle.std.specs.Prelude.{slice_index, slice_set, take, vec_capacity};
 ghost use Rattle.frame_store.specs.ZeroWords.{PutsMany, ZerosIn};
 
 use crate::bytes::put_words;

@@ -3,7 +3,8 @@
 // nonzero word (`next`) or for one that names no frame of zeros (`next_busy`), store, clear, fill and copy.
 
 ghost use Rattle.std.specs.Int.{from_le_bytes, w64};
-ghost use Rattle.std.specs.Prelude.{◌≡◌, ◌+◌, ◌-◌, ◌*◌, ◌/◌, ◌<◌, ◌≤◌, ◌≢◌, ℕ, false, IfOk, length, drop, replicate, slice_get, slice_index, slice_set, take, true};
+ghost use Rattle.std.specs.Prelude.{◌≡◌, ◌+◌, ◌-◌, ◌*◌, ◌/◌, ◌<◌, ◌≤◌, ◌≢◌, ℕ, false, IfOk, length, drop, replicate, slice_get, slice_index};
+ghost use Rattle.std.specs.Prelude.{slice_set, take, true};
 ghost use Rattle.frame_store.specs.ZeroWords.{IsIdle, IsNextBusy, IsNextIn, NamesBlank, PutsMany, ZerosIn};
 
 use crate::frame_words::{FrameWords, WORDS};

@@ -60,7 +60,8 @@ pub trait FrameSupply: FrameAccess {
         ensures exact { Self.alone → IsOk result ↔ (Self.count self.old frame.0 < 65535) }
         ensures keeps { KeepsSeats Self.rule self.old seat.old self.new seat.new }
         ensures free { Self.alone → Self.free self.new ≡ Self.free self.old }
-        ensures counts { Self.alone → CountBecomes (Self.count self.old) (Self.count self.new) frame.0 (Self.count self.old frame.0 + (if is_ok result then 1 else 0)) };
+        ensures counts { Self.alone
+            → CountBecomes (Self.count self.old) (Self.count self.new) frame.0 (Self.count self.old frame.0 + (if is_ok result then 1 else 0)) };
 
     /// Moves one reference to each listed frame from `seat` to a new seat, and returns the new seat. A frame may be listed
     /// several times; one reference moves for each. The new seat also knows the words that `seat` knows of these frames. If
@@ -72,8 +73,10 @@ pub trait FrameSupply: FrameAccess {
         requires held { CanSplit (map (λ f. f.0) frames.now) (Self.Seat.view seat.old) }
         requires left_anchored { IsAnchored (split_off (map (λ f. f.0) frames.now) (Self.Seat.view seat.old) (empty_view (Self.Seat.view seat.old).size)).0 }
         requires right_anchored { IsAnchored (split_off (map (λ f. f.0) frames.now) (Self.Seat.view seat.old) (empty_view (Self.Seat.view seat.old).size)).1 }
-        ensures left { Self.Seat.view seat.new ≡ (split_off (map (λ f. f.0) frames.now) (Self.Seat.view seat.old) (empty_view (Self.Seat.view seat.old).size)).0 }
-        ensures right { Self.Seat.view result ≡ (split_off (map (λ f. f.0) frames.now) (Self.Seat.view seat.old) (empty_view (Self.Seat.view seat.old).size)).1 }
+        ensures left { Self.Seat.view seat.new ≡ (split_off (map (λ f.
+            f.0) frames.now) (Self.Seat.view seat.old) (empty_view (Self.Seat.view seat.old).size)).0 }
+        ensures right { Self.Seat.view result ≡ (split_off (map (λ f.
+            f.0) frames.now) (Self.Seat.view seat.old) (empty_view (Self.Seat.view seat.old).size)).1 }
         ensures same { self.new ≡ self.old }
         ensures keeps { (others : List Self.Seat) → Self.rule self.old (seat.old ∷ others) → Self.rule self.new (seat.new ∷ result ∷ others) };
 }

@@ -14,4 +14,5 @@ use Rattle.process_model.specs.declared.step.Reply.{Reply}
 pub record IsMadeAtOnce (x y : Body) (p : Process) (a : AccessRequest) (c : Call) (r : Reply) : Type 0 where
   pub plain : IsPlain r
   pub process : (s : ShelfState) → (user_access p a).process ≡ (call_outcome s.files (by_reply (address_of c) r) 0 p c).process
-  pub result : (s : ShelfState) → IsModelResult x y s.files (λ moves. HasMoves s moves s) (RefusesPromise HasMoves CanRefuse s) (λ n. n ≤ s.room) p c (by_reply (address_of c) r) r
+  pub result : (s : ShelfState)
+      → IsModelResult x y s.files (λ moves. HasMoves s moves s) (RefusesPromise HasMoves CanRefuse s) (λ n. n ≤ s.room) p c (by_reply (address_of c) r) r

@@ -1,7 +1,8 @@
 -- The model's outcome of one call of a process, for each kind of call (`call_outcome`: reply, process and files after it),
 -- from the files before it and its shortage (what it needed and did not get); the pages that it reads from files
 -- (`reads_of`) and writes to them (`writes_of`); whether an mmap's file may be written (`file_of`).
-use Rattle.std.specs.Prelude.{ℕ, ◌*◌, ◌+◌, Bool, true, false, nat_le, nat_lt, Option, None, option_map, slice_get, Result, Ok, Err, List, [], length, map, flat_map, take, if◌then◌else◌}
+use Rattle.std.specs.Prelude.{ℕ, ◌*◌, ◌+◌, Bool, true, false, nat_le, nat_lt, Option, None, option_map, slice_get, Result, Ok, Err, List}
+use Rattle.std.specs.Prelude.{[], length, map, flat_map, take, if◌then◌else◌}
 use Rattle.fault_rules.specs.Serves.{served_moves}
 use Rattle.hart_calls.specs.Shortages.{initial_progress, nothing, refused, call_environment, Shortage}
 use Rattle.mmap_regions.specs.MunmapEffect.{unmap_moves}
@@ -75,11 +76,13 @@ abbrev pub received : List File → Copied → CallOutcome
 received files c = record { reply = out_reply c.bytes c.stop; process = c.progress.process; files = files }
 
 abbrev pub sent_by : List File → Shortage → Process → ℕ → ℕ → CallOutcome
-sent_by files (refused done r) p address n = refused_call files (copied_in (call_environment files nothing) (initial_progress p) address done).progress.process r
+sent_by files (refused done r) p address n =
+    refused_call files (copied_in (call_environment files nothing) (initial_progress p) address done).progress.process r
 sent_by files shortage p address n = sent files (copied_in (call_environment files shortage) (initial_progress p) address n)
 
 abbrev pub received_by : List File → Shortage → Process → ℕ → List ℕ → CallOutcome
-received_by files (refused done r) p address bytes = refused_call files (copied_out (call_environment files nothing) (initial_progress p) address (take done bytes)).progress.process r
+received_by files (refused done r) p address bytes =
+    refused_call files (copied_out (call_environment files nothing) (initial_progress p) address (take done bytes)).progress.process r
 received_by files shortage p address bytes = received files (copied_out (call_environment files shortage) (initial_progress p) address bytes)
 
 -- a copy of more than 256 bytes is refused with BadArgument
@@ -123,7 +126,8 @@ call_outcome files shortage n p (call.Sbrk delta) = resized files p (sbrk_result
 call_outcome files shortage n p (call.Mmap len protection flags file) = mapped_as files p (mapped files p len protection flags file)
 call_outcome files shortage n p (call.Munmap address len) = unmapped_as files shortage p (unmapped files p address len)
 call_outcome files shortage n p (call.CopyIn address count) = if_short files p (sent_by files shortage p address count) (nat_le count longest_copy)
-call_outcome files shortage n p (call.CopyOut address bytes) = if_short files p (received_by files shortage p address bytes.now) (nat_le (length bytes.now) longest_copy)
+call_outcome files shortage n p (call.CopyOut address bytes) =
+    if_short files p (received_by files shortage p address bytes.now) (nat_le (length bytes.now) longest_copy)
 call_outcome files shortage n p (call.Exit status) = record { reply = reply.Exited status; process = p; files = all_written_back files p }
 call_outcome files shortage n p (call.Fork list) = forked_as files shortage n p
 
@@ -136,7 +140,8 @@ access_reads files p a true = served_moves files p (page_of a.address) (rule_for
 
 -- of a copy whose parts in each page begin at `starts`: what it reads for those that begin below the limit
 abbrev pub reads_below : List File → Process → Access → ℕ → List ℕ → List PageMove
-reads_below files p access limit starts = flat_map (λ at. if nat_lt at limit then served_moves files p (page_of at) (copy_rule p.scheme (regions p) access at) else []) starts
+reads_below files p access limit starts =
+    flat_map (λ at. if nat_lt at limit then served_moves files p (page_of at) (copy_rule p.scheme (regions p) access at) else []) starts
 
 -- the limit for a copy: after a refused promise its first byte that was not copied, whose page was not read; else the byte
 -- after that one, since the page at which frames were missing was read
@@ -145,10 +150,15 @@ limit_of (refused done r) address copied = address + done
 limit_of shortage address copied = address + copied + 1
 
 abbrev pub in_reads : List File → Shortage → Process → ℕ → ℕ → List PageMove
-in_reads files shortage p address n = reads_below files p Load (limit_of shortage address (length (copied_in (call_environment files shortage) (initial_progress p) address n).bytes)) (map (λ r. r.0) (runs address n))
+in_reads files shortage p address n =
+    reads_below files p Load
+    (limit_of shortage address (length (copied_in (call_environment files shortage) (initial_progress p) address n).bytes)) (map (λ r. r.0) (runs address n))
 
 abbrev pub out_reads : List File → Shortage → Process → ℕ → List ℕ → List PageMove
-out_reads files shortage p address bytes = reads_below files p Store (limit_of shortage address (length (copied_out (call_environment files shortage) (initial_progress p) address bytes).bytes)) (map (λ r. r.0) (runs_of address bytes))
+out_reads files shortage p address bytes =
+    reads_below files p Store
+    (limit_of shortage address (length (copied_out (call_environment files shortage) (initial_progress p) address bytes).bytes)) (map (λ r.
+    r.0) (runs_of address bytes))
 
 abbrev pub if_short_reads : List PageMove → Bool → List PageMove
 if_short_reads moves true = moves

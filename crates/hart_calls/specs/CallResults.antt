@@ -68,7 +68,8 @@ RefusesPromise {C} becomes can_refuse a moves n r = (g : C) × (e : PromiseError
 
 -- reply, space and page moves are the model's for this shortage; the shortage is possible, the seat has the evidence for it,
 -- and a promise that was refused had been asked
-pub record IsModelResult (x y : Body) (files : List File) (Became : List PageMove → Type 0) (Refused : List PageMove → ℕ → Refusal → Type 0) (Promised : ℕ → Type 0) (p : Process) (c : Call) (shortage : Shortage) (r : Reply) : Type 0 where
+pub record IsModelResult (x y : Body) (files : List File) (Became : List PageMove → Type 0) (Refused : List PageMove → ℕ → Refusal
+    → Type 0) (Promised : ℕ → Type 0) (p : Process) (c : Call) (shortage : Shortage) (r : Reply) : Type 0 where
   pub possible : CanBeShort files p c shortage
   pub reply : r ≡ (call_outcome files shortage 0 p c).reply
   pub space : (u : Tables) × IsSpace y u (call_outcome files shortage 0 p c).process
@@ -89,7 +90,8 @@ ClaimsNone v w = w.tallies.claims ≡ v.tallies.claims
 
 -- the call was not made: the files could refuse to promise the one page that it would read, the space is still the process,
 -- no frame was claimed, and no page was read or written
-pub record IsNotMade (x y : Body) (files : List File) (Became : List PageMove → Type 0) (Refused : List PageMove → ℕ → Refusal → Type 0) (p : Process) (c : Call) (r : Refusal) : Type 0 where
+pub record IsNotMade (x y : Body) (files : List File) (Became : List PageMove → Type 0) (Refused : List PageMove → ℕ → Refusal
+    → Type 0) (p : Process) (c : Call) (r : Refusal) : Type 0 where
   pub could : Refused [] 1 r
   pub of_file : 0 < length (reads_of files nothing p c)
   pub claims : ClaimsNone x.view y.view
@@ -97,12 +99,17 @@ pub record IsNotMade (x y : Body) (files : List File) (Became : List PageMove �
   pub moves : Became []
 
 -- what each result promises of the process that the space was before the call
-abbrev pub IsCallResult : Body → Body → List File → (List PageMove → Type 0) → (List PageMove → ℕ → Refusal → Type 0) → (ℕ → Type 0) → Process → Call → CallResult → Type 0
+abbrev pub IsCallResult : Body → Body → List File → (List PageMove → Type 0) → (List PageMove → ℕ → Refusal → Type 0) → (ℕ → Type 0)
+    → Process → Call → CallResult → Type 0
 IsCallResult x y files Became Refused Promised p c (call_result.Cut r) = IsAccessCall c × IsNotMade x y files Became Refused p c r
-IsCallResult x y files Became Refused Promised p c (call_result.Answered r) = IsPlain r × IsModelResult x y files Became Refused Promised p c (by_reply (address_of c) r) r
-IsCallResult x y files Became Refused Promised p c (call_result.Stopped r done) = IsModelResult x y files Became Refused Promised p c (refused done r) (reply.Refused r)
-IsCallResult x y files Became Refused Promised p c (call_result.Ended rule) = IsModelResult x y files Became Refused Promised p c (at_stop rule (address_of c)) (reply.Ended rule) × ClaimsNone x.view y.view
+IsCallResult x y files Became Refused Promised p c (call_result.Answered r) = IsPlain r
+    × IsModelResult x y files Became Refused Promised p c (by_reply (address_of c) r) r
+IsCallResult x y files Became Refused Promised p c (call_result.Stopped r done) =
+    IsModelResult x y files Became Refused Promised p c (refused done r) (reply.Refused r)
+IsCallResult x y files Became Refused Promised p c (call_result.Ended rule) =
+    IsModelResult x y files Became Refused Promised p c (at_stop rule (address_of c)) (reply.Ended rule) × ClaimsNone x.view y.view
 
 -- `IsCallResult` for every process that the space was before the call, by any tables
-abbrev pub GivesCallResult : Body → Body → List File → (List PageMove → Type 0) → (List PageMove → ℕ → Refusal → Type 0) → (ℕ → Type 0) → Call → CallResult → Type 0
+abbrev pub GivesCallResult : Body → Body → List File → (List PageMove → Type 0) → (List PageMove → ℕ → Refusal → Type 0) → (ℕ → Type 0)
+    → Call → CallResult → Type 0
 GivesCallResult x y files Became Refused Promised c r = (t : Tables) (p : Process) → IsSpace x t p → IsCallResult x y files Became Refused Promised p c r

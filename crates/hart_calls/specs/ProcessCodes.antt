@@ -50,9 +50,20 @@ pending_code = code_by (Access × (ℕ × (ℕ × Bool))) (coded× access_code (
 
 abbrev pub process_code : Coded Process
 process_code = code_by (Scheme × (List Region × (List Region × (ℕ × (ℕ × (PageMap Page × (NumberSet × Option Pending)))))))
-    (coded× scheme_code (coded× (coded_list region_code) (coded× (coded_list region_code) (coded× coded_ℕ (coded× coded_ℕ (coded× (pages_code page_code) (coded× (pages_code coded_unit) (coded_option pending_code))))))))
+    (coded× scheme_code (coded× (coded_list region_code)
+    (coded× (coded_list region_code)
+    (coded× coded_ℕ (coded× coded_ℕ (coded× (pages_code page_code) (coded× (pages_code coded_unit) (coded_option pending_code))))))))
     (λ p. (p.scheme, (p.parts, (p.mappings, (p.heap_base, (p.size, (p.settled, (p.tabled, p.pending))))))))
-    (λ c. record { scheme = c.0; parts = c.1.0; mappings = c.1.1.0; heap_base = c.1.1.1.0; size = c.1.1.1.1.0; settled = c.1.1.1.1.1.0; tabled = c.1.1.1.1.1.1.0; pending = c.1.1.1.1.1.1.1 })
+    (λ c. record {
+      scheme = c.0;
+      parts = c.1.0;
+      mappings = c.1.1.0;
+      heap_base = c.1.1.1.0;
+      size = c.1.1.1.1.0;
+      settled = c.1.1.1.1.1.0;
+      tabled = c.1.1.1.1.1.1.0;
+      pending = c.1.1.1.1.1.1.1;
+    })
     (λ _. refl)
 
 -- the code of a process; processes with one code are one

@@ -65,4 +65,5 @@ pub record IsReplayStep (files : List File) (n : ℕ) (p : Process) (e : Journal
 -- next call and is a replay step for some files
 abbrev pub Replays : Process → ℕ → ℕ → List Call → List JournalEntry → Process → Type 0
 Replays p n k calls [] q = q ≡ p
-Replays p n k calls (e ∷ es) q = (call_of e ≡ call_at calls k) × ((files : List File) × (r : Process) × IsReplayStep files n p e r × Replays r (n + forked e.reply) (suc k) calls es q)
+Replays p n k calls (e ∷ es) q = (call_of e ≡ call_at calls k)
+    × ((files : List File) × (r : Process) × IsReplayStep files n p e r × Replays r (n + forked e.reply) (suc k) calls es q)

@@ -38,7 +38,8 @@ abbrev pub CopyDry : View → View → Process → Process → Access → ℕ �
 CopyDry v w p q access first page =
     (before count : Option ℕ) × (is_some before ≡ (if first == page then false else is_counted access (get p.settled first)))
     × (is_some count ≡ is_counted access (get q.settled page))
-    × WasDry v w (resident_need (is_shared_by count) q access page) (if first == page then 0 else resident_need (is_shared_by before) p access first) (option_to_list before ++ option_to_list count)
+    × WasDry v w (resident_need (is_shared_by count) q access page) (if first == page then 0
+    else resident_need (is_shared_by before) p access first) (option_to_list before ++ option_to_list count)
 
 -- exactly one reference count was read: 65,535, the greatest that can be counted
 abbrev pub WasFull : View → View → Type 0
@@ -50,8 +51,10 @@ ReportsShortage v w files p (call.Fetch address) (frames_at page) = AccessDry v 
 ReportsShortage v w files p (call.Load address width) (frames_at page) = AccessDry v w p Load page
 ReportsShortage v w files p (call.Store address width value) (frames_at page) = AccessDry v w p Store page
 ReportsShortage v w files p (call.CopyIn address n) (frames_at page) = CopyDry v w p (in_progress files p page address n) Load (page_of address) page
-ReportsShortage v w files p (call.CopyOut address bytes) (frames_at page) = CopyDry v w p (out_progress files p page address bytes.now) Store (page_of address) page
-ReportsShortage v w files p (call.Exec image) (refused done NoFrame) = (ls : List LoadSegment) × (image_loads p.scheme image ≡ Ok ls) × WasDry v w (exec_need p.scheme ls) 0 []
+ReportsShortage v w files p (call.CopyOut address bytes) (frames_at page) =
+    CopyDry v w p (out_progress files p page address bytes.now) Store (page_of address) page
+ReportsShortage v w files p (call.Exec image) (refused done NoFrame) = (ls : List LoadSegment) × (image_loads p.scheme image ≡ Ok ls)
+    × WasDry v w (exec_need p.scheme ls) 0 []
 ReportsShortage v w files p (call.Fork list) (refused done NoFrame) = WasDry v w (fork_need p) 0 []
 ReportsShortage v w files p (call.Fork list) (refused done SharersFull) = WasFull v w
 ReportsShortage v w files p c shortage = Unit {0}

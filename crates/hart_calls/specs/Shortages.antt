@@ -45,7 +45,8 @@ CanTakeFrames files p access page = 0 < need_at (call_environment files nothing)
 -- the copy has not stopped, and asks a promise for its next byte: no rule denies the byte, and its page is an unsettled one
 -- of a file
 abbrev pub AsksNext : List File → Copied → Access → ℕ → Type 0
-AsksNext files c access address = let p = c.progress.process in (c.stop ≡ None) × (0 < length (served_moves files p (page_of address) (copy_rule p.scheme (regions p) access address)))
+AsksNext files c access address = let p = c.progress.process in (c.stop ≡ None)
+    × (0 < length (served_moves files p (page_of address) (copy_rule p.scheme (regions p) access address)))
 
 -- the refusals of a promise of the files
 abbrev pub IsUnpromised : Refusal → Type 0
@@ -90,8 +91,10 @@ CanBeShort files p (call.Load address width) (frames_at page) = (page ≡ page_o
 CanBeShort files p (call.Store address width value) (frames_at page) = (page ≡ page_of address) × CanTakeFrames files p Store page
 CanBeShort files p (call.CopyIn address n) (frames_at page) = CanTakeFrames files (in_progress files p page address n) Load page
 CanBeShort files p (call.CopyOut address bytes) (frames_at page) = CanTakeFrames files (out_progress files p page address bytes.now) Store page
-CanBeShort files p (call.CopyIn address n) (refused done r) = (done < n) × IsUnpromised r × AsksNext files (copied_in (call_environment files nothing) (initial_progress p) address done) Load (address + done)
-CanBeShort files p (call.CopyOut address bytes) (refused done r) = (done < length bytes.now) × IsUnpromised r × AsksNext files (copied_out (call_environment files nothing) (initial_progress p) address (take done bytes.now)) Store (address + done)
+CanBeShort files p (call.CopyIn address n) (refused done r) = (done < n) × IsUnpromised r
+    × AsksNext files (copied_in (call_environment files nothing) (initial_progress p) address done) Load (address + done)
+CanBeShort files p (call.CopyOut address bytes) (refused done r) = (done < length bytes.now) × IsUnpromised r
+    × AsksNext files (copied_out (call_environment files nothing) (initial_progress p) address (take done bytes.now)) Store (address + done)
 CanBeShort files p (call.Munmap address len) (refused done r) = IsUnpromised r × (0 < length (unmap_moves p address len))
 CanBeShort files p (call.Exec image) (refused done r) = (r ≡ refusal.NoFrame) ⊎ (IsUnpromised r × (0 < length (all_moves p)))
 CanBeShort files p (call.Fork list) (refused done r) = IsForkRefusal r

@@ -133,7 +133,8 @@ LacksPageRoom p c a = IsAccessCall c × (0 < length (reads_of a.files nothing p 
 -- for some shortage that is possible the call ends its process, and the history has no room for the pages that it reads and
 -- those that the end writes. Views v and w of the seat, before and after, are the evidence for the shortage
 abbrev pub LacksEndRoom : View → View → Process → Call → ShelfState → Type 0
-LacksEndRoom v w p c a = (shortage : Shortage) × CanBeShort a.files p c shortage × EndsIt (call_outcome a.files shortage 0 p c).reply × ReportsShortage v w a.files p c shortage
+LacksEndRoom v w p c a = (shortage : Shortage) × CanBeShort a.files p c shortage × EndsIt (call_outcome a.files shortage 0 p c).reply
+    × ReportsShortage v w a.files p c shortage
     × CanRefuse a (length (reads_of a.files shortage p c) + length (all_moves p)) error.JournalFull
 
 -- the process has a mapping, and the call asks a promise of files, for which some history has no room. w is the seat's view

@@ -35,7 +35,9 @@ pub(crate) fn access<S: FrameSeat, F: FrameSupply<Seat = S>, C: Files>(
 ) -> CallResult
     requires fits { IsSeatOf F.FrameAccess.rule store.old space.old.seat }
     requires ready { IsAlive (body_of S.view space.old) }
-    ensures call_result { (c : declared.Call) → IsAccess c (request_of request) → GivesCallResult (body_of S.view space.old) (body_of S.view space.new) (C.files files.old) (λ moves. C.becomes files.old moves files.new) (RefusesPromise C.becomes C.can_refuse files.old) (λ n. n ≤ C.room files.new) c result }
+    ensures call_result { (c : declared.Call) → IsAccess c (request_of request)
+        → GivesCallResult (body_of S.view space.old) (body_of S.view space.new) (C.files files.old) (λ moves.
+        C.becomes files.old moves files.new) (RefusesPromise C.becomes C.can_refuse files.old) (λ n. n ≤ C.room files.new) c result }
     ensures keeps { KeepsSeats F.FrameAccess.rule store.old space.old.seat store.new space.new.seat }
 {
     if !is_width(request.width) {
@@ -81,7 +83,8 @@ fn without_service<S: FrameSeat, F: FrameAccess<Seat = S>>(
     requires ready { IsAlive (body_of S.view space.old) }
     requires width { IsTrue (is_width request.width) }
     ensures reply { (t : Tables) (p : Process) → IsSpace (body_of S.view space.old) t p → result ≡ (service.user_access p (request_of request)).reply }
-    ensures after { (t : Tables) (p : Process) → IsSpace (body_of S.view space.old) t p → IsSpace (body_of S.view space.new) t (service.user_access p (request_of request)).process }
+    ensures after { (t : Tables) (p : Process) → IsSpace (body_of S.view space.old) t p
+        → IsSpace (body_of S.view space.new) t (service.user_access p (request_of request)).process }
     ensures keeps { KeepsSeats F.rule store.old space.old.seat store.new space.new.seat }
 {
     let walk = space.translate(store, request.va, request.access, Mode::User);
@@ -98,8 +101,10 @@ pub(crate) fn accessed<S: FrameSeat, F: FrameAccess<Seat = S>>(
     requires fits { IsSeatOf F.rule store.old space.old.seat }
     requires ready { (t : Tables) × (p : Process) × IsSpace (body_of S.view space.old) t p × IsWalkOf p.scheme t request walk }
     requires width { IsTrue (is_width request.width) }
-    ensures reply { (t : Tables) (p : Process) → IsSpace (body_of S.view space.old) t p → IsWalkOf p.scheme t request walk → result ≡ (service.user_access p (request_of request)).reply }
-    ensures after { (t : Tables) (p : Process) → IsSpace (body_of S.view space.old) t p → IsWalkOf p.scheme t request walk → IsSpace (body_of S.view space.new) t (service.user_access p (request_of request)).process }
+    ensures reply { (t : Tables) (p : Process) → IsSpace (body_of S.view space.old) t p → IsWalkOf p.scheme t request walk
+        → result ≡ (service.user_access p (request_of request)).reply }
+    ensures after { (t : Tables) (p : Process) → IsSpace (body_of S.view space.old) t p → IsWalkOf p.scheme t request walk
+        → IsSpace (body_of S.view space.new) t (service.user_access p (request_of request)).process }
     ensures keeps { KeepsSeats F.rule store.old space.old.seat store.new space.new.seat }
 {
     JournalReply::short(space.user_access_scalar(store, walk, request))

@@ -151,7 +151,9 @@ fn permitted_there<S: FrameSeat, F: FrameAccess<Seat = S>>(
 ) -> Option<JournalReply>
     requires fits { IsSeatOf F.rule store.old space.old.value.seat }
     requires ready { IsAlive (body_of S.view space.old.value) }
-    ensures made { (c : declared.Call) → IsAccess c (request_of request) → (t : Tables) (p : Process) → IsSpace (body_of S.view space.old.value) t p → IfSome result (IsMadeAtOnce (body_of S.view space.old.value) (body_of S.view space.new.value) p (request_of request) c) }
+    ensures made { (c : declared.Call) → IsAccess c (request_of request) → (t : Tables) (p : Process)
+        → IsSpace (body_of S.view space.old.value) t p
+        → IfSome result (IsMadeAtOnce (body_of S.view space.old.value) (body_of S.view space.new.value) p (request_of request) c) }
     ensures none { IsNone result → body_of S.view space.new.value ≡ body_of S.view space.old.value }
     ensures keeps { KeepsSeats F.rule store.old space.old.value.seat store.new space.new.value.seat }
 {
@@ -166,7 +168,8 @@ fn permitted<S: FrameSeat, F: FrameAccess<Seat = S>>(
 ) -> Option<JournalReply>
     requires fits { IsSeatOf F.rule store.old space.old.seat }
     requires ready { IsAlive (body_of S.view space.old) }
-    ensures made { (c : declared.Call) → IsAccess c (request_of request) → (t : Tables) (p : Process) → IsSpace (body_of S.view space.old) t p → IfSome result (IsMadeAtOnce (body_of S.view space.old) (body_of S.view space.new) p (request_of request) c) }
+    ensures made { (c : declared.Call) → IsAccess c (request_of request) → (t : Tables) (p : Process)
+        → IsSpace (body_of S.view space.old) t p → IfSome result (IsMadeAtOnce (body_of S.view space.old) (body_of S.view space.new) p (request_of request) c) }
     ensures none { IsNone result → body_of S.view space.new ≡ body_of S.view space.old }
     ensures keeps { KeepsSeats F.rule store.old space.old.seat store.new space.new.seat }
 {

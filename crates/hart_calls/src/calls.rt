@@ -33,7 +33,8 @@ fn make<S: FrameSeat, F: FrameSupply<Seat = S>, C: Files>(
     requires ready { IsAlive (body_of S.view space.old) }
     requires stays { IsPlainCall call }
     requires room { HasRoomFor call room }
-    ensures call_result { GivesCallResult (body_of S.view space.old) (body_of S.view space.new) (C.files files.old) (λ moves. C.becomes files.old moves files.new) (RefusesPromise C.becomes C.can_refuse files.old) (λ n. n ≤ C.room files.new) call.entry result }
+    ensures call_result { GivesCallResult (body_of S.view space.old) (body_of S.view space.new) (C.files files.old) (λ moves.
+        C.becomes files.old moves files.new) (RefusesPromise C.becomes C.can_refuse files.old) (λ n. n ≤ C.room files.new) call.entry result }
     ensures keeps { KeepsSeats F.FrameAccess.rule store.old space.old.seat store.new space.new.seat }
 {
     match call {
@@ -92,7 +93,8 @@ pub(crate) fn make_there<S: FrameSeat, F: FrameSupply<Seat = S>, C: Files>(
     requires ready { IsAlive (body_of S.view space.old.value) }
     requires stays { IsPlainCall call }
     requires room { HasRoomFor call room }
-    ensures call_result { GivesCallResult (body_of S.view space.old.value) (body_of S.view space.new.value) (C.files files.old) (λ moves. C.becomes files.old moves files.new) (RefusesPromise C.becomes C.can_refuse files.old) (λ n. n ≤ C.room files.new) call.entry result }
+    ensures call_result { GivesCallResult (body_of S.view space.old.value) (body_of S.view space.new.value) (C.files files.old) (λ moves.
+        C.becomes files.old moves files.new) (RefusesPromise C.becomes C.can_refuse files.old) (λ n. n ≤ C.room files.new) call.entry result }
     ensures keeps { KeepsSeats F.FrameAccess.rule store.old space.old.value.seat store.new space.new.value.seat }
 {
     make(space, store, files, call, room)
@@ -108,7 +110,8 @@ fn replace<S: FrameSeat, F: FrameSupply<Seat = S>, C: Files>(
 ) -> CallResult
     requires fits { IsSeatOf F.FrameAccess.rule store.old space.old.seat }
     requires ready { IsAlive (body_of S.view space.old) }
-    ensures call_result { GivesCallResult (body_of S.view space.old) (body_of S.view space.new) (C.files files.old) (λ moves. C.becomes files.old moves files.new) (RefusesPromise C.becomes C.can_refuse files.old) (λ n. n ≤ C.room files.new) (call.Exec image.entry) result }
+    ensures call_result { GivesCallResult (body_of S.view space.old) (body_of S.view space.new) (C.files files.old) (λ moves.
+        C.becomes files.old moves files.new) (RefusesPromise C.becomes C.can_refuse files.old) (λ n. n ≤ C.room files.new) (call.Exec image.entry) result }
     ensures keeps { KeepsSeats F.FrameAccess.rule store.old space.old.seat store.new space.new.seat }
 {
     let scheme = space.layout.scheme();

@@ -184,9 +184,12 @@ fn write_there<B: RunBrand, R: Wait>(
     ensures fits { FitsIn B.table space.new.value.seat }
     ensures still { (t : Tables) (p : Process) → IsSpace (body_of view_of space.old.value) t p → IsSpace (body_of view_of space.new.value) t p }
     ensures view { view_of space.new.value.seat ≡ view_of space.old.value.seat }
-    ensures written { IfOk result (λ _. (t : Tables) (p : Process) → IsSpace (body_of view_of space.old.value) t p → HasMoves shelf.old (all_moves p) shelf.new) }
-    ensures files { IfOk result (λ _. (t : Tables) (p : Process) → IsSpace (body_of view_of space.old.value) t p → (shelf.new).files ≡ all_written_back (shelf.old).files p) }
-    ensures refused { IfErr result (λ e. (t : Tables) (p : Process) → IsSpace (body_of view_of space.old.value) t p → CanRefuse shelf.old (length (all_moves p)) e) }
+    ensures written { IfOk result (λ _. (t : Tables) (p : Process) → IsSpace (body_of view_of space.old.value) t p
+        → HasMoves shelf.old (all_moves p) shelf.new) }
+    ensures files { IfOk result (λ _. (t : Tables) (p : Process) → IsSpace (body_of view_of space.old.value) t p
+        → (shelf.new).files ≡ all_written_back (shelf.old).files p) }
+    ensures refused { IfErr result (λ e. (t : Tables) (p : Process) → IsSpace (body_of view_of space.old.value) t p
+        → CanRefuse shelf.old (length (all_moves p)) e) }
     ensures unwritten { IfErr result (λ _. HasMoves shelf.old [] shelf.new) }
 {
     write_all_back::<B, R>(space, store, shelf)
@@ -209,7 +212,8 @@ fn write_all_back<B: RunBrand, R: Wait>(
     ensures still { (t : Tables) (p : Process) → IsSpace (body_of view_of space.old) t p → IsSpace (body_of view_of space.new) t p }
     ensures view { view_of space.new.seat ≡ view_of space.old.seat }
     ensures written { IfOk result (λ _. (t : Tables) (p : Process) → IsSpace (body_of view_of space.old) t p → HasMoves shelf.old (all_moves p) shelf.new) }
-    ensures files { IfOk result (λ _. (t : Tables) (p : Process) → IsSpace (body_of view_of space.old) t p → (shelf.new).files ≡ all_written_back (shelf.old).files p) }
+    ensures files { IfOk result (λ _. (t : Tables) (p : Process) → IsSpace (body_of view_of space.old) t p
+        → (shelf.new).files ≡ all_written_back (shelf.old).files p) }
     ensures refused { IfErr result (λ e. (t : Tables) (p : Process) → IsSpace (body_of view_of space.old) t p → CanRefuse shelf.old (length (all_moves p)) e) }
     ensures unwritten { IfErr result (λ _. HasMoves shelf.old [] shelf.new) }
 {

@@ -171,12 +171,17 @@ fn fork_there<S: FrameSeat, F: FrameSupply<Seat = S>>(
 ) -> Result<Child<S>, ForkError>
     requires fits { IsSeatOf F.FrameAccess.rule store.old space.old.value.seat }
     requires ready { IsAlive (body_of S.view space.old.value) }
-    ensures forked { IfOk result (λ child. HasForked (body_of S.view space.old.value) (body_of S.view space.new.value) (body (S.view child.seat) child.root.0 child.trapframe.0 space.old.value.layout)) }
-    ensures whole { IfErr result (λ _. (t : Tables) (p : Process) → IsSpace (body_of S.view space.old.value) t p → IsSpace (body_of S.view space.new.value) t p) }
-    ensures dry { IsNoFrameError result → (t : Tables) (p : Process) → IsSpace (body_of S.view space.old.value) t p → RunsDry (S.view space.old.value.seat) (S.view space.new.value.seat) (model.fork_need p) [] }
+    ensures forked { IfOk result (λ child.
+        HasForked (body_of S.view space.old.value) (body_of S.view space.new.value)
+        (body (S.view child.seat) child.root.0 child.trapframe.0 space.old.value.layout)) }
+    ensures whole { IfErr result (λ _. (t : Tables) (p : Process) → IsSpace (body_of S.view space.old.value) t p
+        → IsSpace (body_of S.view space.new.value) t p) }
+    ensures dry { IsNoFrameError result → (t : Tables) (p : Process) → IsSpace (body_of S.view space.old.value) t p
+        → RunsDry (S.view space.old.value.seat) (S.view space.new.value.seat) (model.fork_need p) [] }
     ensures full { IsSharersFullError result → TakesFrames (S.view space.old.value.seat) (S.view space.new.value.seat) 0 (65535 ∷ []) }
     ensures layout { space.new.value.layout ≡ space.old.value.layout }
-    ensures keeps { IfOk result (λ child. (others : List S) → F.FrameAccess.rule store.old (space.old.value.seat ∷ others) → F.FrameAccess.rule store.new (space.new.value.seat ∷ child.seat ∷ others)) }
+    ensures keeps { IfOk result (λ child. (others : List S) → F.FrameAccess.rule store.old (space.old.value.seat ∷ others)
+        → F.FrameAccess.rule store.new (space.new.value.seat ∷ child.seat ∷ others)) }
     ensures keeps_refused { IfErr result (λ _. KeepsSeats F.FrameAccess.rule store.old space.old.value.seat store.new space.new.value.seat) }
 {
     match list {
@@ -194,12 +199,15 @@ fn fork_unlisted<S: FrameSeat, F: FrameSupply<Seat = S>>(
 ) -> Result<Child<S>, ForkError>
     requires fits { IsSeatOf F.FrameAccess.rule store.old space.old.seat }
     requires ready { IsAlive (body_of S.view space.old) }
-    ensures forked { IfOk result (λ child. HasForked (body_of S.view space.old) (body_of S.view space.new) (body (S.view child.seat) child.root.0 child.trapframe.0 space.old.layout)) }
+    ensures forked { IfOk result (λ child.
+        HasForked (body_of S.view space.old) (body_of S.view space.new) (body (S.view child.seat) child.root.0 child.trapframe.0 space.old.layout)) }
     ensures whole { IfErr result (λ _. (t : Tables) (p : Process) → IsSpace (body_of S.view space.old) t p → IsSpace (body_of S.view space.new) t p) }
-    ensures dry { IsNoFrameError result → (t : Tables) (p : Process) → IsSpace (body_of S.view space.old) t p → RunsDry (S.view space.old.seat) (S.view space.new.seat) (model.fork_need p) [] }
+    ensures dry { IsNoFrameError result → (t : Tables) (p : Process) → IsSpace (body_of S.view space.old) t p
+        → RunsDry (S.view space.old.seat) (S.view space.new.seat) (model.fork_need p) [] }
     ensures full { IsSharersFullError result → TakesFrames (S.view space.old.seat) (S.view space.new.seat) 0 (65535 ∷ []) }
     ensures layout { space.new.layout ≡ space.old.layout }
-    ensures keeps { IfOk result (λ child. (others : List S) → F.FrameAccess.rule store.old (space.old.seat ∷ others) → F.FrameAccess.rule store.new (space.new.seat ∷ child.seat ∷ others)) }
+    ensures keeps { IfOk result (λ child. (others : List S) → F.FrameAccess.rule store.old (space.old.seat ∷ others)
+        → F.FrameAccess.rule store.new (space.new.seat ∷ child.seat ∷ others)) }
     ensures keeps_refused { IfErr result (λ _. KeepsSeats F.FrameAccess.rule store.old space.old.seat store.new space.new.seat) }
 {
     let mut list = PageList::new();

@@ -69,7 +69,16 @@ impl<'a, B: RunBrand> Model for Tracked<'a, B> {
 
     ghost coded = { Prim.hlevel (codes, view_code, process_code) };
 
-    ghost view = { λ x. record { name = x.parts.name.items; lists = x.parts.lists.now; list = x.parts.list; opening = x.parts.opening.state; state = x.parts.present.state; journal = x.parts.journal.items; seat = view_of x.parts.space.value.seat; room = vec_capacity x.parts.journal - vec_len x.parts.journal } };
+    ghost view = { λ x. record {
+      name = x.parts.name.items;
+      lists = x.parts.lists.now;
+      list = x.parts.list;
+      opening = x.parts.opening.state;
+      state = x.parts.present.state;
+      journal = x.parts.journal.items;
+      seat = view_of x.parts.space.value.seat;
+      room = vec_capacity x.parts.journal - vec_len x.parts.journal;
+    } };
 
     ghost invariant = { λ x. FitsIn B.table x.parts.space.value.seat
         × ((t : Tables) × IsSpace (body_of view_of x.parts.space.value) t x.parts.present.state)

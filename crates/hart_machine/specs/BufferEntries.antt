@@ -56,7 +56,8 @@ IsTrampolineLeaf l = (w : ℕ) × (l ≡ Some (page_leaf w)) × IsLeafOf w 0 cod
 -- an entry under the ASID of slot s: the hart is marked for s, or no process is in s, or the entry says what the table of the
 -- process there says at this moment. In the first two cases it may be stale
 abbrev pub IsProcessEntry : Scheme → List (Option SlotProcess) → Hart → (ℕ → Tables) → ℕ → TlbEntry → Type 0
-IsProcessEntry z places x tables s e = (marks_of x.stale s ≡ true) ⊎ (((y : SlotProcess) → slice_get places s ≡ Some (Some y) → ⊥) ⊎ IsEntryOf z (tables s) (s + 1) e)
+IsProcessEntry z places x tables s e = (marks_of x.stale s ≡ true)
+    ⊎ (((y : SlotProcess) → slice_get places s ≡ Some (Some y) → ⊥) ⊎ IsEntryOf z (tables s) (s + 1) e)
 
 -- policy `asid`: an entry has ASID 0 and says what the kernel's table says, or it has the ASID s + 1 of a slot and is an
 -- `IsProcessEntry`; one for TRAMPOLINE's page, under any ASID, has a leaf of the kernel's code
@@ -77,14 +78,17 @@ HasNoStaleMark x = (s : ℕ) → x.phase ≡ phase.User → x.slot ≡ Some s �
 -- a mark for the slot of its process
 pub record IsInWorld (m : Machine) (w : World) : Type 0 where
   pub world : IsWorld m w
-  pub buffers : (h : ℕ) (x : Hart) (e : TlbEntry) → slice_get m.harts.items h ≡ Some x → Contains x.buffer e → IsCurrentEntry m.kernel.scheme m.policy m.slots.items x world.tables world.kernel e
+  pub buffers : (h : ℕ) (x : Hart) (e : TlbEntry) → slice_get m.harts.items h ≡ Some x → Contains x.buffer e
+      → IsCurrentEntry m.kernel.scheme m.policy m.slots.items x world.tables world.kernel e
   pub clean : m.policy ≡ Asid → (h : ℕ) (x : Hart) → slice_get m.harts.items h ≡ Some x → HasNoStaleMark x
 
 -- Policy `asid`, after each step. Each buffer entry under the ASID of a living process says what a walk of its page table
 -- finds at this moment, or the hart is marked for its slot; a hart in phase `User` has no mark for the slot of its process;
 -- and each entry for TRAMPOLINE's page, under any ASID, has a leaf of the kernel's code in frame 0.
 pub record AreEntriesCurrent (m : Machine) : Type 0 where
-  pub own : (h s : ℕ) (x : Hart) (y : SlotProcess) (t : Tables) (e : TlbEntry) → slice_get m.harts.items h ≡ Some x → slice_get m.slots.items s ≡ Some (Some y) → HasTables m.kernel.scheme (view_of y) y.space.root.0 t → Contains x.buffer e
+  pub own : (h s : ℕ) (x : Hart) (y : SlotProcess) (t : Tables) (e : TlbEntry) → slice_get m.harts.items h ≡ Some x
+      → slice_get m.slots.items s ≡ Some (Some y) → HasTables m.kernel.scheme (view_of y) y.space.root.0 t → Contains x.buffer e
       → e.asid ≡ s + 1 → (marks_of x.stale s ≡ true) ⊎ IsEntryOf m.kernel.scheme t (s + 1) e
   pub unmarked : (h s : ℕ) (x : Hart) → slice_get m.harts.items h ≡ Some x → x.phase ≡ phase.User → x.slot ≡ Some s → marks_of x.stale s ≡ false
-  pub code : (h : ℕ) (x : Hart) (e : TlbEntry) → slice_get m.harts.items h ≡ Some x → Contains x.buffer e → e.page ≡ trampoline_page m.kernel.scheme → IsTrampolineLeaf e.leaf
+  pub code : (h : ℕ) (x : Hart) (e : TlbEntry) → slice_get m.harts.items h ≡ Some x → Contains x.buffer e
+      → e.page ≡ trampoline_page m.kernel.scheme → IsTrampolineLeaf e.leaf

@@ -1,6 +1,7 @@
 -- The buffers (TLBs) of a machine, and how a step changes them: no buffer (`SameBuffers`), no entry added but by a fill
 -- (`OnlyFillsAdd`), and each buffer exactly (`BuffersAre`, by `buffer_after`, the buffer of the step's hart after it).
-use Rattle.std.specs.Prelude.{◌≡◌, ◌⊎◌, ◌==◌, ◌&&◌, ℕ, Bool, false, not, Option, Some, List, [], ◌∷◌, ◌++◌, Contains, option_map, remove, slice_get, if◌then◌else◌}
+use Rattle.std.specs.Prelude.{◌≡◌, ◌⊎◌, ◌==◌, ◌&&◌, ℕ, Bool, false, not, Option, Some, List, [], ◌∷◌, ◌++◌, Contains, option_map, remove}
+use Rattle.std.specs.Prelude.{slice_get, if◌then◌else◌}
 use Rattle.hart_tlb.specs.Buffer.{newest_entries}
 use Rattle.hart_tlb.specs.declared.entry.TlbEntry.{TlbEntry}
 use Rattle.process_model.specs.Harts.{buffer_size, present_asid}
@@ -32,7 +33,8 @@ SameBuffers old new = (h : ℕ) → buffer_of new h ≡ buffer_of old h
 -- the step is a fill on hart h, and the entry has what the page table in `satp` says of the page, under the ASID in `satp`
 abbrev pub WasFilled : Machine → (ℕ → Tables) → Tables → Step → ℕ → TlbEntry → Type 0
 WasFilled old tables kernel s h e =
-    (address : ℕ) × (x : Hart) × (s ≡ step.Fill h address) × (slice_get old.harts.items h ≡ Some x) × (e ≡ entry_for old.kernel.scheme (tables_of tables kernel (present_table x)) (present_asid old.policy (hart_of x)) address)
+    (address : ℕ) × (x : Hart) × (s ≡ step.Fill h address) × (slice_get old.harts.items h ≡ Some x)
+    × (e ≡ entry_for old.kernel.scheme (tables_of tables kernel (present_table x)) (present_asid old.policy (hart_of x)) address)
 
 -- each entry of each buffer was there before, or the step filled it: a hart may keep what a walk finds, and nothing else
 -- (RISC-V Privileged Architecture 20211203, 4.2.1)
@@ -61,4 +63,5 @@ buffer_after z policy tables kernel s x = x.buffer
 -- a refusal, is unchanged
 abbrev pub BuffersAre : Machine → Machine → (ℕ → Tables) → Tables → Step → Reply → Type 0
 BuffersAre old new tables kernel s reply =
-    (h : ℕ) → buffer_of new h ≡ option_map (λ x. if not (is_refused reply) && is_about s h then buffer_after old.kernel.scheme old.policy tables kernel s x else x.buffer) (slice_get old.harts.items h)
+    (h : ℕ) → buffer_of new h ≡ option_map (λ x. if not (is_refused reply)
+    && is_about s h then buffer_after old.kernel.scheme old.policy tables kernel s x else x.buffer) (slice_get old.harts.items h)

@@ -16,7 +16,8 @@ use Rattle.hart_machine.specs.declared.slot_process.SlotProcess.{SlotProcess}
 
 -- the store model of a machine: plain frames, of one thread, and files in memory, which refuse no promise
 abbrev pub plain_words : StoreModel View PlainState (List File)
-plain_words = store_model (λ v. v) PlainStateRule (Unit {0}) (λ b. b.free) (λ b f. slice_index b.counts f) (λ fs. fs) (λ before moves after. after ≡ files_after before moves) (λ _ _ _. ⊥)
+plain_words = store_model (λ v. v) PlainStateRule (Unit {0}) (λ b. b.free) (λ b f. slice_index b.counts f) (λ fs. fs) (λ before moves after.
+    after ≡ files_after before moves) (λ _ _ _. ⊥)
 
 -- a process with its frames and files
 abbrev pub place_of : SlotProcess → PlainState → List File → Place View PlainState (List File)

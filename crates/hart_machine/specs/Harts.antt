@@ -1,7 +1,8 @@
 -- The model's hart for one of the machine (`hart_of`). What happens to a hart, as functions: fences by policy, and the next
 -- instruction of kernel entry or return (`fenced`, `advanced`); fills (`with_entry`); and stale marks, on the model's harts
 -- (`marked`, `marked_harts`).
-use Rattle.std.specs.Prelude.{◌-◌, ℕ, Bool, true, false, not, ◌+◌, ◌==◌, ◌||◌, Option, None, Some, List, [], ◌∷◌, ◌++◌, filter, length, map, min, slice_set, unwrap_or, if◌then◌else◌}
+use Rattle.std.specs.Prelude.{◌-◌, ℕ, Bool, true, false, not, ◌+◌, ◌==◌, ◌||◌, Option, None, Some, List, [], ◌∷◌, ◌++◌, filter, length, map}
+use Rattle.std.specs.Prelude.{min, slice_set, unwrap_or, if◌then◌else◌}
 use Rattle.hart_tlb.specs.Buffer.{newest_entries}
 use Rattle.hart_tlb.specs.Entries.{is_fenced}
 use Rattle.hart_tlb.specs.declared.entry.TlbEntry.{TlbEntry}

@@ -16,4 +16,5 @@ use Rattle.hart_machine.specs.declared.machine.Machine.{Machine}
 abbrev pub BuffersFollow : Machine → World → List Step → Machine → Type 0
 BuffersFollow old w [] new = new ≡ old
 BuffersFollow old w (x ∷ xs) new =
-    (mid : Machine) × IsInWorld mid (step w x).world × KeepsTables old mid w.slots ((step w x).world).slots × ((is : IsInWorld old w) → BuffersAre old mid (is.world).tables (is.world).kernel x (step w x).reply) × BuffersFollow mid (step w x).world xs new
+    (mid : Machine) × IsInWorld mid (step w x).world × KeepsTables old mid w.slots ((step w x).world).slots
+    × ((is : IsInWorld old w) → BuffersAre old mid (is.world).tables (is.world).kernel x (step w x).reply) × BuffersFollow mid (step w x).world xs new

@@ -35,16 +35,19 @@ was_served a = Some (record a { served = true })
 -- P holds of the number of frames that making the page of access a resident takes. The page counts as shared if its frame has
 -- a reference count other than 1
 abbrev pub WhenShared : PlainState → Tables → Process → Pending → (ℕ → Type 0) → Type 0
-WhenShared b t p a P = (shared : Bool) → ((f : ℕ) → IsFrameOfPage t (page_of a.address) f → shared ≡ not (slice_index b.counts f == 1)) → P (resident_need shared p a.access (page_of a.address))
+WhenShared b t p a P = (shared : Bool) → ((f : ℕ) → IsFrameOfPage t (page_of a.address) f → shared ≡ not (slice_index b.counts f == 1))
+    → P (resident_need shared p a.access (page_of a.address))
 
 -- no rule denies access a, and its page was made resident with the frames that this takes; `waiting` is the pending access then
-pub record HasServed (x y : SlotProcess) (t : Tables) (p : Process) (a : Pending) (waiting : Option Pending) (files : List File) (b c : PlainState) : Type 0 where
+pub record HasServed (x y : SlotProcess) (t : Tables) (p : Process) (a : Pending) (waiting : Option Pending) (files : List File)
+    (b c : PlainState) : Type 0 where
   pub allowed : rule_of p a ≡ None
   pub tables : Tables
   pub count : Option ℕ
   pub resides : MakesResident (view_of x) (body_in y) t tables p files a.access (page_of a.address) count
   pub counts : (f c : ℕ) → IsFrameOfPage t (page_of a.address) f → count ≡ Some c → c ≡ slice_index b.counts f
-  pub slot_process : (fresh : ℕ) → IsSlotProcess y tables (record (made_resident files fresh (is_shared_by count) p a.access (page_of a.address)) { pending = waiting })
+  pub slot_process : (fresh : ℕ)
+      → IsSlotProcess y tables (record (made_resident files fresh (is_shared_by count) p a.access (page_of a.address)) { pending = waiting })
   pub enough : WhenShared b t p a (λ need. need ≤ b.free)
   pub free : WhenShared b t p a (λ need. c.free ≡ b.free - need)
 

@@ -39,7 +39,8 @@ IsSlotContent _ _ t = ⊥
 abbrev pub HaveCopies : List (Option Process) → (ℕ → Tables) → Type 0
 HaveCopies slots tables =
     (i j m n f g : ℕ) (p q : Process) (a b : Page) → slice_get slots i ≡ Some (Some p) → slice_get slots j ≡ Some (Some q)
-    → pages.get p.settled m ≡ Some a → pages.get q.settled n ≡ Some b → IsFrameOfPage (tables i) m f → IsFrameOfPage (tables j) n g → (f ≡ g) ↔ (a.copy ≡ b.copy)
+    → pages.get p.settled m ≡ Some a → pages.get q.settled n ≡ Some b → IsFrameOfPage (tables i) m f → IsFrameOfPage (tables j) n g
+    → (f ≡ g) ↔ (a.copy ≡ b.copy)
 
 -- the counter is above the copy number of each settled page
 abbrev pub AreCounted : List (Option Process) → ℕ → Type 0
@@ -88,22 +89,29 @@ HaveSameLeaves t u = (n : ℕ) → get u.leaves n ≡ get t.leaves n
 -- whose copy number stays, on the same frame
 pub record StaysOnFrames (t u : Tables) (p q : Process) : Type 0 where
   pub trapframe : (f : ℕ) → IsFrameOfPage u (trapframe_page p.scheme) f → IsFrameOfPage t (trapframe_page p.scheme) f
-  pub pages : (n f : ℕ) (a b : Page) → pages.get p.settled n ≡ Some a → pages.get q.settled n ≡ Some b → b.copy ≡ a.copy → IsFrameOfPage u n f → IsFrameOfPage t n f
+  pub pages : (n f : ℕ) (a b : Page) → pages.get p.settled n ≡ Some a → pages.get q.settled n ≡ Some b → b.copy ≡ a.copy
+      → IsFrameOfPage u n f → IsFrameOfPage t n f
 
 -- the kernel keeps its table, each process its frames (`StaysOnFrames`), and its leaves if the model changes none of its copy
 -- numbers and marks (`is_changed`)
 pub record KeepsTables (m n : Machine) (before after : List (Option Process)) : Type 0 where
   pub many : length n.slots.items ≡ length m.slots.items
-  pub kernel : (frames slots : ℕ) (stacks : List ℕ) (t : Tables) → IsKernelTable m.kernel.scheme m.kernel.seat m.kernel.root.0 frames slots stacks t → IsKernelTable n.kernel.scheme n.kernel.seat n.kernel.root.0 frames slots stacks t
-  pub leaves : (s : ℕ) (x y : SlotProcess) (p q : Process) (t u : Tables) → slice_get m.slots.items s ≡ Some (Some x) → slice_get n.slots.items s ≡ Some (Some y) → slice_get before s ≡ Some (Some p)
+  pub kernel : (frames slots : ℕ) (stacks : List ℕ) (t : Tables)
+      → IsKernelTable m.kernel.scheme m.kernel.seat m.kernel.root.0 frames slots stacks t
+      → IsKernelTable n.kernel.scheme n.kernel.seat n.kernel.root.0 frames slots stacks t
+  pub leaves : (s : ℕ) (x y : SlotProcess) (p q : Process) (t u : Tables) → slice_get m.slots.items s ≡ Some (Some x)
+      → slice_get n.slots.items s ≡ Some (Some y) → slice_get before s ≡ Some (Some p)
       → slice_get after s ≡ Some (Some q) → is_changed (Some p) (Some q) ≡ false → IsSlotProcess x t p → IsSlotProcess y u q → HaveSameLeaves t u
-  pub frames : (s : ℕ) (x y : SlotProcess) (p q : Process) (t u : Tables) → slice_get m.slots.items s ≡ Some (Some x) → slice_get n.slots.items s ≡ Some (Some y) → slice_get before s ≡ Some (Some p)
+  pub frames : (s : ℕ) (x y : SlotProcess) (p q : Process) (t u : Tables) → slice_get m.slots.items s ≡ Some (Some x)
+      → slice_get n.slots.items s ≡ Some (Some y) → slice_get before s ≡ Some (Some p)
       → slice_get after s ≡ Some (Some q) → IsSlotProcess x t p → IsSlotProcess y u q → StaysOnFrames t u p q
 
 -- each slot but s is unchanged, and the kernel keeps its table
 pub record KeepsOtherSlots (m n : Machine) (s : ℕ) : Type 0 where
   pub many : length n.slots.items ≡ length m.slots.items
-  pub kernel : (frames slots : ℕ) (stacks : List ℕ) (t : Tables) → IsKernelTable m.kernel.scheme m.kernel.seat m.kernel.root.0 frames slots stacks t → IsKernelTable n.kernel.scheme n.kernel.seat n.kernel.root.0 frames slots stacks t
+  pub kernel : (frames slots : ℕ) (stacks : List ℕ) (t : Tables)
+      → IsKernelTable m.kernel.scheme m.kernel.seat m.kernel.root.0 frames slots stacks t
+      → IsKernelTable n.kernel.scheme n.kernel.seat n.kernel.root.0 frames slots stacks t
   pub others : (r : ℕ) → (r ≡ s → ⊥) → slice_get n.slots.items r ≡ slice_get m.slots.items r
 
 -- the kernel's table is unchanged, and by tables by which the process in a slot was one of the model, the process there after
@@ -111,7 +119,8 @@ pub record KeepsOtherSlots (m n : Machine) (s : ℕ) : Type 0 where
 pub record SameTables (m n : Machine) : Type 0 where
   pub many : length n.slots.items ≡ length m.slots.items
   pub kernel : n.kernel ≡ m.kernel
-  pub below : (s : ℕ) (x y : SlotProcess) (p : Process) (t : Tables) → slice_get m.slots.items s ≡ Some (Some x) → slice_get n.slots.items s ≡ Some (Some y) → IsSlotProcess x t p → (q : Process) × IsSlotProcess y t q
+  pub below : (s : ℕ) (x y : SlotProcess) (p : Process) (t : Tables) → slice_get m.slots.items s ≡ Some (Some x)
+      → slice_get n.slots.items s ≡ Some (Some y) → IsSlotProcess x t p → (q : Process) × IsSlotProcess y t q
 
 -- all slots, and the kernel's table, are unchanged
 abbrev pub SamePlaces : Machine → Machine → Type 0

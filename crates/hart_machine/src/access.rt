@@ -43,7 +43,8 @@ impl Machine {
         via: Option<usize>,
     ) -> ScalarReply
         requires world { (w : World) × IsInWorld self.old w }
-        ensures made { (w : World) → IsInWorld self.old w → IsModelOutcome self.new (reply_of_scalar result) (service.access_step w hart request.access request.va.0 request.width request.value via) }
+        ensures made { (w : World) → IsInWorld self.old w
+            → IsModelOutcome self.new (reply_of_scalar result) (service.access_step w hart request.access request.va.0 request.width request.value via) }
         ensures buffers { SameBuffers self.old self.new }
         ensures tables { SameTables self.old self.new }
     {

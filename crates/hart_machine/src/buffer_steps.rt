@@ -18,7 +18,8 @@ impl Machine {
     pub(crate) fn fill(&mut self, hart: usize, va: Va) -> ScalarReply
         requires world { (w : World) × IsWorld self.old w }
         ensures made { MakesStep self.old self.new (step.Fill hart va.0) (reply_of_scalar result) }
-        ensures buffers { (w : World) (is : IsWorld self.old w) → BuffersAre self.old self.new is.tables is.kernel (step.Fill hart va.0) (reply_of_scalar result) }
+        ensures buffers { (w : World) (is : IsWorld self.old w)
+            → BuffersAre self.old self.new is.tables is.kernel (step.Fill hart va.0) (reply_of_scalar result) }
         ensures places { SamePlaces self.old self.new }
     {
         let Some(table) = self.table_of(hart) else {
@@ -32,7 +33,8 @@ impl Machine {
     pub(crate) fn evict(&mut self, hart: usize, entry: usize) -> ScalarReply
         requires world { (w : World) × IsWorld self.old w }
         ensures made { MakesStep self.old self.new (step.Evict hart entry) (reply_of_scalar result) }
-        ensures buffers { (w : World) (is : IsWorld self.old w) → BuffersAre self.old self.new is.tables is.kernel (step.Evict hart entry) (reply_of_scalar result) }
+        ensures buffers { (w : World) (is : IsWorld self.old w)
+            → BuffersAre self.old self.new is.tables is.kernel (step.Evict hart entry) (reply_of_scalar result) }
         ensures places { SamePlaces self.old self.new }
     {
         if hart >= self.harts.len() {

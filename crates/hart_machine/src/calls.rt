@@ -41,7 +41,8 @@ impl Machine {
     pub(crate) fn in_kernel(&self, hart: usize, waits: bool) -> Result<usize, Refusal>
         requires world { (w : World) × IsWorld self.now w }
         ensures there { IfOk result (λ s. (w : World) → IsWorld self.now w → IsInKernel self.now w hart s waits) }
-        ensures refused { IfErr result (λ e. (w : World) (run : harts.Hart → ℕ → Process → Outcome) → IsWorld self.now w → call_while w hart waits run ≡ refuses w e) }
+        ensures refused { IfErr result (λ e. (w : World) (run : harts.Hart → ℕ → Process → Outcome) → IsWorld self.now w
+            → call_while w hart waits run ≡ refuses w e) }
     {
         let Some(phase) = self.phase_of(hart) else {
             return Err(Refusal::BadArgument);
@@ -224,8 +225,10 @@ impl SlotProcess {
     ) -> Result<bool, Refusal>
         requires fits { IsSeatOf PlainStateRule frames.old (view_of self.old) }
         requires ready { (t : Tables) × (p : Process) × IsSlotProcess self.old t p }
-        ensures unmapped { IfOk result (λ _. (t : Tables) (p : Process) → IsSlotProcess self.old t p → HasUnmapped self.new t p files.old files.new address length) }
-        ensures changed { IfOk result (λ b. (t : Tables) (p : Process) → IsSlotProcess self.old t p → (u : mappings.Unmapped) → mappings.unmapped files.old p address length ≡ Ok u → b ≡ is_changed (Some p) (Some (without_pending u.process))) }
+        ensures unmapped { IfOk result (λ _. (t : Tables) (p : Process) → IsSlotProcess self.old t p
+            → HasUnmapped self.new t p files.old files.new address length) }
+        ensures changed { IfOk result (λ b. (t : Tables) (p : Process) → IsSlotProcess self.old t p → (u : mappings.Unmapped)
+            → mappings.unmapped files.old p address length ≡ Ok u → b ≡ is_changed (Some p) (Some (without_pending u.process))) }
         ensures refused { IfErr result (λ e. (t : Tables) (p : Process) → IsSlotProcess self.old t p → mappings.unmapped files.old p address length ≡ Err e) }
         ensures stays { IfErr result (λ _. self.new ≡ self.old) }
         ensures trapframe { self.new.space.trapframe ≡ self.old.space.trapframe }
@@ -249,7 +252,8 @@ impl SlotProcess {
         requires fits { IsSeatOf PlainStateRule frames.old (view_of self.old) }
         requires ready { (t : Tables) × (p : Process) × IsSlotProcess self.old t p }
         ensures answer { (t : Tables) (p : Process) → IsSlotProcess self.old t p → size_of result ≡ size_before p (sbrk_result p delta) }
-        ensures changed { IfOk result (λ x. (t : Tables) (p : Process) → IsSlotProcess self.old t p → (q : Process) → sbrk_result p delta ≡ Ok q → x.1 ≡ is_changed (Some p) (Some (without_pending q))) }
+        ensures changed { IfOk result (λ x. (t : Tables) (p : Process) → IsSlotProcess self.old t p → (q : Process)
+            → sbrk_result p delta ≡ Ok q → x.1 ≡ is_changed (Some p) (Some (without_pending q))) }
         ensures resized { IfOk result (λ _. (t : Tables) (p : Process) → IsSlotProcess self.old t p → HasResized self.new t p delta) }
         ensures stays { IfErr result (λ _. self.new ≡ self.old) }
         ensures trapframe { self.new.space.trapframe ≡ self.old.space.trapframe }
@@ -266,7 +270,8 @@ impl SlotProcess {
     fn loses_page(&mut self, frames: &mut PlainFrames, delta: i64) -> bool
         requires fits { IsSeatOf PlainStateRule frames.old (view_of self.old) }
         requires ready { (t : Tables) × (p : Process) × IsSlotProcess self.old t p }
-        ensures changed { (t : Tables) (p : Process) → IsSlotProcess self.old t p → (q : Process) → sbrk_result p delta ≡ Ok q → result ≡ is_changed (Some p) (Some (without_pending q)) }
+        ensures changed { (t : Tables) (p : Process) → IsSlotProcess self.old t p → (q : Process) → sbrk_result p delta ≡ Ok q
+            → result ≡ is_changed (Some p) (Some (without_pending q)) }
         ensures same { self.new ≡ self.old }
         ensures frames { frames.new ≡ frames.old }
     {

@@ -57,11 +57,14 @@ impl Machine {
         requires world { (w : World) × (h : ℕ) × IsWorld self.old w × IsCaller self.old w h slot }
         requires few { count ≤ longest_copy }
         ensures made { (w : World) (h : ℕ) → IsWorld self.old w → (k : IsCaller self.old w h slot) →
-            IsModelOutcome self.new result.reply (model.copy_in_outcome w slot (copied_in (environment_of w slot) (initial_progress w (without_pending k.process)) va.0 count)) }
+            IsModelOutcome self.new result.reply
+            (model.copy_in_outcome w slot (copied_in (environment_of w slot) (initial_progress w (without_pending k.process)) va.0 count)) }
         ensures changed { (w : World) (h : ℕ) → IsWorld self.old w → (k : IsCaller self.old w h slot) →
-            AreMarked w (model.copy_in_outcome w slot (copied_in (environment_of w slot) (initial_progress w (without_pending k.process)) va.0 count)) result.changed result.born }
+            AreMarked w (model.copy_in_outcome w slot
+            (copied_in (environment_of w slot) (initial_progress w (without_pending k.process)) va.0 count)) result.changed result.born }
         ensures tables { (w : World) (h : ℕ) → IsWorld self.old w → (k : IsCaller self.old w h slot) →
-            KeepsTables self.old self.new w.slots (model.copy_in_outcome w slot (copied_in (environment_of w slot) (initial_progress w (without_pending k.process)) va.0 count)).world.slots }
+            KeepsTables self.old self.new w.slots
+            (model.copy_in_outcome w slot (copied_in (environment_of w slot) (initial_progress w (without_pending k.process)) va.0 count)).world.slots }
         ensures harts { self.new.harts ≡ self.old.harts }
     {
         let frames = &mut self.frames;
@@ -105,11 +108,14 @@ impl Machine {
         requires world { (w : World) × (h : ℕ) × IsWorld self.old w × IsCaller self.old w h slot }
         requires few { length bytes.now ≤ longest_copy }
         ensures made { (w : World) (h : ℕ) → IsWorld self.old w → (k : IsCaller self.old w h slot) →
-            IsModelOutcome self.new (reply_of_scalar result.reply) (model.copy_out_outcome w slot (copied_out (environment_of w slot) (initial_progress w (without_pending k.process)) va.0 bytes.now)) }
+            IsModelOutcome self.new (reply_of_scalar result.reply)
+            (model.copy_out_outcome w slot (copied_out (environment_of w slot) (initial_progress w (without_pending k.process)) va.0 bytes.now)) }
         ensures changed { (w : World) (h : ℕ) → IsWorld self.old w → (k : IsCaller self.old w h slot) →
-            AreMarked w (model.copy_out_outcome w slot (copied_out (environment_of w slot) (initial_progress w (without_pending k.process)) va.0 bytes.now)) result.changed result.born }
+            AreMarked w (model.copy_out_outcome w slot
+            (copied_out (environment_of w slot) (initial_progress w (without_pending k.process)) va.0 bytes.now)) result.changed result.born }
         ensures tables { (w : World) (h : ℕ) → IsWorld self.old w → (k : IsCaller self.old w h slot) →
-            KeepsTables self.old self.new w.slots (model.copy_out_outcome w slot (copied_out (environment_of w slot) (initial_progress w (without_pending k.process)) va.0 bytes.now)).world.slots }
+            KeepsTables self.old self.new w.slots
+            (model.copy_out_outcome w slot (copied_out (environment_of w slot) (initial_progress w (without_pending k.process)) va.0 bytes.now)).world.slots }
         ensures harts { self.new.harts ≡ self.old.harts }
     {
         let frames = &mut self.frames;

@@ -90,7 +90,8 @@ impl SlotProcess {
         requires fits { IsSeatOf PlainStateRule frames.old (view_of self.old) }
         requires ready { (t : Tables) × (p : Process) × IsSlotProcess self.old t p }
         requires scheme { image.now.scheme ≡ self.old.space.layout.scheme }
-        ensures executed { IfOk result (λ _. (t : Tables) (p : Process) → IsSlotProcess self.old t p → HasExecuted self.new p image.now.loads files.old files.new) }
+        ensures executed { IfOk result (λ _. (t : Tables) (p : Process) → IsSlotProcess self.old t p
+            → HasExecuted self.new p image.now.loads files.old files.new) }
         ensures enough { IfOk result (λ _. exec_need image.now.scheme image.now.loads ≤ frames.old.free) }
         ensures dry { IfErr result (λ e. (e ≡ refusal.NoFrame) × (frames.old.free < exec_need image.now.scheme image.now.loads)) }
         ensures whole { IfErr result (λ _. (t : Tables) (p : Process) → IsSlotProcess self.old t p → IsSlotProcess self.new t p) }

@@ -52,7 +52,8 @@ impl Machine {
     /// of their mappings, in order of address, and releases all its frames. The slot is then empty, and the hart idle.
     pub(crate) fn end(&mut self, hart: usize, slot: usize)
         requires world { (w : World) × (waits : Bool) × IsWorld self.old w × IsInKernel self.old w hart slot waits }
-        ensures ended { (w : World) (waits : Bool) (reply : Reply) → IsWorld self.old w → (k : IsInKernel self.old w hart slot waits) → IsWorld self.new (ended w hart (hart_of k.hart) slot k.process reply).world }
+        ensures ended { (w : World) (waits : Bool) (reply : Reply) → IsWorld self.old w → (k : IsInKernel self.old w hart slot waits)
+            → IsWorld self.new (ended w hart (hart_of k.hart) slot k.process reply).world }
         ensures buffers { SameBuffers self.old self.new }
         ensures others { KeepsOtherSlots self.old self.new slot }
     {
@@ -68,7 +69,8 @@ impl Machine {
     fn end_seat(&mut self, seat: PlainSeat)
         requires rule { (others : List View) × PlainStateRule self.old.frames (self.old.kernel.seat ∷ seat ∷ others) }
         requires seat { IsBare seat }
-        ensures kernel { (frames slots : ℕ) (stacks : List ℕ) (t : tables.Tables) → IsKernelTable self.old.kernel.scheme self.old.kernel.seat self.old.kernel.root.0 frames slots stacks t
+        ensures kernel { (frames slots : ℕ) (stacks : List ℕ) (t : tables.Tables)
+            → IsKernelTable self.old.kernel.scheme self.old.kernel.seat self.old.kernel.root.0 frames slots stacks t
             → IsKernelTable self.new.kernel.scheme self.new.kernel.seat self.new.kernel.root.0 frames slots stacks t }
         ensures scheme { self.new.kernel.scheme ≡ self.old.kernel.scheme }
         ensures size { self.new.kernel.seat.size ≡ self.old.kernel.seat.size }
@@ -76,7 +78,8 @@ impl Machine {
         ensures harts { self.new.harts ≡ self.old.harts }
         ensures files { self.new.files ≡ self.old.files }
         ensures policy { self.new.policy ≡ self.old.policy }
-        ensures rule { (others : List View) → PlainStateRule self.old.frames (self.old.kernel.seat ∷ seat ∷ others) → PlainStateRule self.new.frames (self.new.kernel.seat ∷ others) }
+        ensures rule { (others : List View) → PlainStateRule self.old.frames (self.old.kernel.seat ∷ seat ∷ others)
+            → PlainStateRule self.new.frames (self.new.kernel.seat ∷ others) }
     {
         self.frames.join(&mut self.kernel.seat, seat);
     }

@@ -105,12 +105,14 @@ impl SlotProcess {
         requires ready { (t : Tables) × (p : Process) × IsSlotProcess self.old t p }
         requires settled { (t : Tables) (p : Process) → IsSpace (body_in self.old) t p → AreSettled t p 0 (trapframe_page p.scheme) settled.now }
         requires few { (f : ℕ) → IsHeld (view_of self.old) f → slice_index frames.old.counts f < 65535 }
-        ensures forked { IfOk result (λ child. (t : Tables) (p : Process) → IsSlotProcess self.old t p → HasForkedProcess self.new (in_slot child self.new.space.layout) t p) }
+        ensures forked { IfOk result (λ child. (t : Tables) (p : Process) → IsSlotProcess self.old t p
+            → HasForkedProcess self.new (in_slot child self.new.space.layout) t p) }
         ensures trapframe { self.new.space.trapframe ≡ self.old.space.trapframe }
         ensures enough { IfOk result (λ _. (t : Tables) (p : Process) → IsSlotProcess self.old t p → frames.old.free < fork_need p → ⊥) }
         ensures dry { IfErr result (λ e. (e ≡ refusal.NoFrame) × ((t : Tables) (p : Process) → IsSlotProcess self.old t p → frames.old.free < fork_need p)) }
         ensures whole { IfErr result (λ _. (t : Tables) (p : Process) → IsSlotProcess self.old t p → IsSlotProcess self.new t p) }
-        ensures keeps { IfOk result (λ child. (others : List View) → PlainStateRule frames.old (view_of self.old ∷ others) → PlainStateRule frames.new (view_of self.new ∷ child.seat ∷ others)) }
+        ensures keeps { IfOk result (λ child. (others : List View) → PlainStateRule frames.old (view_of self.old ∷ others)
+            → PlainStateRule frames.new (view_of self.new ∷ child.seat ∷ others)) }
         ensures keeps_refused { IfErr result (λ _. KeepsSeats PlainStateRule frames.old (view_of self.old) frames.new (view_of self.new)) }
     {
         let child = fork_listed(&mut self.space, frames, settled)?;

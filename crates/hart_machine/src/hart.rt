@@ -107,7 +107,8 @@ impl Hart {
     ) -> usize
         requires fits { IsSeatOf F.rule store.old seat.old }
         requires held { (t : Tables) × HasTables scheme (F.Seat.view seat.old) root.0 t }
-        ensures kept { (t : Tables) → HasTables scheme (F.Seat.view seat.old) root.0 t → LeavesAreThere scheme t → LeavesAreLocal scheme t → self.new ≡ with_entry self.old (entry_for scheme t asid va.0) }
+        ensures kept { (t : Tables) → HasTables scheme (F.Seat.view seat.old) root.0 t → LeavesAreThere scheme t → LeavesAreLocal scheme t
+            → self.new ≡ with_entry self.old (entry_for scheme t asid va.0) }
         ensures number { result ≡ next_number self.old.buffer }
         ensures few { length self.old.buffer ≤ model.buffer_size }
         ensures view { F.Seat.view seat.new ≡ F.Seat.view seat.old }

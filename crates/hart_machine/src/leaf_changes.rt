@@ -26,8 +26,10 @@ impl SlotProcess {
     pub(crate) fn has_settled(&mut self, frames: &mut PlainFrames, first: u64, end: u64) -> bool
         requires fits { IsSeatOf PlainStateRule frames.old (view_of self.old) }
         requires ready { (t : Tables) × (p : Process) × IsSlotProcess self.old t p }
-        ensures some { result ≡ true → (t : Tables) (p : Process) → IsSlotProcess self.old t p → (n : ℕ) × (s : Page) × (get p.settled n ≡ Some s) × (first ≤ n) × (n < end) }
-        ensures none { result ≡ false → (t : Tables) (p : Process) → IsSlotProcess self.old t p → (n : ℕ) (s : Page) → get p.settled n ≡ Some s → first ≤ n → n < end → ⊥ }
+        ensures some { result ≡ true → (t : Tables) (p : Process) → IsSlotProcess self.old t p → (n : ℕ) × (s : Page)
+            × (get p.settled n ≡ Some s) × (first ≤ n) × (n < end) }
+        ensures none { result ≡ false → (t : Tables) (p : Process) → IsSlotProcess self.old t p → (n : ℕ) (s : Page)
+            → get p.settled n ≡ Some s → first ≤ n → n < end → ⊥ }
         ensures same { self.new ≡ self.old }
         ensures frames { frames.new ≡ frames.old }
     {

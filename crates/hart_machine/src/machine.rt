@@ -87,7 +87,8 @@ impl Machine {
     /// Sets the pending access of the process in a slot; `None` if none is pending.
     pub(crate) fn set_pending(&mut self, slot: usize, pending: Option<Pending>)
         requires there { (x : SlotProcess) × (slice_get self.old.slots.items slot ≡ Some (Some x)) }
-        ensures { (x : SlotProcess) → slice_get self.old.slots.items slot ≡ Some (Some x) → self.new ≡ record self.old { slots = with_item self.old.slots slot (Some (record x { pending = pending })) } }
+        ensures { (x : SlotProcess) → slice_get self.old.slots.items slot ≡ Some (Some x)
+            → self.new ≡ record self.old { slots = with_item self.old.slots slot (Some (record x { pending = pending })) } }
     {
         let slots = &mut self.slots;
         let Some(slot_process) = &mut slots[slot] else {

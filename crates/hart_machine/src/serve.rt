@@ -63,10 +63,14 @@ impl Machine {
     /// world that it was in; the caller ends the process.
     fn serve_fault(&mut self, slot: usize) -> Result<bool, Rule>
         requires world { (w : World) × (h : ℕ) × IsWorld self.old w × IsInKernel self.old w h slot true }
-        ensures ready { IfOk result (λ _. (w : World) (h : ℕ) → IsWorld self.old w → (k : IsInKernel self.old w h slot true) → IsModelOutcome self.new Ready (served w h (hart_of k.hart) slot k.process k.process.pending)) }
-        ensures changed { IfOk result (λ b. (w : World) (h : ℕ) → IsWorld self.old w → (k : IsInKernel self.old w h slot true) → AreMarked w (served w h (hart_of k.hart) slot k.process k.process.pending) (slot_if slot b) None) }
-        ensures must_end { IfErr result (λ rule. (w : World) (h : ℕ) → IsWorld self.old w → (k : IsInKernel self.old w h slot true) → IsEnding self.old self.new w h slot k rule) }
-        ensures tables { IfOk result (λ _. (w : World) (h : ℕ) → IsWorld self.old w → (k : IsInKernel self.old w h slot true) → KeepsTables self.old self.new w.slots (served w h (hart_of k.hart) slot k.process k.process.pending).world.slots) }
+        ensures ready { IfOk result (λ _. (w : World) (h : ℕ) → IsWorld self.old w → (k : IsInKernel self.old w h slot true)
+            → IsModelOutcome self.new Ready (served w h (hart_of k.hart) slot k.process k.process.pending)) }
+        ensures changed { IfOk result (λ b. (w : World) (h : ℕ) → IsWorld self.old w → (k : IsInKernel self.old w h slot true)
+            → AreMarked w (served w h (hart_of k.hart) slot k.process k.process.pending) (slot_if slot b) None) }
+        ensures must_end { IfErr result (λ rule. (w : World) (h : ℕ) → IsWorld self.old w → (k : IsInKernel self.old w h slot true)
+            → IsEnding self.old self.new w h slot k rule) }
+        ensures tables { IfOk result (λ _. (w : World) (h : ℕ) → IsWorld self.old w → (k : IsInKernel self.old w h slot true)
+            → KeepsTables self.old self.new w.slots (served w h (hart_of k.hart) slot k.process k.process.pending).world.slots) }
         ensures others { IfErr result (λ _. KeepsOtherSlots self.old self.new slot) }
         ensures harts { self.new.harts ≡ self.old.harts }
     {
@@ -90,9 +94,12 @@ impl SlotProcess {
         requires fits { IsSeatOf PlainStateRule frames.old (view_of self.old) }
         requires ready { (t : Tables) × (p : Process) × IsSlotProcess self.old t p }
         requires waits { (t : Tables) (p : Process) → IsSlotProcess self.old t p → is_unserved_access p.pending ≡ true }
-        ensures served { IfOk result (λ _. (t : Tables) (p : Process) (a : model.Pending) → IsSlotProcess self.old t p → p.pending ≡ Some a → HasServed self.old self.new t p a (was_served a) files.old frames.old frames.new) }
-        ensures changed { IfOk result (λ b. (t : Tables) (p : Process) (a : model.Pending) → IsSlotProcess self.old t p → p.pending ≡ Some a → b ≡ not (is_resident p a.access (page_of a.address))) }
-        ensures must_end { IfErr result (λ rule. (t : Tables) (p : Process) (a : model.Pending) → IsSlotProcess self.old t p → p.pending ≡ Some a → MustEnd self.new t p a frames.old rule) }
+        ensures served { IfOk result (λ _. (t : Tables) (p : Process) (a : model.Pending) → IsSlotProcess self.old t p → p.pending ≡ Some a
+            → HasServed self.old self.new t p a (was_served a) files.old frames.old frames.new) }
+        ensures changed { IfOk result (λ b. (t : Tables) (p : Process) (a : model.Pending) → IsSlotProcess self.old t p → p.pending ≡ Some a
+            → b ≡ not (is_resident p a.access (page_of a.address))) }
+        ensures must_end { IfErr result (λ rule. (t : Tables) (p : Process) (a : model.Pending) → IsSlotProcess self.old t p
+            → p.pending ≡ Some a → MustEnd self.new t p a frames.old rule) }
         ensures trapframe { self.new.space.trapframe ≡ self.old.space.trapframe }
         ensures files { files.new ≡ files.old }
         ensures keeps { KeepsSeats PlainStateRule frames.old (view_of self.old) frames.new (view_of self.new) }

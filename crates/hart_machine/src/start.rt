@@ -88,7 +88,8 @@ impl Machine {
         ensures harts { self.new.harts ≡ self.old.harts }
         ensures files { self.new.files ≡ self.old.files }
         ensures policy { self.new.policy ≡ self.old.policy }
-        ensures rule { (others : List View) → PlainStateRule self.old.frames (self.old.kernel.seat ∷ others) → PlainStateRule self.new.frames (self.new.kernel.seat ∷ result ∷ others) }
+        ensures rule { (others : List View) → PlainStateRule self.old.frames (self.old.kernel.seat ∷ others)
+            → PlainStateRule self.new.frames (self.new.kernel.seat ∷ result ∷ others) }
     {
         let Ok(seat) = opened_seat(&mut self.frames, &mut self.kernel.seat) else {
             unreachable!()
@@ -102,7 +103,8 @@ impl Machine {
         requires rule { (others : List View) × PlainStateRule self.old.frames (self.old.kernel.seat ∷ seat ∷ others) }
         requires seat { HoldsTrampoline seat }
         requires code { references self.old.kernel.seat 0 ≡ 1 }
-        ensures kernel { (frames slots : ℕ) (stacks : List ℕ) (t : tables.Tables) → IsKernelTable self.old.kernel.scheme self.old.kernel.seat self.old.kernel.root.0 frames slots stacks t
+        ensures kernel { (frames slots : ℕ) (stacks : List ℕ) (t : tables.Tables)
+            → IsKernelTable self.old.kernel.scheme self.old.kernel.seat self.old.kernel.root.0 frames slots stacks t
             → IsKernelTable self.new.kernel.scheme self.new.kernel.seat self.new.kernel.root.0 frames slots stacks t }
         ensures scheme { self.new.kernel.scheme ≡ self.old.kernel.scheme }
         ensures size { self.new.kernel.seat.size ≡ self.old.kernel.seat.size }
@@ -110,7 +112,8 @@ impl Machine {
         ensures harts { self.new.harts ≡ self.old.harts }
         ensures files { self.new.files ≡ self.old.files }
         ensures policy { self.new.policy ≡ self.old.policy }
-        ensures rule { (others : List View) → PlainStateRule self.old.frames (self.old.kernel.seat ∷ seat ∷ others) → PlainStateRule self.new.frames (self.new.kernel.seat ∷ others) }
+        ensures rule { (others : List View) → PlainStateRule self.old.frames (self.old.kernel.seat ∷ seat ∷ others)
+            → PlainStateRule self.new.frames (self.new.kernel.seat ∷ others) }
     {
         self.frames.join(&mut self.kernel.seat, seat);
         self.frames.release(&mut self.kernel.seat, FrameNo(0));

@@ -72,10 +72,12 @@ impl Machine {
     pub fn step_scalar(&mut self, step: Step<'_>) -> ScalarReply
         requires world { (w : World) × IsInWorld self.old w }
         requires scalar { is_scalar step ≡ true }
-        ensures made { (w : World) → IsInWorld self.old w → (reply_of_scalar result ≡ (model.step w step.entry).reply) × IsInWorld self.new (model.step w step.entry).world }
+        ensures made { (w : World) → IsInWorld self.old w → (reply_of_scalar result ≡ (model.step w step.entry).reply)
+            × IsInWorld self.new (model.step w step.entry).world }
         ensures tables { (w : World) → IsInWorld self.old w → KeepsTables self.old self.new w.slots (model.step w step.entry).world.slots }
         ensures buffers { (w : World) (is : IsInWorld self.old w) → OnlyFillsAdd self.old self.new (is.world).tables (is.world).kernel step.entry }
-        ensures each_buffer { (w : World) (is : IsInWorld self.old w) → BuffersAre self.old self.new (is.world).tables (is.world).kernel step.entry (reply_of_scalar result) }
+        ensures each_buffer { (w : World) (is : IsInWorld self.old w)
+            → BuffersAre self.old self.new (is.world).tables (is.world).kernel step.entry (reply_of_scalar result) }
         ensures identifiers { (w : World) → IsInWorld self.old w → w.policy ≡ Asid → AreEntriesCurrent self.new }
     {
         let StepEffect {
@@ -98,7 +100,8 @@ impl Machine {
         ensures made { (w : World) → IsInWorld self.old w → IsModelOutcome self.new (reply_of_scalar result.reply) (model.plain_step w step.entry) }
         ensures changed { (w : World) → IsInWorld self.old w → AreMarked w (model.plain_step w step.entry) result.changed result.born }
         ensures tables { (w : World) → IsInWorld self.old w → KeepsTables self.old self.new w.slots (model.plain_step w step.entry).world.slots }
-        ensures each_buffer { (w : World) (is : IsInWorld self.old w) → BuffersAre self.old self.new (is.world).tables (is.world).kernel step.entry (reply_of_scalar result.reply) }
+        ensures each_buffer { (w : World) (is : IsInWorld self.old w)
+            → BuffersAre self.old self.new (is.world).tables (is.world).kernel step.entry (reply_of_scalar result.reply) }
     {
         match step {
             Step::Start(image) => self.start(image),
@@ -181,7 +184,8 @@ impl Machine {
     pub fn run(&mut self, alloc: Global, steps: &[Step<'_>]) -> Result<Vec<Reply>, AllocError>
         requires world { (w : World) × IsInWorld self.old w }
         ensures replies { IfOk result (λ replies. (w : World) → IsInWorld self.old w → replies.items ≡ (model.run w steps.now).replies) }
-        ensures headline { IfOk result (λ replies. (c : Config) (files : List File) (earlier : List declared.Step) → IsInWorld self.old (model.run (booted c files) earlier).world → Headline c files earlier steps.now replies.items) }
+        ensures headline { IfOk result (λ replies. (c : Config) (files : List File) (earlier : List declared.Step)
+            → IsInWorld self.old (model.run (booted c files) earlier).world → Headline c files earlier steps.now replies.items) }
         ensures world { OnOk result ((w : World) → IsInWorld self.old w → IsInWorld self.new (model.run w steps.now).world) }
         ensures each_buffer { OnOk result ((w : World) → IsInWorld self.old w → BuffersFollow self.old w steps.now self.new) }
         ensures identifiers { OnOk result ((w : World) → IsInWorld self.old w → w.policy ≡ Asid → AreEntriesCurrent self.new) }

@@ -67,8 +67,10 @@ impl Machine {
     ) -> Result<Walk, NoEntry>
         requires hart { (x : Hart) × (slice_get self.old.harts.items hart ≡ Some x) }
         requires world { (w : World) × IsWorld self.old w }
-        ensures serves { (w : World) (x : Hart) → IsWorld self.old w → slice_get self.old.harts.items hart ≡ Some x → is_ok result ≡ entry_serves self.old.policy (hart_of x) va.0 via }
-        ensures walk { IfOk result (λ z. (w : World) (is : IsInWorld self.old w) (x : Hart) → slice_get self.old.harts.items hart ≡ Some x → MayAsk self.old.kernel.scheme x va.0 →
+        ensures serves { (w : World) (x : Hart) → IsWorld self.old w → slice_get self.old.harts.items hart ≡ Some x
+            → is_ok result ≡ entry_serves self.old.policy (hart_of x) va.0 via }
+        ensures walk { IfOk result (λ z. (w : World) (is : IsInWorld self.old w) (x : Hart) → slice_get self.old.harts.items hart ≡ Some x
+            → MayAsk self.old.kernel.scheme x va.0 →
             IsTranslated self.old.kernel.scheme x (is.world).tables (is.world).kernel va.0 access mode z) }
         ensures world { KeepsWorld self.old self.new }
         ensures places { SamePlaces self.old self.new }
@@ -126,8 +128,10 @@ impl Machine {
         mode: Mode,
     ) -> Result<Walk, NoEntry>
         requires world { (w : World) × IsWorld self.now w }
-        ensures serves { (w : World) (x : Hart) → IsWorld self.now w → slice_get self.now.harts.items hart ≡ Some x → is_ok result ≡ entry_serves self.now.policy (hart_of x) va.0 (Some entry) }
-        ensures walk { IfOk result (λ z. (w : World) (is : IsInWorld self.now w) (x : Hart) → slice_get self.now.harts.items hart ≡ Some x → MayAsk self.now.kernel.scheme x va.0 →
+        ensures serves { (w : World) (x : Hart) → IsWorld self.now w → slice_get self.now.harts.items hart ≡ Some x
+            → is_ok result ≡ entry_serves self.now.policy (hart_of x) va.0 (Some entry) }
+        ensures walk { IfOk result (λ z. (w : World) (is : IsInWorld self.now w) (x : Hart) → slice_get self.now.harts.items hart ≡ Some x
+            → MayAsk self.now.kernel.scheme x va.0 →
             IsTranslated self.now.kernel.scheme x (is.world).tables (is.world).kernel va.0 access mode z) }
     {
         let Some(hart) = self.harts.get(hart) else {

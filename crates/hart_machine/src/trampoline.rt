@@ -27,7 +27,8 @@ impl Machine {
         via: Option<usize>,
     ) -> ScalarReply
         requires world { (w : World) × IsInWorld self.old w }
-        ensures made { (w : World) → IsInWorld self.old w → IsModelOutcome self.new (reply_of_scalar result) (plain_step w (step.TrampolineFetch hart offset via)) }
+        ensures made { (w : World) → IsInWorld self.old w
+            → IsModelOutcome self.new (reply_of_scalar result) (plain_step w (step.TrampolineFetch hart offset via)) }
         ensures buffers { SameBuffers self.old self.new }
         ensures places { SamePlaces self.old self.new }
     {

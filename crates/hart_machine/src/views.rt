@@ -75,7 +75,8 @@ impl Machine {
     /// Returns the region that holds the page of an address, of the process in a slot; `None` if none does, or the slot has no
     /// process.
     pub fn region(&self, slot: usize, va: Va) -> Option<Region>
-        ensures { (w : World) → IsInWorld self.now w → option_map region_of result ≡ option_and_then (λ p. region_at (regions p) (page_of va.0)) (process_in w slot) }
+        ensures { (w : World) → IsInWorld self.now w
+            → option_map region_of result ≡ option_and_then (λ p. region_at (regions p) (page_of va.0)) (process_in w slot) }
     {
         match self.slots.get(slot) {
             Some(Some(slot_process)) => slot_process.space.layout.region_at(va.page().number()),
@@ -104,7 +105,8 @@ impl Machine {
         width: u64,
     ) -> Option<Result<(), Rule>>
         requires { 0 < width }
-        ensures { (w : World) → IsInWorld self.now w → result ≡ option_map (λ p. granted_unless (first_rule p.scheme (regions p) access va.0 width)) (process_in w slot) }
+        ensures { (w : World) → IsInWorld self.now w
+            → result ≡ option_map (λ p. granted_unless (first_rule p.scheme (regions p) access va.0 width)) (process_in w slot) }
     {
         match self.slots.get(slot) {
             Some(Some(slot_process)) => Some(slot_process.space.layout.grant(access, va, width)),
@@ -142,7 +144,8 @@ impl Machine {
     pub fn root(&self, slot: usize) -> Option<FrameNo>
         requires world { (w : World) × IsInWorld self.now w }
         ensures there { (w : World) → IsInWorld self.now w → is_some result ≡ is_some (process_in w slot) }
-        ensures tables { (w : World) (is : IsInWorld self.now w) (root : FrameNo) → result ≡ Some root → SeesTables self.now w.scheme root.0 ((is.world).tables slot) }
+        ensures tables { (w : World) (is : IsInWorld self.now w) (root : FrameNo) → result ≡ Some root
+            → SeesTables self.now w.scheme root.0 ((is.world).tables slot) }
     {
         if self.has_process(slot) {
             Some(self.root_of(SatpTable::OfProcess(slot)))
@@ -156,7 +159,8 @@ impl Machine {
     pub fn satp(&self, hart: usize) -> Option<Satp>
         requires world { (w : World) × IsInWorld self.now w }
         ensures there { (w : World) → IsInWorld self.now w → is_some result ≡ is_some (slice_get w.harts hart) }
-        ensures fields { (w : World) → IsInWorld self.now w → (x : model.Hart) (word : ℕ) → slice_get w.harts hart ≡ Some x → result ≡ Some word → (mode word ≡ mode_of w.scheme) × (asid word ≡ model.present_asid w.policy x) }
+        ensures fields { (w : World) → IsInWorld self.now w → (x : model.Hart) (word : ℕ) → slice_get w.harts hart ≡ Some x
+            → result ≡ Some word → (mode word ≡ mode_of w.scheme) × (asid word ≡ model.present_asid w.policy x) }
         ensures tables { (w : World) (is : IsInWorld self.now w) (x : Hart) (word : ℕ) → slice_get self.now.harts.items hart ≡ Some x → result ≡ Some word →
             (root : ℕ) × (root_ppn word ≡ ppn_of root) × SeesTables self.now w.scheme root (tables_of (is.world).tables (is.world).kernel (present_table x)) }
     {

@@ -34,7 +34,9 @@ AreFilesFor first p c files = AreReached first files ⊎ NeedsNone p c
 -- `Replays`, each call over files that the run reached, if it needs any
 abbrev pub ReplaysOver : List File → Process → ℕ → ℕ → List Call → List JournalEntry → Process → Type 0
 ReplaysOver first p n k calls [] q = q ≡ p
-ReplaysOver first p n k calls (e ∷ es) q = (call_of e ≡ call_at calls k) × ((files : List File) × (r : Process) × IsReplayStep files n p e r × AreFilesFor first p (call_of e) files × ReplaysOver first r (n + forked e.reply) (suc k) calls es q)
+ReplaysOver first p n k calls (e ∷ es) q = (call_of e ≡ call_at calls k)
+    × ((files : List File) × (r : Process) × IsReplayStep files n p e r × AreFilesFor first p (call_of e) files
+    × ReplaysOver first r (n + forked e.reply) (suc k) calls es q)
 
 -- the journal replays so from process p
 abbrev pub RunsOver : List File → List Call → Process → List JournalEntry → Type 0

@@ -112,12 +112,14 @@ BeginsAsImage starts name p = (s : Start) → IsOfStart starts name s → ∥ Is
 -- the journal is of the first calls of the list, and replays from the process with this code, which of a start is its image's;
 -- each call is answered over files that the run reached, if it needs any
 abbrev pub HasRun : List File → List Start → List Call → List ℕ → Gv → List JournalEntry → Type 0
-HasRun files starts calls name opening journal = (p q : Process) × (code_of p ≡ opening) × BeginsAsImage starts name p × Replays p 0 0 calls journal q × RunsOver files calls p journal
+HasRun files starts calls name opening journal = (p q : Process) × (code_of p ≡ opening) × BeginsAsImage starts name p
+    × Replays p 0 0 calls journal q × RunsOver files calls p journal
 
 -- `HasRun`, and at the end the journal has 10,000 entries, or the process has a mapping and its next call asks a promise for
 -- which a history of the files has no room. v is the seat's view then
 abbrev pub HasRunFull : List File → List Start → List Call → View → List ℕ → Gv → List JournalEntry → Type 0
-HasRunFull files starts calls v name opening journal = (p q : Process) × (code_of p ≡ opening) × BeginsAsImage starts name p × Replays p 0 0 calls journal q × LacksJournalRoom v q calls journal outcome.JournalFull × RunsOver files calls p journal
+HasRunFull files starts calls v name opening journal = (p q : Process) × (code_of p ≡ opening) × BeginsAsImage starts name p
+    × Replays p 0 0 calls journal q × LacksJournalRoom v q calls journal outcome.JournalFull × RunsOver files calls p journal
 
 -- the reply does not end the process; `GoOn`: no reply of the journal does
 abbrev pub lets_go_on : Reply → Bool
@@ -139,10 +141,12 @@ EndsIn r journal = (es : List JournalEntry) × (e : JournalEntry) × (journal �
 -- the journal by the outcome: a process that was started has made the first calls of its list; after Memory it has fewer
 -- than 10,000 entries; only a start is refused, and then it has made no call
 abbrev pub AsEnded : List File → List Start → List Call → View → Outcome → List ℕ → Gv → List JournalEntry → Type 0
-AsEnded files starts calls v (outcome.Exited status) name opening journal = HasRun files starts calls name opening journal × EndsIn (reply.Exited status) journal
+AsEnded files starts calls v (outcome.Exited status) name opening journal = HasRun files starts calls name opening journal
+    × EndsIn (reply.Exited status) journal
 AsEnded files starts calls v (outcome.Ended rule) name opening journal = HasRun files starts calls name opening journal × EndsIn (reply.Ended rule) journal
 AsEnded files starts calls v (outcome.Refused r) name opening journal = (journal ≡ []) × ((s : Start) × IsOfStart starts name s × RefusesStart s.image v r)
-AsEnded files starts calls v outcome.Memory name opening journal = HasRun files starts calls name opening journal × GoOn journal × (length journal < most_entries)
+AsEnded files starts calls v outcome.Memory name opening journal = HasRun files starts calls name opening journal × GoOn journal
+    × (length journal < most_entries)
 AsEnded files starts calls v outcome.JournalFull name opening journal = HasRunFull files starts calls v name opening journal × GoOn journal
 
 -- f is the end of life l, which may be a start that was refused: it has the name, its journal is as the outcome says and

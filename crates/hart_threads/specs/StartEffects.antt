@@ -73,10 +73,13 @@ pub record IsUnbegun (table : TableId) (slots taken : ℕ) (s : Start) (name : L
 
 -- the result of start `s` with this name, if `taken` of `slots` slots are taken
 abbrev pub IsStartResult : TableId → ℕ → ℕ → Start → List ℕ → StartResult → Type 0
-IsStartResult table slots taken s name (made.Begun called space opening) = (taken < slots) × (called.items ≡ name) × IsBegun table space.value opening × IsProcessOf s.image opening.state
+IsStartResult table slots taken s name (made.Begun called space opening) = (taken < slots) × (called.items ≡ name)
+    × IsBegun table space.value opening × IsProcessOf s.image opening.state
 IsStartResult table slots taken s name (made.Over f) = IsUnbegun table slots taken s name f
 
 -- the results of the starts from number n on, if `taken` of `slots` slots are taken before them
 abbrev pub AreStartResults : TableId → ℕ → List Start → ℕ → ℕ → List StartResult → Type 0
 AreStartResults table slots starts n taken [] = Unit {0}
-AreStartResults table slots starts n taken (m ∷ ms) = ((s : Start) × (slice_get starts n ≡ Some s) × IsStartResult table slots taken s (n ∷ []) m) × AreStartResults table slots starts (n + 1) (taken + cond (takes_slot m) 1 0) ms
+AreStartResults table slots starts n taken (m ∷ ms) =
+    ((s : Start) × (slice_get starts n ≡ Some s) × IsStartResult table slots taken s (n ∷ []) m)
+    × AreStartResults table slots starts (n + 1) (taken + cond (takes_slot m) 1 0) ms

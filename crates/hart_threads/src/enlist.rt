@@ -41,7 +41,8 @@ impl<'r, 'a, B: Plan, R: Wait> Enlister<'r, 'a, B, R> {
         start: Start<'_>,
         place: usize,
     )
-        requires made { IsStartResult B.table F.slots (count (take (length B.plan - roster.old.left) F.taken)) start ((length B.plan - roster.old.left) ∷ []) made }
+        requires made { IsStartResult B.table F.slots (count (take (length B.plan - roster.old.left) F.taken)) start
+            ((length B.plan - roster.old.left) ∷ []) made }
         requires taken { slice_get F.taken (length B.plan - roster.old.left) ≡ Some (takes_slot made) }
         requires full { IsFullKnown F.full made }
         requires framed { IfNoFrame (LeftTooFew F.free B.plan F.taken (length B.plan - roster.old.left)) made }

@@ -51,7 +51,8 @@ impl<'a, B: Plan> JobQueue<'a, B> {
 
     /// Takes the first job, if there is one.
     pub(crate) fn pop(&mut self) -> Option<Job<'a, B>>
-        ensures { MatchOption result (waiting self.new.jobs.items ≡ waiting self.old.jobs.items) (λ job. waiting self.old.jobs.items ≡ held_of job.token ∷ waiting self.new.jobs.items) }
+        ensures { MatchOption result (waiting self.new.jobs.items ≡ waiting self.old.jobs.items) (λ job.
+            waiting self.old.jobs.items ≡ held_of job.token ∷ waiting self.new.jobs.items) }
     {
         match self.jobs.pop_front() {
             Some(queued) => {

@@ -60,7 +60,8 @@ impl<'a, B: Plan, F: StartOutcomes> Model for Roster<'a, B, F> {
 
     ghost invariant = { λ r. KeepsAt B.token_table r.issuer
         × (length (given_of r.issuer) ≡ r.out)
-        × (r.handed ≡ false → (lives : List Life) × Each B.table B.files B.lists B.plan lives r.finished.items × IsRostered B.plan (length B.plan - r.left) (given_of r.issuer) lives × All (MatchesSlots B.plan F.slots F.taken F.full F.free) r.finished.items)
+        × (r.handed ≡ false → (lives : List Life) × Each B.table B.files B.lists B.plan lives r.finished.items
+        × IsRostered B.plan (length B.plan - r.left) (given_of r.issuer) lives × All (MatchesSlots B.plan F.slots F.taken F.full F.free) r.finished.items)
         × (vec_len r.finished + r.out + r.left ≤ vec_capacity r.finished)
         × (r.left ≤ length B.plan)
         × AreTaken F.slots F.taken (given_of r.issuer)
@@ -139,7 +140,8 @@ impl<'a, B: Plan, F: StartOutcomes> Roster<'a, B, F> {
     pub(crate) fn refuse(&mut self, unstarted: Finished<'a>)
         requires left { 0 < self.old.left }
         requires name { unstarted.name.items ≡ (length B.plan - self.old.left) ∷ [] }
-        requires refused { (s : Start) × (opening : Gv) × (slice_get B.plan (length B.plan - self.old.left) ≡ Some s) × IsEnded B.table B.files B.lists B.plan (entry unstarted.name.items (birth s.list opening) []) unstarted }
+        requires refused { (s : Start) × (opening : Gv) × (slice_get B.plan (length B.plan - self.old.left) ≡ Some s)
+            × IsEnded B.table B.files B.lists B.plan (entry unstarted.name.items (birth s.list opening) []) unstarted }
         requires settled { MatchesSlots B.plan F.slots F.taken F.full F.free unstarted }
         ensures view { self.new ≡ one_made self.old }
     {

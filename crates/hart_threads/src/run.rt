@@ -94,7 +94,8 @@ fn run_all<
         thread::scope_env(),
         rt,
         |scope|
-            requires { (frames.now.table ≡ B.table) × (token_table.now ≡ B.token_table) × IsSync R.row × IsSync G.row × IsSend B.row × IsSync B.row × IsSend F.row × IsSync F.row × IsSend W.row × IsSync W.row × (W.files ≡ B.files) }
+            requires { (frames.now.table ≡ B.table) × (token_table.now ≡ B.token_table) × IsSync R.row × IsSync G.row × IsSend B.row
+                × IsSync B.row × IsSend F.row × IsSync F.row × IsSend W.row × IsSync W.row × (W.files ≡ B.files) }
         {
             for number in 1..harts {
                 let _ = scope.spawn(

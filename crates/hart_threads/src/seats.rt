@@ -153,7 +153,8 @@ fn tried<R: Wait>(
     requires anchored { IsHeld (view_of kernel.old) 0 }
     ensures built { IfOk result (λ r. IsBegun store.old r.0 r.1) }
     ensures process { IfOk result (λ r. r.1.state ≡ process_of image.now.scheme 0 image.now.loads) }
-    ensures refused { IfErr result (λ e. IsRefusedTry alone enough (start_need image.now.scheme image.now.loads) (view_of kernel.old) (view_of kernel.new) (view_of e.1) e.0) }
+    ensures refused { IfErr result (λ e.
+        IsRefusedTry alone enough (start_need image.now.scheme image.now.loads) (view_of kernel.old) (view_of kernel.new) (view_of e.1) e.0) }
     ensures seat { IfErr result (λ e. FitsIn store.old e.1) }
     ensures bare { IfErr result (λ e. IsBare (view_of e.1)) }
     ensures reads { HasRead (view_of kernel.old) (view_of kernel.new) }

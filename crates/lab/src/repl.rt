@@ -79,7 +79,8 @@ impl ReplLines {
         requires played { (s : Played) × HasPlayed player.old s }
         ensures played { IfOk result (λ _. (s : Played) × HasPlayed player.new s) }
         ensures undone { IfOk result (λ _. 0 < length self.old.taken.items →
-            (self.new.taken.items ≡ take (length self.old.taken.items - 1) self.old.taken.items) × HasPlayed player.new (played_lines nothing_played (map (λ line. line.items) self.new.taken.items))) }
+            (self.new.taken.items ≡ take (length self.old.taken.items - 1) self.old.taken.items)
+            × HasPlayed player.new (played_lines nothing_played (map (λ line. line.items) self.new.taken.items))) }
     {
         let Some(last) = self.taken.pop() else {
             return screen.out("there is no line to take back\n");

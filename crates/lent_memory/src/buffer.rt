@@ -40,9 +40,11 @@ pub fn fill<M: Words>(
 ) -> bool
     requires readable { CanWalk scheme (M.readable words.old) (M.memory words.old) (satps.root_ppn satp) (page_of va.0) }
     requires mode { satps.mode satp ≡ mode_of scheme }
-    ensures fills { Fills scheme (M.memory words.old) (M.there words.old) (satps.root_ppn satp) (satps.asid satp) va.0 (length places.old) (entries_of places.old) (entries_of places.new) }
+    ensures fills { Fills scheme (M.memory words.old) (M.there words.old) (satps.root_ppn satp) (satps.asid satp) va.0 (length places.old)
+        (entries_of places.old) (entries_of places.new) }
     ensures stays { M.stays words.old words.new }
-    ensures added { result ≡ true → (e : TlbEntry) × IsOutcome scheme (M.memory words.old) (M.there words.old) (satps.root_ppn satp) (satps.asid satp) va.0 e × IsLast e places.new }
+    ensures added { result ≡ true → (e : TlbEntry)
+        × IsOutcome scheme (M.memory words.old) (M.there words.old) (satps.root_ppn satp) (satps.asid satp) va.0 e × IsLast e places.new }
     ensures fault { result ≡ false → EndsInAccessFault scheme (M.memory words.old) (M.there words.old) (satps.root_ppn satp) va.0 × (places.new ≡ places.old) }
 {
     let mut found: Buffer<1> = Buffer::new();

@@ -36,7 +36,8 @@ command_answer s (Some w) c = let p = line_result s.draft.images w c in record {
 abbrev pub item_answer : Played → Item → Answer
 item_answer s (item.File f) = record { reply = Nothing; after = record s { draft = with_item s.draft (item.File f) } }
 item_answer s (item.Image i) = record { reply = Nothing; after = record s { draft = with_item s.draft (item.Image i) } }
-item_answer s (item.Boot c) = record { reply = Text (codes "ok"); after = record { draft = with_item s.draft (item.Boot c); world = Some (booted c (map file_of s.draft.files)) } }
+item_answer s (item.Boot c) =
+    record { reply = Text (codes "ok"); after = record { draft = with_item s.draft (item.Boot c); world = Some (booted c (map file_of s.draft.files)) } }
 item_answer s (item.Command c) = command_answer s s.world c
 
 abbrev pub answer_of : Played → Result (Option Item) Cause → Answer

@@ -149,7 +149,8 @@ impl LinePlayer {
         requires played { (s : played.Played) × HasPlayed self.old s }
         requires limits { CanBoot config }
         requires empty { self.old.answer.items ≡ [] }
-        ensures answered { IfOk result (λ reply. (s : played.Played) → HasPlayed self.old s → Answers self.new reply (played.item_answer s (item.Boot config))) }
+        ensures answered { IfOk result (λ reply. (s : played.Played) → HasPlayed self.old s
+            → Answers self.new reply (played.item_answer s (item.Boot config))) }
         ensures kept { OnErr result ((s : played.Played) → HasPlayed self.old s → HasPlayed self.new s) }
     {
         let files = Cabinet::new(self.alloc, self.draft.files())?;

@@ -39,4 +39,5 @@ pub record Unmaps (x : Body) (t : Tables) (p : Process) (before after : List Fil
 abbrev pub IsUnmapRefusal : (ℕ → PromiseError → Type 0) → List File → Process → ℕ → ℕ → Refusal → Type 0
 IsUnmapRefusal CanRefuse files p address len e =
     (unmapped files p address len ≡ Err e)
-    ⊎ ((what : Unmapped) × (unmapped files p address len ≡ Ok what) × (x : PromiseError) × CanRefuse (length (unmap_moves p address len)) x × (e ≡ refusal_of x))
+    ⊎ ((what : Unmapped) × (unmapped files p address len ≡ Ok what) × (x : PromiseError) × CanRefuse (length (unmap_moves p address len)) x
+    × (e ≡ refusal_of x))

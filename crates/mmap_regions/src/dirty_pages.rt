@@ -28,7 +28,8 @@ pub(crate) fn count_run<S: FrameSeat, F: FrameAccess<Seat = S>>(
 ) -> usize
     requires fits { IsSeatOf F.rule store.old space.old.seat }
     requires ready { (t : Tables) × (p : Process) × IsSpace (body_of S.view space.old) t p × IsRunOf p (run_of run.now) }
-    ensures count { (t : Tables) (p : Process) → IsSpace (body_of S.view space.old) t p → IsRunOf p (run_of run.now) → result ≡ length (moves_in p (run_of run.now)) }
+    ensures count { (t : Tables) (p : Process) → IsSpace (body_of S.view space.old) t p → IsRunOf p (run_of run.now)
+        → result ≡ length (moves_in p (run_of run.now)) }
     ensures few { run.now.first + result ≤ run.now.end }
     ensures reads { OnlyReads S.view space.old space.new store.old store.new }
     ensures keeps { KeepsSeats F.rule store.old space.old.seat store.new space.new.seat }
@@ -57,9 +58,12 @@ pub(crate) fn write_run<S: FrameSeat, F: FrameAccess<Seat = S>, C: Files>(
     run: &Run,
 )
     requires fits { IsSeatOf F.rule store.old space.old.seat }
-    requires ready { (t : Tables) × (p : Process) × IsSpaceInCall (body_of S.view space.old) t p no_extra × IsRunOf p (run_of run.now) × (length (moves_in p (run_of run.now)) ≤ C.room files.old) }
-    ensures moves { (t : Tables) (p : Process) → IsSpaceInCall (body_of S.view space.old) t p no_extra → IsRunOf p (run_of run.now) → C.becomes files.old (moves_in p (run_of run.now)) files.new }
-    ensures rest { (t : Tables) (p : Process) → IsSpaceInCall (body_of S.view space.old) t p no_extra → IsRunOf p (run_of run.now) → C.room files.old ≤ length (moves_in p (run_of run.now)) + C.room files.new }
+    requires ready { (t : Tables) × (p : Process) × IsSpaceInCall (body_of S.view space.old) t p no_extra × IsRunOf p (run_of run.now)
+        × (length (moves_in p (run_of run.now)) ≤ C.room files.old) }
+    ensures moves { (t : Tables) (p : Process) → IsSpaceInCall (body_of S.view space.old) t p no_extra → IsRunOf p (run_of run.now)
+        → C.becomes files.old (moves_in p (run_of run.now)) files.new }
+    ensures rest { (t : Tables) (p : Process) → IsSpaceInCall (body_of S.view space.old) t p no_extra → IsRunOf p (run_of run.now)
+        → C.room files.old ≤ length (moves_in p (run_of run.now)) + C.room files.new }
     ensures reads { OnlyReads S.view space.old space.new store.old store.new }
     ensures keeps { KeepsSeats F.rule store.old space.old.seat store.new space.new.seat }
 {
@@ -95,7 +99,8 @@ pub fn promise_write_back<S: FrameSeat, F: FrameAccess<Seat = S>, C: Files>(
     requires fits { IsSeatOf F.rule store.old space.old.seat }
     requires ready { IsAlive (body_of S.view space.old) }
     ensures promised { IfOk result (λ _. (t : Tables) (p : Process) → IsSpace (body_of S.view space.old) t p → length (all_moves p) ≤ C.room files.new) }
-    ensures refused { IfErr result (λ e. (t : Tables) (p : Process) → IsSpace (body_of S.view space.old) t p → C.can_refuse files.old (length (all_moves p)) e) }
+    ensures refused { IfErr result (λ e. (t : Tables) (p : Process) → IsSpace (body_of S.view space.old) t p
+        → C.can_refuse files.old (length (all_moves p)) e) }
     ensures files { C.becomes files.old [] files.new }
     ensures reads { OnlyReads S.view space.old space.new store.old store.new }
     ensures keeps { KeepsSeats F.rule store.old space.old.seat store.new space.new.seat }
@@ -119,7 +124,8 @@ pub fn write_back<S: FrameSeat, F: FrameAccess<Seat = S>, C: Files>(
     requires fits { IsSeatOf F.rule store.old space.old.seat }
     requires ready { (t : Tables) × (p : Process) × IsSpaceInCall (body_of S.view space.old) t p no_extra × (length (all_moves p) ≤ C.room files.old) }
     ensures moves { (t : Tables) (p : Process) → IsSpaceInCall (body_of S.view space.old) t p no_extra → C.becomes files.old (all_moves p) files.new }
-    ensures written { (t : Tables) (p : Process) → IsSpaceInCall (body_of S.view space.old) t p no_extra → C.files files.new ≡ all_written_back (C.files files.old) p }
+    ensures written { (t : Tables) (p : Process) → IsSpaceInCall (body_of S.view space.old) t p no_extra
+        → C.files files.new ≡ all_written_back (C.files files.old) p }
     ensures reads { OnlyReads S.view space.old space.new store.old store.new }
     ensures keeps { KeepsSeats F.rule store.old space.old.seat store.new space.new.seat }
 {

@@ -69,7 +69,8 @@ impl Run {
     pub fn left(&self) -> Option<Region>
         requires run { (p : Process) × IsRunOf p (run_of self.now) }
         requires whole { model.leaves_hole (region_of self.now.mapping) self.now.first self.now.end ≡ false }
-        ensures { option_to_list (option_map region_of result) ≡ model.front_of (region_of self.now.mapping) self.now.first ++ model.back_of (region_of self.now.mapping) self.now.end }
+        ensures { option_to_list (option_map region_of result) ≡ model.front_of (region_of self.now.mapping) self.now.first
+            ++ model.back_of (region_of self.now.mapping) self.now.end }
     {
         let mapping = self.mapping;
         let (first, end) = (self.first.number(), self.end.number());

@@ -84,7 +84,8 @@ by_entries there es address space access mode n =
     filter_map (λ number. by_entry there address space access mode number (slice_get es number)) (range_with_len 0 n)
 
 -- the outcomes of an access, in order, with this memory, satp and TLB
-pub record AreOutcomes (m : Numbered) (satp : ℕ) (es : List TlbEntry) (address : ℕ) (w : Width) (access : Access) (mode : Mode) (os : List Outcome) : Type 0 where
+pub record AreOutcomes (m : Numbered) (satp : ℕ) (es : List TlbEntry) (address : ℕ) (w : Width) (access : Access) (mode : Mode)
+    (os : List Outcome) : Type 0 where
   pub misaligned : (address % bytes w == 0) ≡ false → os ≡ outcome.Misaligned (misaligned_cause access) ∷ []
   pub untranslated : (address % bytes w == 0) ≡ true → scheme_of satp ≡ None → os ≡ bare m address access ∷ []
   pub translated : (address % bytes w == 0) ≡ true → (s : Scheme) → scheme_of satp ≡ Some s

@@ -220,7 +220,8 @@ impl Mmu {
     pub fn by_entry(&self, n: usize, va: Va, access: Access, mode: Mode) -> Option<Outcome>
         ensures value { result ≡ by_entry (extent_of (word_of self.now.memory)) va.0 (satps.asid self.now.satp) access mode n (slice_get self.now.buffer n) }
         // Over the words as they were when the entry was filled, the walk translates the access to this outcome.
-        ensures permitted { IfSome result (λ o. (s : Scheme) (m : Memory) (there : Extent) (root space filled : ℕ) (e : TlbEntry) → slice_get self.now.buffer n ≡ Some e
+        ensures permitted { IfSome result (λ o. (s : Scheme) (m : Memory) (there : Extent) (root space filled : ℕ) (e : TlbEntry)
+            → slice_get self.now.buffer n ≡ Some e
             → IsOutcome s m there root space filled e
             → (w : Walk) × (o ≡ outcome.Entry n w) × Translates s m (extent_of (word_of self.now.memory)) root va.0 access mode w) }
     {
@@ -246,7 +247,8 @@ impl Mmu {
         mode: Mode,
         found: &mut Vec<Outcome>,
     ) -> Result<(), AllocError>
-        ensures ok { OnOk result (found.new.items ≡ found.old.items ++ by_entries (extent_of (word_of self.now.memory)) self.now.buffer va.0 (satps.asid self.now.satp) access mode (length self.now.buffer)) }
+        ensures ok { OnOk result (found.new.items ≡ found.old.items
+            ++ by_entries (extent_of (word_of self.now.memory)) self.now.buffer va.0 (satps.asid self.now.satp) access mode (length self.now.buffer)) }
     {
         'entries: for n in 0..self.buffer.len() {
             if let Some(outcome) = self.by_entry(n, va, access, mode) {

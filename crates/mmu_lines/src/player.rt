@@ -108,7 +108,8 @@ impl MmuPlayer {
     /// # Errors
     /// `AllocError`: the host is out of memory.
     pub fn line(&mut self, line: &[u8]) -> Result<Option<Answer>, AllocError>
-        ensures { IfOk result (λ answer. MatchOption answer (IsNothing (fields_of line.now) × (self.new.unit ≡ self.old.unit)) (IsAnswer (fields_of line.now) self.old.unit self.new.unit)) }
+        ensures { IfOk result (λ answer. MatchOption answer (IsNothing (fields_of line.now)
+            × (self.new.unit ≡ self.old.unit)) (IsAnswer (fields_of line.now) self.old.unit self.new.unit)) }
     {
         match read_line(self.alloc, line) {
             Ok(Some(request)) => Ok(Some(self.request(request)?)),

@@ -5,7 +5,8 @@ use Rattle.std.specs.Str.{chars}
 
 -- a character, as HTML reads it within a text or an attribute: & < > and " have names
 abbrev pub escape : ℕ → List ℕ
-escape c = if c == 38 then codes "&amp;" else if c == 60 then codes "&lt;" else if c == 62 then codes "&gt;" else if c == 34 then codes "&quot;" else encode_utf8 c
+escape c = if c == 38 then codes "&amp;" else if c == 60 then codes "&lt;" else if c == 62 then codes "&gt;" else if c == 34
+    then codes "&quot;" else encode_utf8 c
 
 -- a text, character by character
 abbrev pub escaped : List ℕ → List ℕ

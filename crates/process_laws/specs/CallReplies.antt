@@ -2,7 +2,8 @@
 -- replies (`StartReply`), and a fork, exec, sbrk, mmap and munmap when the kernel may be called (`ForkReply`, `ExecReply`,
 -- `SizeReply`, `MapReply`, `UnmapReply`). Each case has what holds for it, in the order of the refusals; how many frames are too
 -- few says part (c).
-use Rattle.std.specs.Prelude.{◌≡◌, ◌⊎◌, ℕ, ℤ, pos, ◌+ℤ◌, nat_abs, int_lt, Bool, false, true, not, ◌+◌, ◌*◌, ◌/◌, ◌%◌, ◌==◌, ◌<◌, ◌≤◌, ◌&&◌, nat_le, nat_lt, Option, None, Some, is_some, List, [], ◌∷◌, Ok, Err, length, slice_get}
+use Rattle.std.specs.Prelude.{◌≡◌, ◌⊎◌, ℕ, ℤ, pos, ◌+ℤ◌, nat_abs, int_lt, Bool, false, true, not, ◌+◌, ◌*◌, ◌/◌, ◌%◌, ◌==◌, ◌<◌, ◌≤◌, ◌&&◌}
+use Rattle.std.specs.Prelude.{nat_le, nat_lt, Option, None, Some, is_some, List, [], ◌∷◌, Ok, Err, length, slice_get}
 use Rattle.process_laws.specs.Pages.{grant}
 use Rattle.process_model.specs.Bytes.{first_true, is_width, pages_for}
 use Rattle.process_model.specs.Copies.{longest_copy}
@@ -17,12 +18,14 @@ use Rattle.process_model.specs.World.{awaits_service, can_run, free_slot, World}
 use Rattle.process_model.specs.declared.image.BadImage.{BadImage}
 use Rattle.process_model.specs.declared.image.Image.{Image}
 use Rattle.process_model.specs.declared.step.Refusal.{Refusal}
-use Rattle.process_model.specs.declared.step.Refusal.TheVariants.{BadArgument, BadSize, FileNotWritable, HoleInMapping, Impossible, MappingsFull, NoEntry, NoFrame, NoRoom, NoSlot}
+use Rattle.process_model.specs.declared.step.Refusal.TheVariants.{BadArgument, BadSize, FileNotWritable, HoleInMapping, Impossible}
+use Rattle.process_model.specs.declared.step.Refusal.TheVariants.{MappingsFull, NoEntry, NoFrame, NoRoom, NoSlot}
 use Rattle.process_model.specs.declared.step.Refusal.TheVariants as refusal
 use Rattle.process_model.specs.declared.step.Reply.{Reply}
 use Rattle.process_model.specs.declared.step.Reply.TheVariants.{Done, Forked, MappedAt, OldSize, Refused, Started}
 use Rattle.process_model.specs.declared.step.Step.{Step}
-use Rattle.process_model.specs.declared.step.Step.TheVariants.{CopyIn, CopyOut, Evict, Exec, Fetch, Fill, Fork, Load, Mmap, Munmap, Next, Sbrk, Serve, Store, Switch, TrampolineFetch, Trap}
+use Rattle.process_model.specs.declared.step.Step.TheVariants.{CopyIn, CopyOut, Evict, Exec, Fetch, Fill, Fork, Load, Mmap, Munmap, Next}
+use Rattle.process_model.specs.declared.step.Step.TheVariants.{Sbrk, Serve, Store, Switch, TrampolineFetch, Trap}
 use Rattle.sv39_entry.specs.Address.{page_of}
 use Rattle.sv39_entry.specs.Schemes.{trampoline_page, trapframe_page}
 
@@ -116,8 +119,10 @@ IsGained p delta page = (pages_for p.size ≤ page) × (page < pages_for (nat_ab
 -- trapframe's or above, NoRoom; else the old size
 pub data SizeReply (p : Process) (delta : ℤ) : Reply → Type 0 where
   bad_size : is_below_base p delta ≡ true → SizeReply p delta (Refused BadSize)
-  no_room : {page : ℕ} → is_below_base p delta ≡ false → IsGained p delta page → (grant p page ≡ None → ⊥) ⊎ (trapframe_page p.scheme ≤ page) → SizeReply p delta (Refused NoRoom)
-  sized : is_below_base p delta ≡ false → ((page : ℕ) → IsGained p delta page → (grant p page ≡ None) × (page < trapframe_page p.scheme)) → SizeReply p delta (OldSize p.size)
+  no_room : {page : ℕ} → is_below_base p delta ≡ false → IsGained p delta page → (grant p page ≡ None → ⊥)
+      ⊎ (trapframe_page p.scheme ≤ page) → SizeReply p delta (Refused NoRoom)
+  sized : is_below_base p delta ≡ false → ((page : ℕ) → IsGained p delta page → (grant p page ≡ None) × (page < trapframe_page p.scheme))
+      → SizeReply p delta (OldSize p.size)
 
 -- mmap
 
@@ -130,10 +135,14 @@ is_read_only files protection flags n = flags == 1 && protection / 2 % 2 == 1 &&
 -- from the mappings (`Fits`), NoRoom; else the greatest address at which they fit
 pub data MapReply (files : List File) (p : Process) (len protection flags n : ℕ) : Reply → Type 0 where
   bad : is_bad_mapping files len protection flags n ≡ true → MapReply files p len protection flags n (Refused BadArgument)
-  read_only : is_bad_mapping files len protection flags n ≡ false → is_read_only files protection flags n ≡ true → MapReply files p len protection flags n (Refused FileNotWritable)
-  full : is_bad_mapping files len protection flags n ≡ false → is_read_only files protection flags n ≡ false → most_mappings ≤ length p.mappings → MapReply files p len protection flags n (Refused MappingsFull)
-  no_room : is_bad_mapping files len protection flags n ≡ false → is_read_only files protection flags n ≡ false → length p.mappings < most_mappings → ((first : ℕ) → Fits p (pages_for len) first → ⊥) → MapReply files p len protection flags n (Refused NoRoom)
-  mapped : {first : ℕ} → is_bad_mapping files len protection flags n ≡ false → is_read_only files protection flags n ≡ false → length p.mappings < most_mappings → Fits p (pages_for len) first → ((other : ℕ) → Fits p (pages_for len) other → other ≤ first)
+  read_only : is_bad_mapping files len protection flags n ≡ false → is_read_only files protection flags n ≡ true
+      → MapReply files p len protection flags n (Refused FileNotWritable)
+  full : is_bad_mapping files len protection flags n ≡ false → is_read_only files protection flags n ≡ false
+      → most_mappings ≤ length p.mappings → MapReply files p len protection flags n (Refused MappingsFull)
+  no_room : is_bad_mapping files len protection flags n ≡ false → is_read_only files protection flags n ≡ false
+      → length p.mappings < most_mappings → ((first : ℕ) → Fits p (pages_for len) first → ⊥) → MapReply files p len protection flags n (Refused NoRoom)
+  mapped : {first : ℕ} → is_bad_mapping files len protection flags n ≡ false → is_read_only files protection flags n ≡ false
+      → length p.mappings < most_mappings → Fits p (pages_for len) first → ((other : ℕ) → Fits p (pages_for len) other → other ≤ first)
       → MapReply files p len protection flags n (MappedAt (4096 * first))
 
 -- munmap
@@ -153,6 +162,9 @@ is_range address len = address % 4096 == 0 && nat_lt 0 len
 -- HoleInMapping; else it is done
 pub data UnmapReply (p : Process) (address len : ℕ) : Reply → Type 0 where
   no_range : is_range address len ≡ false → UnmapReply p address len (Refused BadArgument)
-  outside : is_range address len ≡ true → ((m : Region) → HasRange p (page_of address) (page_of address + pages_for len) m → ⊥) → UnmapReply p address len (Refused BadArgument)
-  hole : {m : Region} → is_range address len ≡ true → HasRange p (page_of address) (page_of address + pages_for len) m → m.first < page_of address → page_of address + pages_for len < end_of m → UnmapReply p address len (Refused HoleInMapping)
-  unmapped : {m : Region} → is_range address len ≡ true → HasRange p (page_of address) (page_of address + pages_for len) m → (m.first ≡ page_of address) ⊎ (page_of address + pages_for len ≡ end_of m) → UnmapReply p address len Done
+  outside : is_range address len ≡ true → ((m : Region) → HasRange p (page_of address) (page_of address + pages_for len) m → ⊥)
+      → UnmapReply p address len (Refused BadArgument)
+  hole : {m : Region} → is_range address len ≡ true → HasRange p (page_of address) (page_of address + pages_for len) m
+      → m.first < page_of address → page_of address + pages_for len < end_of m → UnmapReply p address len (Refused HoleInMapping)
+  unmapped : {m : Region} → is_range address len ≡ true → HasRange p (page_of address) (page_of address + pages_for len) m
+      → (m.first ≡ page_of address) ⊎ (page_of address + pages_for len ≡ end_of m) → UnmapReply p address len Done

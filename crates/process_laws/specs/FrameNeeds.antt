@@ -3,7 +3,8 @@
 -- which frames a process begins with (`HasNewFrames`, `SharesFrames`), keeps (`KeepsFrames`) and shares (`IsSharedPage`).
 -- A frame of a process is its trapframe, a page table, or that of a settled page: two pages are on one frame if they have one
 -- copy number.
-use Rattle.std.specs.Prelude.{◌≡◌, ◌≢◌, ◌⊎◌, ℕ, Bool, true, false, not, ◌+◌, ◌-◌, ◌<◌, ◌&&◌, ◌||◌, Option, None, Some, List, ◌∷◌, Ok, is_some, length, option_map, if◌then◌else◌}
+use Rattle.std.specs.Prelude.{◌≡◌, ◌≢◌, ◌⊎◌, ℕ, Bool, true, false, not, ◌+◌, ◌-◌, ◌<◌, ◌&&◌, ◌||◌, Option, None, Some, List, ◌∷◌, Ok}
+use Rattle.std.specs.Prelude.{is_some, length, option_map, if◌then◌else◌}
 use Rattle.process_laws.specs.Latest.{page_byte}
 use Rattle.process_laws.specs.Pages.{Grant, grant, has_fork_mark, is_ready_page}
 use Rattle.process_laws.specs.Words.{CopiesBytes, IsOnHart, MayCall}
@@ -89,7 +90,8 @@ IsTaken p q page = (is_settled p page ≡ false) ⊎ ((has_fork_mark p page ≡ 
 pub record KeepsFrames (w : World) (s : ℕ) (p q : Process) : Type 0 where
   pub tables : (page : ℕ) → has_tables q page ≡ (has_tables p page || (is_settled q page && not (is_settled p page)))
   pub copies : (page copy : ℕ) → copy_on q page ≡ Some copy → (copy_on p page ≡ Some copy) ⊎ (IsNewCopy w copy × IsTaken p q page)
-  pub alone : (page copy : ℕ) → has_fork_mark p page ≡ true → has_fork_mark q page ≡ false → copy_on p page ≡ Some copy → copy_on q page ≡ Some copy → others_have w s copy ≡ false
+  pub alone : (page copy : ℕ) → has_fork_mark p page ≡ true → has_fork_mark q page ≡ false → copy_on p page ≡ Some copy
+      → copy_on q page ≡ Some copy → others_have w s copy ≡ false
 
 -- page `one` of p and page `two` of q, which are on one frame: it is the same page, with the same bytes, and if p may write it,
 -- with the copy-on-write mark
@@ -102,7 +104,8 @@ pub record IsSharedPage (p q : Process) (one two : ℕ) : Type 0 where
 -- exec of a good image, and a fork if a slot is free; a service, and a kernel copy
 pub data MayLackFrames (w : World) : Step → Type 0 where
   start : {image : Image} {s : ℕ} {ls : List LoadSegment} → free_slot w ≡ Some s → image_loads w.scheme image ≡ Ok ls → MayLackFrames w (Start image)
-  exec : {h s : ℕ} {p : Process} {image : Image} {ls : List LoadSegment} → IsOnHart w h s p → MayCall w h p → image_loads w.scheme image ≡ Ok ls → MayLackFrames w (Exec h image)
+  exec : {h s : ℕ} {p : Process} {image : Image} {ls : List LoadSegment} → IsOnHart w h s p → MayCall w h p
+      → image_loads w.scheme image ≡ Ok ls → MayLackFrames w (Exec h image)
   fork : {h s t : ℕ} {p : Process} → IsOnHart w h s p → MayCall w h p → free_slot w ≡ Some t → MayLackFrames w (Fork h)
   serve : {h : ℕ} → MayLackFrames w (Serve h)
   copy : {h n : ℕ} {x : Step} → CopiesBytes h n x → MayLackFrames w x

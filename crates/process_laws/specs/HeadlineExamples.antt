@@ -31,7 +31,8 @@ use Rattle.sv39_entry.specs.declared.scheme.Scheme.TheVariants.{Sv39, Sv48}
 
 -- a segment of so many pages, from page `first` on
 abbrev segment_at : ℕ → ℕ → Bool → Bool → LoadSegment
-segment_at first pages writes executes = record { address = 4096 * first; memory_size = 4096 * pages; file_size = 0; writes = writes; executes = executes; inside = true; bytes = [] }
+segment_at first pages writes executes =
+    record { address = 4096 * first; memory_size = 4096 * pages; file_size = 0; writes = writes; executes = executes; inside = true; bytes = [] }
 
 -- text and data; nine pages of data; a page of data at 0 and one at 0x40000000
 abbrev text_and_data : List LoadSegment
@@ -282,7 +283,10 @@ fill_adds_the_last = refl
 fill_under_the_asid_of_slot_0 : keys_after policy.Asid in_user_mode (step.Fill 0 0x2123) ≡ key 1 0 ∷ key 2 1 ∷ []
 fill_under_the_asid_of_slot_0 = refl
 
-full_buffer_loses_its_first : keys_after policy.Full (record in_user_mode { keys = key 9 0 ∷ replicate 31 (key 1 0) }) (step.Fill 0 0x2000) ≡ replicate 31 (key 1 0) ++ key 2 0 ∷ []
+full_buffer_loses_its_first : keys_after policy.Full (record in_user_mode {
+  keys = key 9 0
+      ∷ replicate 31 (key 1 0);
+}) (step.Fill 0 0x2000) ≡ replicate 31 (key 1 0) ++ key 2 0 ∷ []
 full_buffer_loses_its_first = refl
 
 eviction_closes_up : keys_after policy.Full (before_fence User) (step.Evict 0 1) ≡ key 1 0 ∷ key 2 2 ∷ []

@@ -2,7 +2,8 @@
 -- their replies, and the regions, files and pending accesses before them, never from what the model has settled (put in
 -- memory). Also the bytes of an image and of a file mapping, the initial byte, the byte that a process has (`byte_had`), and
 -- `IsLatest`, for the value of a load.
-use Rattle.std.specs.Prelude.{◌≡◌, ℕ, ℤ, pos, ◌+ℤ◌, nat_abs, Bool, false, ◌+◌, ◌-◌, ◌*◌, ◌%◌, ◌<◌, nat_le, nat_lt, ◌==◌, ◌&&◌, Option, None, Some, Result, Ok, Err, List, [], ◌∷◌, length, get_or, slice_get, if◌then◌else◌}
+use Rattle.std.specs.Prelude.{◌≡◌, ℕ, ℤ, pos, ◌+ℤ◌, nat_abs, Bool, false, ◌+◌, ◌-◌, ◌*◌, ◌%◌, ◌<◌, nat_le, nat_lt, ◌==◌, ◌&&◌, Option, None}
+use Rattle.std.specs.Prelude.{Some, Result, Ok, Err, List, [], ◌∷◌, length, get_or, slice_get, if◌then◌else◌}
 use Rattle.process_model.specs.Bytes.{low_bytes, number, pages_for}
 use Rattle.process_model.specs.Files.{File, bytes_of}
 use Rattle.process_model.specs.Images.{LoadSegment, end_page, image_loads}
@@ -12,7 +13,8 @@ use Rattle.process_model.specs.Regions.{Source, file}
 use Rattle.process_model.specs.World.{World, has_slot, process_in}
 use Rattle.process_model.specs.declared.image.BadImage.{BadImage}
 use Rattle.process_model.specs.declared.step.Reply.{Reply}
-use Rattle.process_model.specs.declared.step.Reply.TheVariants.{CopiedIn, CopiedOut, Done, Ended, Exited, Forked, OldSize, Ready, ShortIn, ShortOut, Started, Stored}
+use Rattle.process_model.specs.declared.step.Reply.TheVariants.{CopiedIn, CopiedOut, Done, Ended, Exited, Forked, OldSize, Ready, ShortIn}
+use Rattle.process_model.specs.declared.step.Reply.TheVariants.{ShortOut, Started, Stored}
 use Rattle.process_model.specs.declared.step.Step.{Step}
 use Rattle.process_model.specs.declared.step.Step.TheVariants.{CopyIn, CopyOut, Exec, Exit, Fork, Munmap, Sbrk, Serve, Start, Store}
 use Rattle.process_laws.specs.Moments.{Moment, slot_on}
@@ -30,7 +32,8 @@ byte_at bytes i = get_or bytes i 0
 abbrev pub loads_byte : ℕ → List LoadSegment → ℕ → Option ℕ
 loads_byte end [] a = if is_between end (end + 2) (page_of a) then Some 0 else None
 loads_byte end (l ∷ ls) a =
-    if is_between (page_of l.address) (page_of l.address + pages_for l.memory_size) (page_of a) then Some (byte_at l.bytes (a - 4096 * page_of l.address)) else loads_byte (end_page l) ls a
+    if is_between (page_of l.address) (page_of l.address + pages_for l.memory_size) (page_of a)
+    then Some (byte_at l.bytes (a - 4096 * page_of l.address)) else loads_byte (end_page l) ls a
 
 -- the byte that an image has at an address; none for a bad image
 abbrev pub image_byte : Result (List LoadSegment) BadImage → ℕ → Option ℕ

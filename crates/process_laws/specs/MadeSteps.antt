@@ -19,14 +19,16 @@ use Rattle.process_model.specs.declared.step.Step.TheVariants.{Exec, Exit, Fork,
 pub record MakesOwn (m : Moment) (h s : ℕ) (p : Process) : Type 0 where
   -- Each instruction in the trampoline, on the way into the kernel and back into user mode, leads to the next phase; a trap, to
   -- the kernel's entry
-  pub next : (phase after : Phase) → m.step ≡ Next h → IsMade m.reply → IsInPhase m.before h phase → next_phase phase ≡ Some after → IsOnHart m.after h s p × IsInPhase m.after h after
+  pub next : (phase after : Phase) → m.step ≡ Next h → IsMade m.reply → IsInPhase m.before h phase → next_phase phase ≡ Some after
+      → IsOnHart m.after h s p × IsInPhase m.after h after
   pub trap : IsInPhase m.before h User → m.step ≡ Trap h → (slot_on m.after h ≡ Some s) × IsInPhase m.after h Enter0
   -- If the kernel may be called for p, then fork, exec, sbrk, mmap and munmap reply what their arguments and p's regions say
   -- (`CallReplies`): mmap maps pages as high as they fit, `sbrk 0 -1` on an empty heap answers `refused 13 BadSize`
   pub fork : MayCall m.before h p → m.step ≡ Fork h → ForkReply m.before m.reply
   pub exec : (image : Image) → MayCall m.before h p → m.step ≡ Exec h image → ExecReply m.before image m.reply
   pub sbrk : (delta : ℤ) → MayCall m.before h p → m.step ≡ Sbrk h delta → SizeReply p delta m.reply
-  pub mmap : (len protection flags n : ℕ) → MayCall m.before h p → m.step ≡ Mmap h len protection flags n → MapReply (m.before).files p len protection flags n m.reply
+  pub mmap : (len protection flags n : ℕ) → MayCall m.before h p → m.step ≡ Mmap h len protection flags n
+      → MapReply (m.before).files p len protection flags n m.reply
   pub munmap : (address len : ℕ) → MayCall m.before h p → m.step ≡ Munmap h address len → UnmapReply p address len m.reply
 
 -- Of all steps:
@@ -47,5 +49,6 @@ pub record MakesSteps (m : Moment) : Type 0 where
   pub start : (image : Image) → m.step ≡ Start image → StartReply m.before image m.reply
   pub started : (image : Image) (s : ℕ) → m.step ≡ Start image → m.reply ≡ Started s → (p : Process) × (process_in m.after s ≡ Some p) × Begins m p
   -- A process to which a hart is switched is there on the hart, in the kernel. A switch to none leaves the hart idle
-  pub switch : (h s : ℕ) (p : Process) → m.step ≡ Switch h (Some s) → IsMade m.reply → process_in m.before s ≡ Some p → IsOnHart m.after h s p × IsInPhase m.after h Kernel
+  pub switch : (h s : ℕ) (p : Process) → m.step ≡ Switch h (Some s) → IsMade m.reply → process_in m.before s ≡ Some p
+      → IsOnHart m.after h s p × IsInPhase m.after h Kernel
   pub left : (h : ℕ) → m.step ≡ Switch h None → IsMade m.reply → (slot_on m.after h ≡ None) × IsInPhase m.after h Idle

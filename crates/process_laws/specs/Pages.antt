@@ -2,12 +2,14 @@
 -- for an access, its copy-on-write mark (left by a fork: copy first) and dirty mark (D), and whether one mapping has it and the
 -- next (`are_joined`, `joins`); then for one step which pages it remaps, the grants and the process's size after it, and which
 -- pages it makes ready for a store.
-use Rattle.std.specs.Prelude.{ℕ, ℤ, pos, ◌+ℤ◌, nat_abs, Bool, true, false, not, ◌+◌, ◌-◌, ◌*◌, ◌/◌, ◌%◌, ◌==◌, nat_le, nat_lt, ◌&&◌, ◌||◌, Option, None, Some, Result, Ok, Err, List, [], ◌∷◌, length, if◌then◌else◌}
+use Rattle.std.specs.Prelude.{ℕ, ℤ, pos, ◌+ℤ◌, nat_abs, Bool, true, false, not, ◌+◌, ◌-◌, ◌*◌, ◌/◌, ◌%◌, ◌==◌, nat_le, nat_lt, ◌&&◌, ◌||◌}
+use Rattle.std.specs.Prelude.{Option, None, Some, Result, Ok, Err, List, [], ◌∷◌, length, if◌then◌else◌}
 use Rattle.process_model.specs.Bytes.{pages_for}
 use Rattle.process_model.specs.Images.{end_of_loads, end_page, image_loads, LoadSegment}
 use Rattle.process_model.specs.PageMap.{get}
 use Rattle.process_model.specs.Process.{Page, Pending, Process, regions}
-use Rattle.process_model.specs.Regions.{file, guard, heap, holds_page, image, keeps_stores, private_mapping, Region, region_at, RegionKind, segment, shared_mapping, Source, stack, zeros}
+use Rattle.process_model.specs.Regions.{file, guard, heap, holds_page, image, keeps_stores, private_mapping, Region, region_at, RegionKind}
+use Rattle.process_model.specs.Regions.{segment, shared_mapping, Source, stack, zeros}
 use Rattle.process_model.specs.declared.image.BadImage.{BadImage}
 use Rattle.process_model.specs.declared.step.Reply.{Reply}
 use Rattle.process_model.specs.declared.step.Reply.TheVariants.{Done, MappedAt, OldSize, Started}
@@ -106,7 +108,8 @@ are_joined p page = in_one_of p.mappings page
 
 -- the step puts the page and the next into one mapping: mmap those of its range
 abbrev pub joins : Step → Reply → ℕ → Bool
-joins (Mmap h len protection flags n) (MappedAt at) page = is_between (page_of at) (page_of at + pages_for len) page && is_between (page_of at) (page_of at + pages_for len) (page + 1)
+joins (Mmap h len protection flags n) (MappedAt at) page =
+    is_between (page_of at) (page_of at + pages_for len) page && is_between (page_of at) (page_of at + pages_for len) (page + 1)
 joins _ r page = false
 
 -- the grant of a remapped page after the call

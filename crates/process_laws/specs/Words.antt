@@ -1,7 +1,8 @@
 -- The words of the headline, predicates and functions: steps, with their harts and phases (idle, user mode, kernel, the way
 -- between), and buffers and marks after them; `UserAccess`, and whether it is granted, resident or forbidden; kinds of
 -- replies; which steps take frames; how a process or a forked child begins; and what a step writes back to files.
-use Rattle.std.specs.Prelude.{◌≡◌, ◌≢◌, ◌⊎◌, ℕ, Bool, true, false, ◌+◌, ◌<◌, ◌≤◌, ◌%◌, ◌==◌, Option, None, Some, List, length, option_map, pos, remove, slice_get, if◌then◌else◌}
+use Rattle.std.specs.Prelude.{◌≡◌, ◌≢◌, ◌⊎◌, ℕ, Bool, true, false, ◌+◌, ◌<◌, ◌≤◌, ◌%◌, ◌==◌, Option, None, Some, List, length, option_map}
+use Rattle.std.specs.Prelude.{pos, remove, slice_get, if◌then◌else◌}
 use Rattle.std.specs.Borrow.{Bor}
 use Rattle.process_laws.specs.RuleDenials.{IsFirst}
 use Rattle.process_laws.specs.Moments.{Moment, slot_on}
@@ -22,9 +23,12 @@ use Rattle.process_model.specs.declared.phase.Phase.TheVariants.{Kernel}
 use Rattle.process_model.specs.declared.step.Refusal.{Refusal}
 use Rattle.process_model.specs.declared.step.Refusal.TheVariants as refusal
 use Rattle.process_model.specs.declared.step.Reply.{Reply}
-use Rattle.process_model.specs.declared.step.Reply.TheVariants.{CopiedIn, CopiedOut, Done, Ended, Exited, Fault, Filled, Forked, InFrame, MappedAt, OldSize, Ready, Refused, ShortIn, ShortOut, Started, Stored, Value}
+use Rattle.process_model.specs.declared.step.Reply.TheVariants.{CopiedIn, CopiedOut, Done, Ended, Exited, Fault, Filled, Forked, InFrame}
+use Rattle.process_model.specs.declared.step.Reply.TheVariants.{MappedAt, OldSize, Ready, Refused, ShortIn, ShortOut, Started, Stored}
+use Rattle.process_model.specs.declared.step.Reply.TheVariants.{Value}
 use Rattle.process_model.specs.declared.step.Step.{Step}
-use Rattle.process_model.specs.declared.step.Step.TheVariants.{CopyIn, CopyOut, Evict, Exec, Exit, Fetch, Fill, Fork, Load, Mmap, Munmap, Next, Sbrk, Serve, Start, Store, Switch, TrampolineFetch, Trap}
+use Rattle.process_model.specs.declared.step.Step.TheVariants.{CopyIn, CopyOut, Evict, Exec, Exit, Fetch, Fill, Fork, Load, Mmap, Munmap}
+use Rattle.process_model.specs.declared.step.Step.TheVariants.{Next, Sbrk, Serve, Start, Store, Switch, TrampolineFetch, Trap}
 use Rattle.sv39_entry.specs.Address.{page_of}
 use Rattle.sv39_entry.specs.Causes.{misaligned_cause, page_fault_cause}
 use Rattle.sv39_entry.specs.declared.access.Access.{Access}
@@ -341,10 +345,12 @@ pub record Written (x : Step) (p : Process) (files later : List File) : Type 0 w
   pub count : length later ≡ length files
   pub mode : (n : ℕ) → is_writable (slice_get later n) ≡ is_writable (slice_get files n)
   pub long : (n : ℕ) → length (file_bytes later n) ≡ length (file_bytes files n)
-  pub bytes : (n i : ℕ) → i < length (file_bytes files n) → (byte_at (file_bytes later n) i ≡ byte_at (file_bytes files n) i) ⊎ WroteBack x p n i (byte_at (file_bytes later n) i)
+  pub bytes : (n i : ℕ) → i < length (file_bytes files n) → (byte_at (file_bytes later n) i ≡ byte_at (file_bytes files n) i)
+      ⊎ WroteBack x p n i (byte_at (file_bytes later n) i)
 
 -- what p has to write back to a place of a file (`WroteBack`) is there: the byte becomes such a byte; if several pages map the
 -- place, that of the page at the greatest address, which is written last. After two mmaps of file 0, the second below the
 -- first, and stores to one place of it, 0x61 through the first and 0x62 through the second, an exit leaves 0x61 there
 pub record IsWritten (x : Step) (p : Process) (files later : List File) : Type 0 where
-  pub goes : (n i b : ℕ) → i < length (file_bytes files n) → (v : WroteBack x p n i b) → (w : WroteBack x p n i (byte_at (file_bytes later n) i)) × (v.address ≤ w.address)
+  pub goes : (n i b : ℕ) → i < length (file_bytes files n) → (v : WroteBack x p n i b)
+      → (w : WroteBack x p n i (byte_at (file_bytes later n) i)) × (v.address ≤ w.address)

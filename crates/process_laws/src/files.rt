@@ -20,7 +20,8 @@ ghost use Rattle.sv39_entry.specs.declared.access.Access.TheVariants.{Store};
 /// written bytes for its initial ones, up to the length of the file.
 pub fn later_mapping_reads_what_was_written()
     ensures { (files : List File) (p q : Process) (m r : Region) (first end page later n at i : ℕ) (s : Page) → m.first ≤ first → first ≤ page → page < end
-        → get p.settled page ≡ Some s → is_written_back m s ≡ true → file_place m page ≡ Some (n, at) → region_on q later ≡ Some r → file_place r later ≡ Some (n, at)
+        → get p.settled page ≡ Some s → is_written_back m s ≡ true → file_place m page ≡ Some (n, at) → region_on q later ≡ Some r
+        → file_place r later ≡ Some (n, at)
         → i < 4096 → i < length s.bytes → at + i < file_length files n
         → byte_at (initial_page (written_back files p m first end) q later) i ≡ byte_at s.bytes i }
 {}
@@ -29,7 +30,8 @@ pub fn later_mapping_reads_what_was_written()
 /// dirty mark on any page. `stays`: if no settled page of a run has the dirty mark, writing back the run changes no file.
 pub fn loaded_page_is_never_written_back()
     ensures unmarked { (files : List File) (fresh page at : ℕ) (shared : Bool) (p : Process) (access : Access) (s : Page) → access ≢ Store
-        → get (made_resident files fresh shared p access page).settled at ≡ Some s → s.dirty ≡ true → (o : Page) × (get p.settled at ≡ Some o) × (o.dirty ≡ true) }
+        → get (made_resident files fresh shared p access page).settled at ≡ Some s → s.dirty ≡ true → (o : Page)
+        × (get p.settled at ≡ Some o) × (o.dirty ≡ true) }
     ensures stays { (files : List File) (p : Process) (m : Region) (first end : ℕ)
         → ((page : ℕ) (s : Page) → get p.settled page ≡ Some s → first ≤ page → page < end → s.dirty ≡ false) → written_back files p m first end ≡ files }
 {}
@@ -38,8 +40,10 @@ pub fn loaded_page_is_never_written_back()
 /// the access (`resident`); for a store, it has no copy-on-write mark (`fork`) and, in a writable shared mapping, it has the
 /// dirty mark (`stored`).
 pub fn one_service_sets_every_mark()
-    ensures resident { (a : Environment) (access : Access) (page : ℕ) (g h : Progress) → resident_at a access page g ≡ Ok h → is_resident h.process access page ≡ true }
-    ensures fork { (a : Environment) (page : ℕ) (g h : Progress) (s : Page) → resident_at a Store page g ≡ Ok h → get h.process.settled page ≡ Some s → s.cow ≡ false }
+    ensures resident { (a : Environment) (access : Access) (page : ℕ) (g h : Progress) → resident_at a access page g ≡ Ok h
+        → is_resident h.process access page ≡ true }
+    ensures fork { (a : Environment) (page : ℕ) (g h : Progress) (s : Page) → resident_at a Store page g ≡ Ok h
+        → get h.process.settled page ≡ Some s → s.cow ≡ false }
     ensures stored { (a : Environment) (page : ℕ) (g h : Progress) (s : Page) → resident_at a Store page g ≡ Ok h → get h.process.settled page ≡ Some s
         → keeps_stores (region_on h.process page) ≡ true → s.dirty ≡ true }
 {}

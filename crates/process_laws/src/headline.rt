@@ -11,5 +11,6 @@ ghost use Rattle.process_model.specs.declared.step.Step.{Step};
 /// For all lists of steps `earlier` since boot and `steps` after them, under any configuration and files, the replies of the
 /// model to `steps` meet the headline (`specs/Headline.antt`).
 pub fn headline_holds()
-    ensures { (c : Config) (files : List File) (earlier steps : List Step) → Headline c files earlier steps (run (run (booted c files) earlier).world steps).replies }
+    ensures { (c : Config) (files : List File) (earlier steps : List Step)
+        → Headline c files earlier steps (run (run (booted c files) earlier).world steps).replies }
 {}

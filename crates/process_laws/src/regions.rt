@@ -19,9 +19,12 @@ ghost use Rattle.sv39_entry.specs.declared.rule.Rule.{Rule};
 /// `first_rule` gives a rule exactly when that rule denies the access and no rule before it does (`denied`, `first`). If it
 /// gives none, no rule denies the access (`granted`).
 pub fn first_rule_is_first()
-    ensures denied { (s : Scheme) (rs : List Region) (access : Access) (address width : ℕ) (rule : Rule) → first_rule s rs access address width ≡ Some rule → IsFirst s rs access address width rule }
-    ensures first { (s : Scheme) (rs : List Region) (access : Access) (address width : ℕ) (rule : Rule) → IsFirst s rs access address width rule → first_rule s rs access address width ≡ Some rule }
-    ensures granted { (s : Scheme) (rs : List Region) (access : Access) (address width : ℕ) (rule : Rule) → first_rule s rs access address width ≡ None → Denies s rs access address width rule → ⊥ }
+    ensures denied { (s : Scheme) (rs : List Region) (access : Access) (address width : ℕ) (rule : Rule)
+        → first_rule s rs access address width ≡ Some rule → IsFirst s rs access address width rule }
+    ensures first { (s : Scheme) (rs : List Region) (access : Access) (address width : ℕ) (rule : Rule)
+        → IsFirst s rs access address width rule → first_rule s rs access address width ≡ Some rule }
+    ensures granted { (s : Scheme) (rs : List Region) (access : Access) (address width : ℕ) (rule : Rule)
+        → first_rule s rs access address width ≡ None → Denies s rs access address width rule → ⊥ }
 {}
 
 /// After any list of steps since boot, the regions of each process are in order (`IsInOrder`): the parts of its image

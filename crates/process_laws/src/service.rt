@@ -29,7 +29,8 @@ pub fn page_takes_few_frames()
 /// A page that sbrk (`shrunk`) or munmap (`unmapped`) releases is not settled afterwards. A page that is not settled has its
 /// initial bytes after it is made resident (`settled`).
 pub fn returned_page_is_initial()
-    ensures shrunk { (p q : Process) (delta : ℤ) (page : ℕ) → sbrk_result p delta ≡ Ok q → pages_for q.size ≤ page → page < pages_for p.size → get q.settled page ≡ None }
+    ensures shrunk { (p q : Process) (delta : ℤ) (page : ℕ) → sbrk_result p delta ≡ Ok q → pages_for q.size ≤ page → page < pages_for p.size
+        → get q.settled page ≡ None }
     ensures unmapped { (files : List File) (p : Process) (u : Unmapped) (address len page : ℕ) → unmapped files p address len ≡ Ok u
         → page_of address ≤ page → page < page_of address + pages_for len → get u.process.settled page ≡ None }
     ensures settled { (files : List File) (fresh : ℕ) (shared : Bool) (p : Process) (access : Access) (page : ℕ) → get p.settled page ≡ None

@@ -1,6 +1,7 @@
 -- Definitions on lists of bytes: little-endian numbers read and written, bytes replaced, padded with zeros; how many pages
 -- they fill. Also which widths an access may have, consecutive numbers, and the first true test of a list.
-use Rattle.std.specs.Prelude.{ℕ, zero, suc, ◌+◌, ◌-◌, ◌*◌, ◌/◌, ◌%◌, ◌^◌, ◌==◌, ◌||◌, Bool, cond, Option, Some, None, List, [], ◌∷◌, ◌++◌, length, take, drop, replicate}
+use Rattle.std.specs.Prelude.{ℕ, zero, suc, ◌+◌, ◌-◌, ◌*◌, ◌/◌, ◌%◌, ◌^◌, ◌==◌, ◌||◌, Bool, cond, Option, Some, None, List, [], ◌∷◌, ◌++◌}
+use Rattle.std.specs.Prelude.{length, take, drop, replicate}
 
 -- the little-endian number of the first n bytes; bytes that are missing count as 0
 unfoldable pub number : List ℕ → ℕ → ℕ

@@ -1,7 +1,9 @@
 -- Laws of kernel copies (copyin, copyout) within one page: such a copy makes the page resident (in memory and ready) once
 -- and copies the whole run of bytes, or stops at its first byte. Also: a copy continued over more addresses (`more_in`,
 -- `more_out`), which does nothing once stopped; and laws of bytes written over others.
-use Rattle.std.proofs.Common.{◌≡◌, ℕ, zero, suc, true, ◌+◌, ◌*◌, ◌%◌, ◌<◌, ◌≤◌, refl, ap, ap₂, sym, ◌∙◌, arith, List, [], ◌∷◌, ◌++◌, length, take, drop, get_or, append_assoc, append-nil, length-append, length-drop, drop-cons, Option, None, Some, Ok, Err}
+use Rattle.std.proofs.Common.{◌≡◌, ℕ, zero, suc, true, ◌+◌, ◌*◌, ◌%◌, ◌<◌, ◌≤◌, refl, ap, ap₂, sym, ◌∙◌, arith, List, [], ◌∷◌, ◌++◌, length}
+use Rattle.std.proofs.Common.{take, drop, get_or, append_assoc, append-nil, length-append, length-drop, drop-cons, Option, None, Some, Ok}
+use Rattle.std.proofs.Common.{Err}
 use Rattle.std.specs.Prelude.{fold, zip}
 use Rattle.std.proofs.lemmas.List.{length-take}
 use Rattle.process_model.specs.Environment.{Environment, Progress}
@@ -103,7 +105,8 @@ next_written (x ∷ bs) (suc o) v vs less =
 module _ (a : Environment) (h : Progress) (page : ℕ) (s : Page) (there : get h.process.settled page ≡ Some s) (whole : length s.bytes ≡ 4096)
     (still : (y : ℕ) → page_of y ≡ page → reached_in a access.Load h y ≡ Ok h) where
   one_taken : (offset : ℕ) (bytes : List ℕ) → offset < 4096
-      → one_in (so_far h bytes None) (4096 * page + offset) (reached_in a access.Load h (4096 * page + offset)) ≡ so_far h (bytes ++ get_or s.bytes offset 0 ∷ []) None
+      → one_in (so_far h bytes None) (4096 * page + offset) (reached_in a access.Load h (4096 * page + offset)) ≡ so_far h (bytes
+      ++ get_or s.bytes offset 0 ∷ []) None
   one_taken offset bytes less =
       let here = at_page page offset less in
       let inside = at_offset page offset less in
@@ -139,9 +142,11 @@ module _ (a : Environment) (page : ℕ) where
 
   still_out : (h : Progress) (s : Page) (y : ℕ) → Stands h s → page_of y ≡ page → reached_in a access.Store h y ≡ Ok h
   still_out h s y stands same =
-      reached_at_once a access.Store h y (stands.granted y same) (resident_again a access.Store (page_of y) h (ap (is_resident h.process access.Store) same ∙ stands.resident))
+      reached_at_once a access.Store h y (stands.granted y same)
+      (resident_again a access.Store (page_of y) h (ap (is_resident h.process access.Store) same ∙ stands.resident))
 
-  still_stands : (h : Progress) (s : Page) (offset : ℕ) (given : List ℕ) → Stands h s → offset + length given ≤ 4096 → Stands (put_at h s offset given) (stored s offset given)
+  still_stands : (h : Progress) (s : Page) (offset : ℕ) (given : List ℕ) → Stands h s → offset + length given ≤ 4096
+      → Stands (put_at h s offset given) (stored s offset given)
   still_stands h s offset given stands fits = record {
     there = inserted_here page (stored s offset given) h.process.settled page refl;
     whole = length-write_bytes s.bytes given offset (omega (arith, fits, stands.whole)) ∙ stands.whole;
@@ -150,12 +155,14 @@ module _ (a : Environment) (page : ℕ) where
   }
 
   one_put : (h : Progress) (s : Page) (offset b : ℕ) (bytes : List ℕ) → Stands h s → offset < 4096
-      → one_out (so_far h bytes None) (4096 * page + offset) b (reached_in a access.Store h (4096 * page + offset)) ≡ so_far (put_at h s offset (b ∷ [])) (bytes ++ b ∷ []) None
+      → one_out (so_far h bytes None) (4096 * page + offset) b (reached_in a access.Store h (4096 * page + offset)) ≡ so_far
+      (put_at h s offset (b ∷ [])) (bytes ++ b ∷ []) None
   one_put h s offset b bytes stands less =
       let here = at_page page offset less in
       let inside = at_offset page offset less in
       ap (one_out (so_far h bytes None) (4096 * page + offset) b) (still_out h s (4096 * page + offset) stands here)
-      ∙ ap (λ o. so_far (record h { process = with_byte_on h.process (4096 * page + offset) b o }) (bytes ++ b ∷ []) None) (ap (get h.process.settled) here ∙ stands.there)
+      ∙ ap (λ o. so_far (record h { process = with_byte_on h.process (4096 * page + offset) b o }) (bytes ++ b
+      ∷ []) None) (ap (get h.process.settled) here ∙ stands.there)
       ∙ ap₂ (λ n o. so_far (record h { process = with_page h.process n (stored s o (b ∷ [])) }) (bytes ++ b ∷ []) None) here inside
 
   put_none : (h : Progress) (s : Page) (offset : ℕ) → Stands h s → h ≡ put_at h s offset []
@@ -167,11 +174,13 @@ module _ (a : Environment) (page : ℕ) where
       → put_at (put_at h s offset (b ∷ [])) (stored s offset (b ∷ [])) (offset + 1) given ≡ put_at h s offset (b ∷ given)
   put_more h s offset b given less =
       let first = stored s offset (b ∷ []) in
-      ap (λ (m : PageMap Page). record h { process = record h.process { settled = m } }) (put_again h.process.settled page first (stored first (offset + 1) given))
+      ap (λ (m : PageMap Page).
+      record h { process = record h.process { settled = m } }) (put_again h.process.settled page first (stored first (offset + 1) given))
       ∙ ap (λ bs. record h { process = with_page h.process page (record s { bytes = bs }) }) (next_written s.bytes offset b given less)
 
   all_put : (given : List ℕ) (h : Progress) (s : Page) (offset : ℕ) (bytes : List ℕ) → Stands h s → offset + length given ≤ 4096
-      → more_out a (so_far h bytes None) (zip (numbers_from (4096 * page + offset) (length given)) given) ≡ so_far (put_at h s offset given) (bytes ++ given) None
+      → more_out a (so_far h bytes None) (zip (numbers_from (4096 * page + offset) (length given)) given) ≡ so_far (put_at h s offset given)
+      (bytes ++ given) None
   all_put [] h s offset bytes stands fits = ap₂ (λ g bs. so_far g bs None) (put_none h s offset stands) (sym (append-nil bytes))
   all_put (b ∷ given) h s offset bytes stands fits =
       let next : 4096 * page + offset + 1 ≡ 4096 * page + (offset + 1) = omega arith in
@@ -191,7 +200,8 @@ module _ (a : Environment) (g h : Progress) (bytes : List ℕ) (address : ℕ) w
   run_in zero s some fits is there whole = absurd (omega (arith, some))
   run_in (suc n) s some fits is there whole =
       let again = reached_again a access.Load g h address address is refl in
-      let taken = all_taken a h (page_of address) s there whole (λ y same. reached_again a access.Load g h address y is same) (suc n) (address % 4096) bytes fits in
+      let taken = all_taken a h (page_of address) s there whole (λ y same.
+      reached_again a access.Load g h address y is same) (suc n) (address % 4096) bytes fits in
       ap (λ o. more_in a (one_in (so_far g bytes None) address o) (numbers_from (address + 1) n)) is
       ∙ sym (ap (λ o. more_in a (one_in (so_far h bytes None) address o) (numbers_from (address + 1) n)) again)
       ∙ ap (λ at. more_in a (so_far h bytes None) (numbers_from at (suc n))) (sym (in_its_page address))
@@ -218,7 +228,8 @@ module _ (a : Environment) (g h : Progress) (bytes : List ℕ) (address : ℕ) w
 
 -- the first address is refused with rule r: the copy stops there
 module _ (a : Environment) (g : Progress) (bytes : List ℕ) (address : ℕ) (r : Rule) where
-  pub run_in_stops : (n : ℕ) → 0 < n → reached_in a access.Load g address ≡ Err r → more_in a (so_far g bytes None) (numbers_from address n) ≡ so_far g bytes (Some r)
+  pub run_in_stops : (n : ℕ) → 0 < n → reached_in a access.Load g address ≡ Err r
+      → more_in a (so_far g bytes None) (numbers_from address n) ≡ so_far g bytes (Some r)
   run_in_stops zero some is = absurd (omega (arith, some))
   run_in_stops (suc n) some is =
       ap (λ o. more_in a (one_in (so_far g bytes None) address o) (numbers_from (address + 1) n)) is ∙ stopped_in a r g bytes (numbers_from (address + 1) n)

@@ -35,7 +35,8 @@ module _ (a : Environment) (g : Progress) (address : ℕ) where
 
   -- copyout of two lists of bytes: the first, continued with the second
   pub copied_out_split : (front back : List ℕ) → copied_out a g address (front ++ back)
-      ≡ more_out a (more_out a (copy_begun g) (zip (numbers_from address (length front)) front)) (zip (numbers_from (address + length front) (length back)) back)
+      ≡ more_out a (more_out a (copy_begun g) (zip (numbers_from address (length front)) front))
+      (zip (numbers_from (address + length front) (length back)) back)
   unfolding copied_out
   copied_out_split front back =
       let places = zip (numbers_from address (length front)) front in

@@ -1,7 +1,8 @@
 -- Counts of frames: the page tables that a set of pages needs; what start, exec, fork and making one page resident (in
 -- memory and ready) need; what the kernel takes at boot, and which sizes can boot or be shared by threads; and of all
 -- processes, how many frames are free, held and shared, and how many references to frames there are (`accounts`).
-use Rattle.std.specs.Prelude.{ℕ, Bool, true, false, ◌+◌, ◌-◌, ◌/◌, ◌^◌, ◌==◌, max, nat_le, nat_lt, ◌&&◌, Option, None, Some, List, [], ◌∷◌, ◌++◌, length, map, filter, filter_map, flat_map, sum_by, if◌then◌else◌, ◌≡◌, refl}
+use Rattle.std.specs.Prelude.{ℕ, Bool, true, false, ◌+◌, ◌-◌, ◌/◌, ◌^◌, ◌==◌, max, nat_le, nat_lt, ◌&&◌, Option, None, Some, List, [], ◌∷◌}
+use Rattle.std.specs.Prelude.{◌++◌, length, map, filter, filter_map, flat_map, sum_by, if◌then◌else◌, ◌≡◌, refl}
 use Rattle.std.specs.List.{list_any}
 use Rattle.process_model.specs.PageMap.{get, keys, numbers, count}
 use Rattle.process_model.specs.Process.{Process, Page}
@@ -131,12 +132,14 @@ kernel_frames s frames slots = first_frames s + (if nat_le frames 512 then 0 els
 
 abbrev pub can_boot : Scheme → ℕ → ℕ → ℕ → Bool
 can_boot s harts frames slots =
-    nat_le 1 harts && nat_le harts MOST_HARTS && nat_le FEWEST_FRAMES frames && nat_le frames MOST_FRAMES && nat_le 1 slots && nat_le slots MOST_SLOTS && nat_le (kernel_frames s frames slots) frames
+    nat_le 1 harts && nat_le harts MOST_HARTS && nat_le FEWEST_FRAMES frames && nat_le frames MOST_FRAMES && nat_le 1 slots
+    && nat_le slots MOST_SLOTS && nat_le (kernel_frames s frames slots) frames
 
 -- whether threads can share these frames; processes on threads have Sv39
 abbrev pub can_share : ℕ → ℕ → Bool
 can_share frames slots =
-    nat_le FEWEST_FRAMES frames && nat_le frames MOST_SHARED_FRAMES && nat_le 1 slots && nat_le slots MOST_SLOTS && nat_le (kernel_frames Sv39 frames slots) frames
+    nat_le FEWEST_FRAMES frames && nat_le frames MOST_SHARED_FRAMES && nat_le 1 slots && nat_le slots MOST_SLOTS
+    && nat_le (kernel_frames Sv39 frames slots) frames
 
 -- accounts
 

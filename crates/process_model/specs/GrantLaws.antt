@@ -1,14 +1,16 @@
 -- Laws of what follows if sbrk or mmap is not refused: bounds of the new size; good arguments (`IsGoodMapping`), which make
 -- a region with leaf rights and bytes in reach (`IsMapping`); and a place at which the mapping fits. Before that: of a list
 -- of tests with no first true one, all are false.
-use Rattle.std.proofs.Common.{◌≡◌, ◌≢◌, ℕ, zero, suc, ℤ, pos, negsuc, Bool, true, false, cond, not, max, ◌&&◌, ◌||◌, ◌≤◌, inl, inr, refl, sym, ap, ◌∙◌, arith, List, [], ◌∷◌, Option, None, Some, length}
+use Rattle.std.proofs.Common.{◌≡◌, ◌≢◌, ℕ, zero, suc, ℤ, pos, negsuc, Bool, true, false, cond, not, max, ◌&&◌, ◌||◌, ◌≤◌, inl, inr, refl}
+use Rattle.std.proofs.Common.{sym, ap, ◌∙◌, arith, List, [], ◌∷◌, Option, None, Some, length}
 use Rattle.std.specs.Prelude.{◌==◌, nat_abs, nat_le, nat_lt, int_lt, fold, filter, is_none, slice_get}
 use Rattle.std.proofs.lemmas.Bool.{cases_lt, eqb-false, ltb-false, or_parts}
 use Rattle.std.proofs.lemmas.Option.{same_Some}
 use Rattle.process_model.specs.Bytes.{first_true, pages_for}
 use Rattle.process_model.specs.Files.{File, is_writable}
 use Rattle.process_model.specs.Heap.{heap_limit, size_refusal}
-use Rattle.process_model.specs.Mappings.{asks_execute, asks_read, asks_write, fits_at, greatest, is_bad_mapping, is_shared, longest_mapping, map_refusal, mapping_of, mapping_place, most_mappings, places}
+use Rattle.process_model.specs.Mappings.{asks_execute, asks_read, asks_write, fits_at, greatest, is_bad_mapping, is_shared, longest_mapping}
+use Rattle.process_model.specs.Mappings.{map_refusal, mapping_of, mapping_place, most_mappings, places}
 use Rattle.process_model.specs.Order.{IsMapping}
 use Rattle.process_model.specs.Process.{Process}
 use Rattle.process_model.specs.Regions.{is_guard_kind, private_mapping, shared_mapping}
@@ -37,9 +39,11 @@ wanted_above (negsuc n) base e = cc
 
 -- a size that is not refused is at or above the heap's base, and its pages end at or below the lowest mapping (or the
 -- trapframe)
-pub size_granted : (p : Process) (wanted : ℤ) → size_refusal p wanted ≡ None → (p.heap_base ≤ nat_abs wanted) × (pages_for (nat_abs wanted) ≤ heap_limit p.scheme p.mappings)
+pub size_granted : (p : Process) (wanted : ℤ) → size_refusal p wanted ≡ None → (p.heap_base ≤ nat_abs wanted)
+    × (pages_for (nat_abs wanted) ≤ heap_limit p.scheme p.mappings)
 size_granted p wanted e =
-    let tests = none_true ((int_lt wanted (pos p.heap_base), BadSize) ∷ (nat_lt (heap_limit p.scheme p.mappings) (pages_for (nat_abs wanted)), NoRoom) ∷ []) e in
+    let tests = none_true ((int_lt wanted (pos p.heap_base), BadSize)
+    ∷ (nat_lt (heap_limit p.scheme p.mappings) (pages_for (nat_abs wanted)), NoRoom) ∷ []) e in
     (wanted_above wanted p.heap_base tests.0, ltb-false (heap_limit p.scheme p.mappings) (pages_for (nat_abs wanted)) tests.1.0)
 
 -- ---- mmap
@@ -69,9 +73,11 @@ not_false : (b : Bool) → not b ≡ false → b ≡ true
 not_false true e = refl
 not_false false e = cc
 
-pub good_mapping : (files : List File) (len protection flags n : ℕ) → is_bad_mapping files len protection flags n ≡ false → IsGoodMapping files len protection flags n
+pub good_mapping : (files : List File) (len protection flags n : ℕ) → is_bad_mapping files len protection flags n ≡ false
+    → IsGoodMapping files len protection flags n
 good_mapping files len protection flags n e =
-    let sixth = or_parts (len == 0 || nat_lt longest_mapping len || protection == 0 || nat_lt 7 protection || not (flags == 1 || flags == 2)) (is_none (slice_get files n)) e in
+    let sixth = or_parts (len == 0 || nat_lt longest_mapping len || protection == 0 || nat_lt 7 protection
+    || not (flags == 1 || flags == 2)) (is_none (slice_get files n)) e in
     let fifth = or_parts (len == 0 || nat_lt longest_mapping len || protection == 0 || nat_lt 7 protection) (not (flags == 1 || flags == 2)) sixth.0 in
     let fourth = or_parts (len == 0 || nat_lt longest_mapping len || protection == 0) (nat_lt 7 protection) fifth.0 in
     let third = or_parts (len == 0 || nat_lt longest_mapping len) (protection == 0) fourth.0 in
@@ -121,7 +127,8 @@ filtered_pass : (f : ℕ → Bool) (ns : List ℕ) → AllPass f (filter f ns)
 unfolding AllPass
 filtered_pass f [] = tt
 filtered_pass f (n ∷ ns) =
-    elim (f n) as (λ b. f n ≡ b → AllPass f (cond b (n ∷ filter f ns) (filter f ns))) [ true ↦ λ t. (t, filtered_pass f ns) | false ↦ λ _. filtered_pass f ns ] refl
+    elim (f n) as (λ b. f n ≡ b
+    → AllPass f (cond b (n ∷ filter f ns) (filter f ns))) [ true ↦ λ t. (t, filtered_pass f ns) | false ↦ λ _. filtered_pass f ns ] refl
 
 max_passes : (f : ℕ → Bool) (a b : ℕ) → f a ≡ true → f b ≡ true → f (max a b) ≡ true
 max_passes f a b g h = elim (cases_lt a b) [
@@ -141,4 +148,5 @@ greatest_passes f a (n ∷ ns) all e = ap f (sym (same_Some (fold max n ns) a e)
 
 -- the mapping fits at its place
 pub place_fits : (p : Process) (pages first : ℕ) → mapping_place p pages ≡ Some first → fits_at p pages first ≡ true
-place_fits p pages first e = greatest_passes (fits_at p pages) first (filter (fits_at p pages) (places p pages)) (filtered_pass (fits_at p pages) (places p pages)) e
+place_fits p pages first e =
+    greatest_passes (fits_at p pages) first (filter (fits_at p pages) (places p pages)) (filtered_pass (fits_at p pages) (places p pages)) e

@@ -1,7 +1,8 @@
 -- `Hart`: its phase between user mode and kernel, its process's slot (place in the process table), the keys (page and ASID)
 -- of its buffer (its TLB) and which slots are marked as stale. What each phase allows and which is next, the ASID in satp,
 -- the keys after a fill, and which keys the fences of entry and return remove under each policy.
-use Rattle.std.specs.Prelude.{ℕ, Bool, true, false, not, ◌+◌, nat_lt, ◌==◌, ◌&&◌, Option, None, Some, List, [], ◌∷◌, ◌++◌, drop, length, filter, slice_get, if◌then◌else◌}
+use Rattle.std.specs.Prelude.{ℕ, Bool, true, false, not, ◌+◌, nat_lt, ◌==◌, ◌&&◌, Option, None, Some, List, [], ◌∷◌, ◌++◌, drop, length}
+use Rattle.std.specs.Prelude.{filter, slice_get, if◌then◌else◌}
 use Rattle.sv39_entry.specs.Address.{page_of}
 use Rattle.process_model.specs.declared.config.Policy.{Policy}
 use Rattle.process_model.specs.declared.config.Policy.TheVariants.{Full, Asid}

@@ -6,7 +6,8 @@ use Rattle.std.specs.Prelude.{flat_map}
 use Rattle.std.proofs.lemmas.List.{append-nil, append_assoc, length-append, map-append}
 use Rattle.std.proofs.lemmas.List.Concat.{flat_map-cons}
 use Rattle.process_model.specs.Bytes.{numbers_from, pages_for}
-use Rattle.process_model.specs.Frames.{exec_need, image_runs, kernel_run, PageRun, pages_in, runs_between, tables_by_sizes, tables_from, tables_needed, tables_of_sizes, table_sizes}
+use Rattle.process_model.specs.Frames.{exec_need, image_runs, kernel_run, PageRun, pages_in, runs_between, tables_by_sizes, tables_from}
+use Rattle.process_model.specs.Frames.{tables_needed, tables_of_sizes, table_sizes}
 use Rattle.process_model.specs.Images.{LoadSegment, end_of_loads, end_page}
 use Rattle.process_model.specs.Insertion.{behind_more}
 use Rattle.process_model.specs.ImageProcess.{load_pages, page_numbers, page_run}
@@ -71,12 +72,14 @@ module _ (size : ℕ) (some : 0 < size) where
       let long : r.first < r.end = up.1 in
       let here = div_up size some low r.first above in
       let far = div_up size some (r.end - 1) r.end (omega arith) in
-      let more = run_counted group (div_up size some) (div_near size some) r.first (r.end - r.first) (r.end - 1) xs n bound are (omega (arith, near, here)) (omega (arith, long)) (omega (arith, long)) in
+      let more = run_counted group (div_up size some) (div_near size some) r.first (r.end - r.first) (r.end - 1) xs n bound are
+      (omega (arith, near, here)) (omega (arith, long)) (omega (arith, long)) in
       let rest = groups rs r.end up.2 (xs ++ run_pages r) _ _ more (omega (arith, far)) in
       ap (λ ys. count (values group ys)) (sym (append_assoc xs (run_pages r) (numbers_in rs))) ∙ rest ∙ omega arith
 
   -- the kernel's two pages, first in `tables_needed`, may as well be last
-  kernel_last : (z : Scheme) (ns : List ℕ) → count (values group (trampoline_page z ∷ trapframe_page z ∷ ns)) ≡ count (values group (ns ++ trapframe_page z ∷ trampoline_page z ∷ []))
+  kernel_last : (z : Scheme) (ns : List ℕ)
+      → count (values group (trampoline_page z ∷ trapframe_page z ∷ ns)) ≡ count (values group (ns ++ trapframe_page z ∷ trampoline_page z ∷ []))
   kernel_last z ns =
       let last = trampoline_page z in
       let next = trapframe_page z in
@@ -125,7 +128,8 @@ number_of e = e.0
 abbrev last_pages : ℕ → List (ℕ × List ℕ)
 last_pages end = page_run end [] (guard_pages + stack_pages)
 
-image_numbers : (end : ℕ) (ls : List LoadSegment) → InRow end ls → map number_of (flat_map load_pages ls ++ last_pages (end_of_loads end ls)) ≡ numbers_in (runs_between end ls)
+image_numbers : (end : ℕ) (ls : List LoadSegment) → InRow end ls
+    → map number_of (flat_map load_pages ls ++ last_pages (end_of_loads end ls)) ≡ numbers_in (runs_between end ls)
 image_numbers end [] row = let two : guard_pages + stack_pages ≡ end + (guard_pages + stack_pages) - end = omega arith in ap (λ k. numbers_from end k ++ []) two
 image_numbers end (l ∷ ls) row =
     let many : pages_for l.memory_size ≡ end_page l - page_of l.address = let is = (row.0).end in omega (arith, is) in
@@ -136,7 +140,8 @@ image_numbers end (l ∷ ls) row =
     ∙ ap (λ ns. ns ++ map number_of rest) (run_numbers (pages_for l.memory_size) (page_of l.address) l.bytes ∙ ap (numbers_from (page_of l.address)) many)
     ∙ ap (λ ns. numbers_from (page_of l.address) (end_page l - page_of l.address) ++ ns) (image_numbers (end_page l) ls row.1)
 
-runs_rise : (z : Scheme) (end : ℕ) (ls : List LoadSegment) → InRow end ls → end_of_loads end ls + (guard_pages + stack_pages) ≤ trapframe_page z → AreRising end (runs_between end ls ++ kernel_run z ∷ [])
+runs_rise : (z : Scheme) (end : ℕ) (ls : List LoadSegment) → InRow end ls
+    → end_of_loads end ls + (guard_pages + stack_pages) ≤ trapframe_page z → AreRising end (runs_between end ls ++ kernel_run z ∷ [])
 runs_rise z end [] row room = let facts = of_scheme z in (omega arith, omega arith, (omega (arith, room), omega (arith, facts), tt))
 runs_rise z end (l ∷ ls) row room =
     let at = row.0 in

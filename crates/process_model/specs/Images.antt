@@ -1,7 +1,8 @@
 -- Program images: the segments that an image loads (`LoadSegment`), or the first check that it fails (`BadImage`); for an
 -- ELF file (as xv6's exec reads it, `elf_loads`) and for a list of segments (`segment_loads`). Also the ELF header fields
 -- that are read.
-use Rattle.std.specs.Prelude.{ℕ, Bool, true, false, not, ◌+◌, ◌*◌, ◌/◌, ◌%◌, ◌^◌, nat_le, nat_lt, ◌==◌, ◌&&◌, if◌then◌else◌, Option, None, Some, Result, Ok, Err, List, [], ◌∷◌, take, drop, length, map, fold, ◌++◌}
+use Rattle.std.specs.Prelude.{ℕ, Bool, true, false, not, ◌+◌, ◌*◌, ◌/◌, ◌%◌, ◌^◌, nat_le, nat_lt, ◌==◌, ◌&&◌, if◌then◌else◌, Option, None}
+use Rattle.std.specs.Prelude.{Some, Result, Ok, Err, List, [], ◌∷◌, take, drop, length, map, fold, ◌++◌}
 use Rattle.process_model.specs.Bytes.{pages_for, number, numbers_from, first_true}
 use Rattle.process_model.specs.Regions.{guard_pages, stack_pages}
 use Rattle.sv39_entry.specs.Address.{page_of}

@@ -50,7 +50,8 @@ module _ {X : Type 0} (k : ℕ) (v : X) where
   out_of : (es : List (ℕ × X)) (q : ℕ) → Contains (numbers_of (put nat_cmp k v es)) q → Contains (k ∷ numbers_of es) q
   out_of [] q h = h
   out_of (e ∷ es) q h =
-      elim (nat_cmp k e.0) as (λ o. Contains (numbers_of (by_order o ((k, v) ∷ e ∷ es) ((e.0, v) ∷ es) (e ∷ put nat_cmp k v es))) q → Contains (k ∷ numbers_of (e ∷ es)) q) [
+      elim (nat_cmp k e.0) as (λ o. Contains (numbers_of (by_order o ((k, v) ∷ e ∷ es) ((e.0, v) ∷ es) (e ∷ put nat_cmp k v es))) q
+      → Contains (k ∷ numbers_of (e ∷ es)) q) [
         | Less ↦ λ there. there
         | Equal ↦ λ there. behind k q (numbers_of (e ∷ es)) there
         | Greater ↦ λ there. elim (first_or e.0 q (numbers_of (put nat_cmp k v es)) there) [

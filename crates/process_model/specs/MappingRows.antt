@@ -1,7 +1,8 @@
 -- Laws of a process's mappings in order of address (`Row`): mmap adds one, munmap removes a run of pages from one, and the
 -- order stays, as does what holds of each mapping (`IsMapping`). Also which mapping holds a page or a whole run, before and
 -- after.
-use Rattle.std.proofs.Common.{◌≡◌, ℕ, Bool, true, false, cond, ◌&&◌, ◌+◌, ◌-◌, ◌<◌, ◌≤◌, ◌⊎◌, inl, inr, refl, sym, ap, subst, ◌∙◌, arith, List, [], ◌∷◌, ◌++◌, None, Some}
+use Rattle.std.proofs.Common.{◌≡◌, ℕ, Bool, true, false, cond, ◌&&◌, ◌+◌, ◌-◌, ◌<◌, ◌≤◌, ◌⊎◌, inl, inr, refl, sym, ap, subst, ◌∙◌, arith}
+use Rattle.std.proofs.Common.{List, [], ◌∷◌, ◌++◌, None, Some}
 use Rattle.std.specs.Prelude.{◌==◌, nat_le, nat_lt}
 use Rattle.std.specs.List.{list_all}
 use Rattle.std.proofs.lemmas.Bool.{and_parts, cond-true, eq-eqb, leb-true, lt-ltb, ltb-false, ltb-true, ne_eqb, or_cases}
@@ -9,7 +10,8 @@ use Rattle.std.proofs.lemmas.Option.{same_Some}
 use Rattle.process_model.specs.Heap.{heap_limit}
 use Rattle.process_model.specs.Mappings.{back_of, front_of, is_apart, mapping_around, moved_along, with_instead, with_mapping}
 use Rattle.process_model.specs.Order.{EachRegion, IsInReach, IsMapping, Row}
-use Rattle.process_model.specs.RegionRows.{each_append, held, here, here_or_later, holds, in_first, none_in_first, not_held, own_rights, passed, row_append, row_outside, row_within, SameRights}
+use Rattle.process_model.specs.RegionRows.{each_append, held, here, here_or_later, holds, in_first, none_in_first, not_held, own_rights}
+use Rattle.process_model.specs.RegionRows.{passed, row_append, row_outside, row_within, SameRights}
 use Rattle.process_model.specs.Regions.{Region, Source, end_of, file, image, region_at, zeros}
 use Rattle.sv39_entry.specs.Schemes.{trapframe_page}
 use Rattle.sv39_entry.specs.declared.scheme.Scheme.{Scheme}
@@ -30,7 +32,8 @@ apart_sides first pages m e = elim (or_cases (nat_le (first + pages) m.first) (n
 ]
 
 -- adding a mapping that is apart from the others keeps the order
-pub with_mapping_row : (low high : ℕ) (r : Region) (ms : List Region) → low ≤ r.first → 1 ≤ r.pages → end_of r ≤ high → list_all (is_apart r.first r.pages) ms ≡ true
+pub with_mapping_row : (low high : ℕ) (r : Region) (ms : List Region) → low ≤ r.first → 1 ≤ r.pages → end_of r ≤ high
+    → list_all (is_apart r.first r.pages) ms ≡ true
     → Row 1 low ms high → Row 1 low (with_mapping r ms) high
 with_mapping_row low high r [] from some to apart row = (from, some, to)
 with_mapping_row low high r (m ∷ ms) from some to apart row =
@@ -50,11 +53,13 @@ with_mapping_row low high r (m ∷ ms) from some to apart row =
 pub with_each : (P : Region → Type 0) (r : Region) (ms : List Region) → P r → EachRegion P ms → EachRegion P (with_mapping r ms)
 with_each P r [] here all = (here, tt)
 with_each P r (m ∷ ms) here all =
-    elim (nat_lt r.first m.first) as (λ b. EachRegion P (cond b (r ∷ m ∷ ms) (m ∷ with_mapping r ms))) [ true ↦ (here, all) | false ↦ (all.0, with_each P r ms here all.1) ]
+    elim (nat_lt r.first m.first) as (λ b. EachRegion P (cond b (r ∷ m ∷ ms) (m
+    ∷ with_mapping r ms))) [ true ↦ (here, all) | false ↦ (all.0, with_each P r ms here all.1) ]
 
 -- a page of another mapping stays in that mapping
 
-apart_found : (r : Region) (ms : List Region) (n : ℕ) (x : Region) → list_all (is_apart r.first r.pages) ms ≡ true → region_at ms n ≡ Some x → (n < r.first) ⊎ (end_of r ≤ n)
+apart_found : (r : Region) (ms : List Region) (n : ℕ) (x : Region) → list_all (is_apart r.first r.pages) ms ≡ true → region_at ms n ≡ Some x
+    → (n < r.first) ⊎ (end_of r ≤ n)
 apart_found r [] n x apart is = absurd (cc)
 apart_found r (m ∷ ms) n x apart is =
     let parts = and_parts (is_apart r.first r.pages m) (list_all (is_apart r.first r.pages) ms) apart in
@@ -102,7 +107,8 @@ around_each P first end (r ∷ rs) m all e =
 pub around_holds : (first end : ℕ) (ms : List Region) (m : Region) → mapping_around ms first end ≡ Some m → (m.first ≤ first) × (end ≤ end_of m)
 around_holds first end [] m e = absurd (cc)
 around_holds first end (r ∷ rs) m e =
-    elim (nat_le r.first first && nat_le end (end_of r)) as (λ b. (nat_le r.first first && nat_le end (end_of r)) ≡ b → cond b (Some r) (mapping_around rs first end) ≡ Some m → (m.first ≤ first) × (end ≤ end_of m)) [
+    elim (nat_le r.first first && nat_le end (end_of r)) as (λ b. (nat_le r.first first && nat_le end (end_of r)) ≡ b
+    → cond b (Some r) (mapping_around rs first end) ≡ Some m → (m.first ≤ first) × (end ≤ end_of m)) [
       | true ↦ λ t is. let parts = and_parts (nat_le r.first first) (nat_le end (end_of r)) t in
           subst (λ (x : Region). (x.first ≤ first) × (end ≤ end_of x)) (same_Some r m is) (leb-true r.first first parts.0, leb-true end (end_of r) parts.1)
       | false ↦ λ t is. around_holds first end rs m is
@@ -113,7 +119,8 @@ pub around_at : (low high first end n : ℕ) (ms : List Region) (m : Region) →
     → region_at ms n ≡ Some m
 around_at low high first end n [] m row e from to = absurd (cc)
 around_at low high first end n (r ∷ rs) m row e from to =
-    elim (nat_le r.first first && nat_le end (end_of r)) as (λ b. (nat_le r.first first && nat_le end (end_of r)) ≡ b → cond b (Some r) (mapping_around rs first end) ≡ Some m
+    elim (nat_le r.first first && nat_le end (end_of r)) as (λ b. (nat_le r.first first && nat_le end (end_of r)) ≡ b
+    → cond b (Some r) (mapping_around rs first end) ≡ Some m
     → region_at (r ∷ rs) n ≡ Some m) [
       | true ↦ λ t is.
           let parts = and_parts (nat_le r.first first) (nat_le end (end_of r)) t in
@@ -128,16 +135,19 @@ around_at low high first end n (r ∷ rs) m row e from to =
 -- ---- munmap removes a run
 
 -- what is left of a mapping is in order, between `low` and the mapping's end
-pub pieces_row : (m : Region) (low first end : ℕ) → low ≤ m.first → first ≤ end → m.first ≤ first → end ≤ end_of m → Row 1 low (front_of m first ++ back_of m end) (end_of m)
+pub pieces_row : (m : Region) (low first end : ℕ) → low ≤ m.first → first ≤ end → m.first ≤ first → end ≤ end_of m
+    → Row 1 low (front_of m first ++ back_of m end) (end_of m)
 pieces_row m low first end from le start stop =
-    elim (nat_lt m.first first) as (λ b. nat_lt m.first first ≡ b → Row 1 low (cond b (record m { pages = first - m.first } ∷ []) [] ++ back_of m end) (end_of m)) [
+    elim (nat_lt m.first first) as (λ b. nat_lt m.first first ≡ b
+    → Row 1 low (cond b (record m { pages = first - m.first } ∷ []) [] ++ back_of m end) (end_of m)) [
       | true ↦ λ t. let lt : m.first < first = ltb-true m.first first t in (from, omega arith, back_row m (m.first + (first - m.first)) end (omega arith) stop)
       | false ↦ λ t. back_row m low end (omega arith) stop
     ] refl
   where
     back_row : (m : Region) (low end : ℕ) → low ≤ end → end ≤ end_of m → Row 1 low (back_of m end) (end_of m)
     back_row m low end from stop =
-        elim (nat_lt end (end_of m)) as (λ b. nat_lt end (end_of m) ≡ b → Row 1 low (cond b (record m { first = end; pages = end_of m - end; source = moved_along m.source (end - m.first) } ∷ []) []) (end_of m)) [
+        elim (nat_lt end (end_of m)) as (λ b. nat_lt end (end_of m) ≡ b
+        → Row 1 low (cond b (record m { first = end; pages = end_of m - end; source = moved_along m.source (end - m.first) } ∷ []) []) (end_of m)) [
           | true ↦ λ t. let lt : end < m.first + m.pages = ltb-true end (end_of m) t in (from, omega arith, omega arith)
           | false ↦ λ t. omega arith
         ] refl
@@ -146,22 +156,27 @@ pub instead_row : (low high first end : ℕ) (ms : List Region) (m : Region) →
     → Row 1 low (with_instead ms m.first (front_of m first ++ back_of m end)) high
 instead_row low high first end [] m le row e = cc
 instead_row low high first end (r ∷ rs) m le row e =
-    elim (nat_le r.first first && nat_le end (end_of r)) as (λ b. (nat_le r.first first && nat_le end (end_of r)) ≡ b → cond b (Some r) (mapping_around rs first end) ≡ Some m
+    elim (nat_le r.first first && nat_le end (end_of r)) as (λ b. (nat_le r.first first && nat_le end (end_of r)) ≡ b
+    → cond b (Some r) (mapping_around rs first end) ≡ Some m
     → Row 1 low (with_instead (r ∷ rs) m.first (front_of m first ++ back_of m end)) high) [
-      | true ↦ λ t is. subst (λ (x : Region). Row 1 low (with_instead (r ∷ rs) x.first (front_of x first ++ back_of x end)) high) (same_Some r m is) (first_goes low high first end r rs le row t)
+      | true ↦ λ t is. subst (λ (x : Region). Row 1 low (with_instead (r ∷ rs) x.first (front_of x first
+          ++ back_of x end)) high) (same_Some r m is) (first_goes low high first end r rs le row t)
       | false ↦ λ t is.
           let above : r.first + r.pages ≤ m.first = around_above (end_of r) high first end rs m row.2 is in
           let wide : 1 ≤ r.pages = row.1 in
-          subst (λ (b : Bool). Row 1 low (cond b ((front_of m first ++ back_of m end) ++ rs) (r ∷ with_instead rs m.first (front_of m first ++ back_of m end))) high)
+          subst (λ (b : Bool). Row 1 low (cond b ((front_of m first ++ back_of m end) ++ rs) (r
+          ∷ with_instead rs m.first (front_of m first ++ back_of m end))) high)
           (sym (ne_eqb r.first m.first (λ same. omega arith)))
           (row.0, row.1, instead_row (end_of r) high first end rs m le row.2 is)
     ] refl e
   where
-    first_goes : (low high first end : ℕ) (r : Region) (rs : List Region) → first ≤ end → Row 1 low (r ∷ rs) high → (nat_le r.first first && nat_le end (end_of r)) ≡ true
+    first_goes : (low high first end : ℕ) (r : Region) (rs : List Region) → first ≤ end → Row 1 low (r ∷ rs) high
+        → (nat_le r.first first && nat_le end (end_of r)) ≡ true
         → Row 1 low (with_instead (r ∷ rs) r.first (front_of r first ++ back_of r end)) high
     first_goes low high first end r rs le row t =
         let parts = and_parts (nat_le r.first first) (nat_le end (end_of r)) t in
-        subst (λ (b : Bool). Row 1 low (cond b ((front_of r first ++ back_of r end) ++ rs) (r ∷ with_instead rs r.first (front_of r first ++ back_of r end))) high)
+        subst (λ (b : Bool). Row 1 low (cond b ((front_of r first ++ back_of r end) ++ rs) (r
+        ∷ with_instead rs r.first (front_of r first ++ back_of r end))) high)
         (sym (eq-eqb r.first r.first refl))
         (row_append 1 low (end_of r) high (front_of r first ++ back_of r end) rs
         (pieces_row r low first end row.0 le (leb-true r.first first parts.0) (leb-true end (end_of r) parts.1)) row.2)
@@ -178,7 +193,8 @@ moved_reach (file n offset) moved left many le reach = omega (arith, le, reach)
 moved_reach zeros moved left many le reach = tt
 moved_reach image moved left many le reach = tt
 
-pub pieces_are : (m : Region) (first end : ℕ) → m.first ≤ first → first ≤ end → end ≤ end_of m → IsMapping m → EachRegion IsMapping (front_of m first ++ back_of m end)
+pub pieces_are : (m : Region) (first end : ℕ) → m.first ≤ first → first ≤ end → end ≤ end_of m → IsMapping m
+    → EachRegion IsMapping (front_of m first ++ back_of m end)
 pieces_are m first end start le stop is =
     elim (nat_lt m.first first) as (λ b. EachRegion IsMapping (cond b (record m { pages = first - m.first } ∷ []) [] ++ back_of m end)) [
       | true ↦ (record { leaves = is.leaves; reach = less_reach m.source (first - m.first) m.pages (omega (arith, start, le, stop)) is.reach }, back)
@@ -186,12 +202,23 @@ pieces_are m first end start le stop is =
     ]
   where
     back : EachRegion IsMapping (back_of m end)
-    back = elim (nat_lt end (end_of m)) as (λ b. EachRegion IsMapping (cond b (record m { first = end; pages = end_of m - end; source = moved_along m.source (end - m.first) } ∷ []) [])) [
-      | true ↦ (record { leaves = is.leaves; reach = moved_reach m.source (end - m.first) (end_of m - end) m.pages (omega (arith, start, le, stop)) is.reach }, tt)
+    back = elim (nat_lt end (end_of m)) as (λ b. EachRegion IsMapping (cond b (record m {
+      first = end;
+      pages = end_of m - end;
+      source = moved_along m.source (end - m.first);
+    } ∷ []) [])) [
+      | true ↦ (
+        record {
+          leaves = is.leaves;
+          reach = moved_reach m.source (end - m.first) (end_of m - end) m.pages (omega (arith, start, le, stop)) is.reach;
+        },
+        tt,
+      )
       | false ↦ tt
     ]
 
-pub instead_each : (P : Region → Type 0) (ms : List Region) (at : ℕ) (rs : List Region) → EachRegion P ms → EachRegion P rs → EachRegion P (with_instead ms at rs)
+pub instead_each : (P : Region → Type 0) (ms : List Region) (at : ℕ) (rs : List Region) → EachRegion P ms → EachRegion P rs
+    → EachRegion P (with_instead ms at rs)
 instead_each P [] at rs all new = tt
 instead_each P (m ∷ ms) at rs all new = elim (m.first == at) as (λ b. EachRegion P (cond b (rs ++ ms) (m ∷ with_instead ms at rs))) [
   | true ↦ each_append P rs ms new all.1
@@ -202,7 +229,8 @@ pub unmapped_each : (ms : List Region) (m : Region) (first end : ℕ) → first 
     → EachRegion IsMapping (with_instead ms m.first (front_of m first ++ back_of m end))
 unmapped_each ms m first end le around all =
     let holds = around_holds first end ms m around in
-    instead_each IsMapping ms m.first (front_of m first ++ back_of m end) all (pieces_are m first end holds.0 le holds.1 (around_each IsMapping first end ms m all around))
+    instead_each IsMapping ms m.first (front_of m first
+    ++ back_of m end) all (pieces_are m first end holds.0 le holds.1 (around_each IsMapping first end ms m all around))
 
 -- a page outside the run is in a region with the rights and the kind that its region had
 
@@ -220,7 +248,8 @@ pieces_at m first end n le from to (inl before) =
     let front : Region = record m { pages = first - m.first } in
     let there : front_of m first ≡ front ∷ [] = cond-true (nat_lt m.first first) (front ∷ []) [] (lt-ltb m.first first (omega (arith, from, before))) in (
       front,
-      in_first (front_of m first) (back_of m end) n front (ap (λ rs. region_at rs n) there ∙ here front [] n (holds front n from (omega (arith, from, before)))),
+      in_first (front_of m first) (back_of m end) n front (ap (λ rs. region_at rs n) there
+          ∙ here front [] n (holds front n from (omega (arith, from, before)))),
       record { reads = refl; writes = refl; executes = refl; kind = refl },
     )
 pieces_at m first end n le from to (inr behind) =
@@ -240,7 +269,8 @@ instead_first : (low high first end n : ℕ) (r : Region) (rs : List Region) (x 
 instead_first low high first end n r rs x le row t out is =
     let left = front_of r first ++ back_of r end in
     let parts = and_parts (nat_le r.first first) (nat_le end (end_of r)) t in
-    let now : with_instead (r ∷ rs) r.first left ≡ left ++ rs = ap (λ (b : Bool). cond b (left ++ rs) (r ∷ with_instead rs r.first left)) (eq-eqb r.first r.first refl) in
+    let now : with_instead (r ∷ rs) r.first left ≡ left ++ rs =
+    ap (λ (b : Bool). cond b (left ++ rs) (r ∷ with_instead rs r.first left)) (eq-eqb r.first r.first refl) in
     elim (here_or_later r rs n x is) [
       | inl first_one ↦
           let inside = held r n first_one.0 in
@@ -257,7 +287,8 @@ instead_later : (n at : ℕ) (r : Region) (rs left : List Region) (x : Region) �
     → (region_at rs n ≡ Some x → (y : Region) × (region_at (with_instead rs at left) n ≡ Some y) × SameRights x y)
     → (y : Region) × (region_at (with_instead (r ∷ rs) at left) n ≡ Some y) × SameRights x y
 instead_later n at r rs left x other is rest =
-    let now : with_instead (r ∷ rs) at left ≡ r ∷ with_instead rs at left = ap (λ (b : Bool). cond b (left ++ rs) (r ∷ with_instead rs at left)) (ne_eqb r.first at other) in
+    let now : with_instead (r ∷ rs) at left ≡ r ∷ with_instead rs at left =
+    ap (λ (b : Bool). cond b (left ++ rs) (r ∷ with_instead rs at left)) (ne_eqb r.first at other) in
     elim (here_or_later r rs n x is) [
       | inl first_one ↦ (x, ap (λ ss. region_at ss n) now ∙ here r (with_instead rs at left) n first_one.0 ∙ ap Some first_one.1, own_rights x)
       | inr later ↦
@@ -270,7 +301,8 @@ pub instead_at : (low high first end n : ℕ) (ms : List Region) (m x : Region) 
     → (y : Region) × (region_at (with_instead ms m.first (front_of m first ++ back_of m end)) n ≡ Some y) × SameRights x y
 instead_at low high first end n [] m x le row e out is = absurd (cc)
 instead_at low high first end n (r ∷ rs) m x le row e out is =
-    elim (nat_le r.first first && nat_le end (end_of r)) as (λ b. (nat_le r.first first && nat_le end (end_of r)) ≡ b → cond b (Some r) (mapping_around rs first end) ≡ Some m
+    elim (nat_le r.first first && nat_le end (end_of r)) as (λ b. (nat_le r.first first && nat_le end (end_of r)) ≡ b
+    → cond b (Some r) (mapping_around rs first end) ≡ Some m
     → (y : Region) × (region_at (with_instead (r ∷ rs) m.first (front_of m first ++ back_of m end)) n ≡ Some y) × SameRights x y) [
       | true ↦ λ t around.
           subst (λ (z : Region). (y : Region) × (region_at (with_instead (r ∷ rs) z.first (front_of z first ++ back_of z end)) n ≡ Some y) × SameRights x y)

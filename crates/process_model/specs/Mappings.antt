@@ -1,7 +1,9 @@
 -- mmap (`mapped`) and munmap (`unmapped`) of files (the mmap lab of MIT 6.1810): where a mapping goes, what it grants, and
 -- when a call is refused. Write-back: which pages of a mapping are written to its file, by munmap, or of all mappings, at
 -- exec or the end.
-use Rattle.std.specs.Prelude.{ℕ, Bool, true, false, not, ◌+◌, ◌-◌, ◌*◌, ◌/◌, ◌%◌, ◌^◌, max, nat_le, nat_lt, ◌==◌, ◌&&◌, ◌||◌, Option, None, Some, is_none, unwrap_or, Result, Ok, Err, slice_get, List, [], ◌∷◌, ◌++◌, length, filter, map, fold, if◌then◌else◌}
+use Rattle.std.specs.Prelude.{ℕ, Bool, true, false, not, ◌+◌, ◌-◌, ◌*◌, ◌/◌, ◌%◌, ◌^◌, max, nat_le, nat_lt, ◌==◌, ◌&&◌, ◌||◌, Option, None}
+use Rattle.std.specs.Prelude.{Some, is_none, unwrap_or, Result, Ok, Err, slice_get, List, [], ◌∷◌, ◌++◌, length, filter, map, fold}
+use Rattle.std.specs.Prelude.{if◌then◌else◌}
 use Rattle.std.specs.List.{list_all}
 use Rattle.process_model.specs.Bytes.{pages_for, first_true}
 use Rattle.process_model.specs.Files.{File, is_writable, with_page_written}

@@ -21,7 +21,8 @@ use Rattle.sv39_entry.specs.Schemes.{trapframe_page}
 -- the order does not depend on settled pages, tabled pages or the pending access
 pub same_order : (least : ℕ) (p : Process) (settled : PageMap Page) (tabled : NumberSet) (pending : Option Pending) → HasOrder least p
     → HasOrder least (record p { settled = settled; tabled = tabled; pending = pending })
-same_order least p settled tabled pending order = record { parts = order.parts; room = order.room; above = order.above; leaves = order.leaves; sources = order.sources; mapped = order.mapped }
+same_order least p settled tabled pending order =
+    record { parts = order.parts; room = order.room; above = order.above; leaves = order.leaves; sources = order.sources; mapped = order.mapped }
 
 -- all regions are in ascending order below the trapframe
 pub regions_row : (least : ℕ) (p : Process) → HasOrder least p → Row 0 0 (regions p) (trapframe_page p.scheme)
@@ -35,7 +36,8 @@ regions_row least p order =
 -- each region can have leaves
 pub leafy_at : (p : Process) → HasOrder 0 p → (n : ℕ) (r : Region) → region_at (regions p) n ≡ Some r → makes_leaf r ≡ true
 leafy_at p order n r at =
-    each_at HasLeaves (regions p) n r (each_append HasLeaves p.parts (heap_of p ∷ p.mappings) order.leaves (refl, each_as IsMapping HasLeaves (λ m is. is.leaves) p.mappings order.mapped)) at
+    each_at HasLeaves (regions p) n r (each_append HasLeaves p.parts (heap_of p
+    ∷ p.mappings) order.leaves (refl, each_as IsMapping HasLeaves (λ m is. is.leaves) p.mappings order.mapped)) at
 
 -- ---- sbrk
 
@@ -61,7 +63,8 @@ resized_order least p wanted none order =
 pub with_mapping_order : (least : ℕ) (p : Process) (r : Region) → fits_at p r.pages r.first ≡ true → 1 ≤ r.pages → IsMapping r → HasOrder least p
     → HasOrder least (record p { mappings = with_mapping r p.mappings })
 with_mapping_order least p r fits some is order =
-    let outer = and_parts (nat_le (pages_for p.size) r.first && nat_le (r.first + r.pages) (trapframe_page p.scheme)) (list_all (is_apart r.first r.pages) p.mappings) fits in
+    let outer = and_parts (nat_le (pages_for p.size) r.first
+    && nat_le (r.first + r.pages) (trapframe_page p.scheme)) (list_all (is_apart r.first r.pages) p.mappings) fits in
     let inner = and_parts (nat_le (pages_for p.size) r.first) (nat_le (r.first + r.pages) (trapframe_page p.scheme)) outer.0 in
     record {
       parts = order.parts;
@@ -78,7 +81,8 @@ pub mapped_order : (least : ℕ) (p : Process) (files : List File) (len protecti
     → HasOrder least (record p { mappings = with_mapping (mapping_of first (pages_for len) protection flags n) p.mappings })
 mapped_order least p files len protection flags n first good fits order =
     let some : len ≢ 0 = (good_mapping files len protection flags n good).some in
-    with_mapping_order least p (mapping_of first (pages_for len) protection flags n) fits (omega (arith, some)) (new_mapping files len protection flags n first good) order
+    with_mapping_order least p (mapping_of first (pages_for len) protection flags n) fits (omega (arith, some))
+    (new_mapping files len protection flags n first good) order
 
 -- ---- munmap
 

@@ -58,7 +58,8 @@ module _ (m : Region) (first end : ℕ) where
   one_move : (files : List File) (e : ℕ × Page) → files_after files (moves_of m first end e) ≡ with_written m first end files e
   one_move files e = go (nat_le first e.0 && nat_lt e.0 end && is_written_back m e.1)
     where
-      go : (b : Bool) → files_after files (if b then moves_to m.source (4096 * (e.0 - m.first)) (e.1).bytes else []) ≡ (if b then page_written m.source files (4096 * (e.0 - m.first)) (e.1).bytes else files)
+      go : (b : Bool) → files_after files (if b then moves_to m.source (4096 * (e.0 - m.first)) (e.1).bytes else []) ≡ (if b
+          then page_written m.source files (4096 * (e.0 - m.first)) (e.1).bytes else files)
       go true = moves_to_source m.source files (4096 * (e.0 - m.first)) (e.1).bytes
       go false = refl
 
@@ -69,7 +70,8 @@ module _ (m : Region) (first end : ℕ) where
       ∙ ap (λ fs. files_after fs (flat_map (moves_of m first end) es)) (one_move files e)
       ∙ each_move (with_written m first end files e) es
 
-pub run_is_written : (files : List File) (p : Process) (m : Region) (first end : ℕ) → files_after files (run_moves p m first end) ≡ written_back files p m first end
+pub run_is_written : (files : List File) (p : Process) (m : Region) (first end : ℕ)
+    → files_after files (run_moves p m first end) ≡ written_back files p m first end
 run_is_written files p m first end = each_move m first end files p.settled.entries
 
 module _ (p : Process) where

@@ -11,7 +11,8 @@ use Rattle.process_model.specs.MappingRows.{above_limit, around_at, instead_at, 
 use Rattle.process_model.specs.Mappings.{back_of, fits_at, front_of, is_apart, mapping_around, with_instead, with_mapping}
 use Rattle.process_model.specs.Order.{HasOrder}
 use Rattle.process_model.specs.Process.{Process, heap_of, regions}
-use Rattle.process_model.specs.RegionRows.{first_or_second, held, here, here_or_later, holds, in_first, none_in_first, not_held, own_rights, passed, row_outside, row_within, SameRights}
+use Rattle.process_model.specs.RegionRows.{first_or_second, held, here, here_or_later, holds, in_first, none_in_first, not_held, own_rights}
+use Rattle.process_model.specs.RegionRows.{passed, row_outside, row_within, SameRights}
 use Rattle.process_model.specs.Regions.{Region, holds_page, region_at}
 use Rattle.sv39_entry.specs.Address.{page_of}
 use Rattle.sv39_entry.specs.Schemes.{trapframe_page}
@@ -26,7 +27,8 @@ behind_heap least p n order above =
     ∙ passed (heap_of p) p.mappings n (not_held (heap_of p) n (inr (omega (arith, room, above))))
 
 -- the region that holds a page of a run inside a mapping is that mapping
-pub mapping_at : (least : ℕ) (p : Process) (first end n : ℕ) (m : Region) → HasOrder least p → mapping_around p.mappings first end ≡ Some m → first ≤ n → n < end
+pub mapping_at : (least : ℕ) (p : Process) (first end n : ℕ) (m : Region) → HasOrder least p → mapping_around p.mappings first end ≡ Some m
+    → first ≤ n → n < end
     → region_at (regions p) n ≡ Some m
 mapping_at least p first end n m order around from to =
     let there = around_at (pages_for p.size) (trapframe_page p.scheme) first end n p.mappings m order.above around from to in
@@ -56,16 +58,21 @@ mapping_or_same p ms n x is = elim (first_or_second p.parts (heap_of p ∷ p.map
 pub region_with_mapping : (p : Process) (r : Region) (n : ℕ) (x : Region) → fits_at p r.pages r.first ≡ true → region_at (regions p) n ≡ Some x
     → region_at (regions (record p { mappings = with_mapping r p.mappings })) n ≡ Some x
 region_with_mapping p r n x fits is =
-    let apart = (and_parts (nat_le (pages_for p.size) r.first && nat_le (r.first + r.pages) (trapframe_page p.scheme)) (list_all (is_apart r.first r.pages) p.mappings) fits).1 in
+    let apart = (and_parts (nat_le (pages_for p.size) r.first
+    && nat_le (r.first + r.pages) (trapframe_page p.scheme)) (list_all (is_apart r.first r.pages) p.mappings) fits).1 in
     elim (mapping_or_same p (with_mapping r p.mappings) n x is) [
       | inl same ↦ same
       | inr mapping ↦ mapping.1 ∙ with_mapping_at r p.mappings n x apart mapping.0
     ]
 
 -- munmap: each page outside the run that had a region is in one with the same rights and kind
-pub region_left : (least : ℕ) (p : Process) (m : Region) (first end n : ℕ) (x : Region) → HasOrder least p → mapping_around p.mappings first end ≡ Some m → first ≤ end
+pub region_left : (least : ℕ) (p : Process) (m : Region) (first end n : ℕ) (x : Region) → HasOrder least p
+    → mapping_around p.mappings first end ≡ Some m → first ≤ end
     → (n < first) ⊎ (end ≤ n) → region_at (regions p) n ≡ Some x
-    → (y : Region) × (region_at (regions (record p { mappings = with_instead p.mappings m.first (front_of m first ++ back_of m end) })) n ≡ Some y) × SameRights x y
+    → (y : Region) × (region_at (regions (record p {
+      mappings = with_instead p.mappings m.first (front_of m first
+          ++ back_of m end);
+    })) n ≡ Some y) × SameRights x y
 region_left least p m first end n x order around le out is =
     elim (mapping_or_same p (with_instead p.mappings m.first (front_of m first ++ back_of m end)) n x is) [
       | inl same ↦ (x, same, own_rights x)

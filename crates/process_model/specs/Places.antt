@@ -1,6 +1,7 @@
 -- Laws of `mapping_place` (where mmap puts a mapping): a page is the place if and only if the mapping fits there (`Fits`)
 -- and at no greater page; there is no place if and only if it fits nowhere.
-use Rattle.std.proofs.Common.{◌≡◌, ℕ, zero, suc, Bool, true, false, cond, ◌&&◌, ◌||◌, ◌+◌, ◌-◌, ◌≤◌, ◌⊎◌, inl, inr, max, min, refl, sym, ap, ◌∙◌, arith, List, [], ◌∷◌, Option, None, Some, map}
+use Rattle.std.proofs.Common.{◌≡◌, ℕ, zero, suc, Bool, true, false, cond, ◌&&◌, ◌||◌, ◌+◌, ◌-◌, ◌≤◌, ◌⊎◌, inl, inr, max, min, refl, sym, ap}
+use Rattle.std.proofs.Common.{◌∙◌, arith, List, [], ◌∷◌, Option, None, Some, map}
 use Rattle.std.specs.Prelude.{nat_le, filter, fold, slice_get, if◌then◌else◌}
 use Rattle.std.specs.List.{list_all}
 use Rattle.std.proofs.lemmas.Bool.{and_parts}
@@ -62,7 +63,8 @@ none_is_greatest x (n ∷ ns) e i = cc
 member_filter : (f : ℕ → Bool) (x : ℕ) (xs : List ℕ) → Member x xs → f x ≡ true → Member x (filter f xs)
 member_filter f x [] i e = absurd i
 member_filter f x (y ∷ ys) (inl same) e = let passes : f y ≡ true = ap f (sym same) ∙ e in rw passes (inl same)
-member_filter f x (y ∷ ys) (inr i) e = elim (f y) as (λ b. Member x (cond b (y ∷ filter f ys) (filter f ys))) [ true ↦ inr (member_filter f x ys i e) | false ↦ member_filter f x ys i e ]
+member_filter f x (y ∷ ys) (inr i) e =
+    elim (f y) as (λ b. Member x (cond b (y ∷ filter f ys) (filter f ys))) [ true ↦ inr (member_filter f x ys i e) | false ↦ member_filter f x ys i e ]
 
 member_map : (f : ℕ → ℕ) (x : ℕ) (xs : List ℕ) → Member x xs → Member (f x) (map f xs)
 member_map f x [] i = absurd i
@@ -75,23 +77,32 @@ apart_to : (first pages : ℕ) (m : Region) → (first + pages ≤ m.first) ⊎ 
 apart_to first pages m (inl l) = left _ _ (le_to (first + pages) m.first l)
 apart_to first pages m (inr l) = right _ _ (le_to (end_of m) first l)
 
-all_apart_of : (first pages i : ℕ) (m : Region) (ms : List Region) → list_all (is_apart first pages) ms ≡ true → slice_get ms i ≡ Some m → (first + pages ≤ m.first) ⊎ (end_of m ≤ first)
+all_apart_of : (first pages i : ℕ) (m : Region) (ms : List Region) → list_all (is_apart first pages) ms ≡ true → slice_get ms i ≡ Some m
+    → (first + pages ≤ m.first) ⊎ (end_of m ≤ first)
 all_apart_of first pages i m [] all e = absurd (cc)
-all_apart_of first pages zero m (n ∷ ms) all e = apart_sides first pages m (ap (is_apart first pages) (sym (same_Some n m e)) ∙ (and_parts (is_apart first pages n) (list_all (is_apart first pages) ms) all).0)
-all_apart_of first pages (suc i) m (n ∷ ms) all e = all_apart_of first pages i m ms (and_parts (is_apart first pages n) (list_all (is_apart first pages) ms) all).1 e
+all_apart_of first pages zero m (n ∷ ms) all e =
+    apart_sides first pages m (ap (is_apart first pages) (sym (same_Some n m e))
+    ∙ (and_parts (is_apart first pages n) (list_all (is_apart first pages) ms) all).0)
+all_apart_of first pages (suc i) m (n ∷ ms) all e =
+    all_apart_of first pages i m ms (and_parts (is_apart first pages n) (list_all (is_apart first pages) ms) all).1 e
 
-all_apart_to : (first pages : ℕ) (ms : List Region) → ((i : ℕ) (m : Region) → slice_get ms i ≡ Some m → (first + pages ≤ m.first) ⊎ (end_of m ≤ first)) → list_all (is_apart first pages) ms ≡ true
+all_apart_to : (first pages : ℕ) (ms : List Region)
+    → ((i : ℕ) (m : Region) → slice_get ms i ≡ Some m → (first + pages ≤ m.first) ⊎ (end_of m ≤ first)) → list_all (is_apart first pages) ms ≡ true
 all_apart_to first pages [] f = refl
-all_apart_to first pages (m ∷ ms) f = both (is_apart first pages m) _ (apart_to first pages m (f 0 m refl)) (all_apart_to first pages ms (λ i n e. f (suc i) n e))
+all_apart_to first pages (m ∷ ms) f =
+    both (is_apart first pages m) _ (apart_to first pages m (f 0 m refl)) (all_apart_to first pages ms (λ i n e. f (suc i) n e))
 
 fits_of : (p : Process) (pages first : ℕ) → fits_at p pages first ≡ true → Fits p pages first
 fits_of p pages first fits =
-    let outer = and_parts (nat_le (pages_for p.size) first && nat_le (first + pages) (trapframe_page p.scheme)) (list_all (is_apart first pages) p.mappings) fits in
+    let outer = and_parts (nat_le (pages_for p.size) first
+    && nat_le (first + pages) (trapframe_page p.scheme)) (list_all (is_apart first pages) p.mappings) fits in
     let inner = and_parts (nat_le (pages_for p.size) first) (nat_le (first + pages) (trapframe_page p.scheme)) outer.0 in
     record { above = le_of _ _ inner.0; below = le_of _ _ inner.1; apart = λ i m e. all_apart_of first pages i m p.mappings outer.1 e }
 
 fits_to : (p : Process) (pages first : ℕ) → Fits p pages first → fits_at p pages first ≡ true
-fits_to p pages first f = both _ _ (both _ _ (le_to (pages_for p.size) first f.above) (le_to (first + pages) (trapframe_page p.scheme) f.below)) (all_apart_to first pages p.mappings f.apart)
+fits_to p pages first f =
+    both _ _ (both _ _ (le_to (pages_for p.size) first f.above) (le_to (first + pages) (trapframe_page p.scheme) f.below))
+    (all_apart_to first pages p.mappings f.apart)
 
 -- the least of `e` and those first pages of mappings that are `low` or above
 abbrev nearer : ℕ → ℕ → ℕ → ℕ
@@ -105,7 +116,8 @@ min_is : (a b : ℕ) → (min a b ≡ a) ⊎ (min a b ≡ b)
 min_is a b = elim (nat_le a b) as (λ t. nat_le a b ≡ t → (min a b ≡ a) ⊎ (min a b ≡ b)) [ true ↦ λ h. inl (grind arith) | false ↦ λ h. inr (grind arith) ] refl
 
 nearer_is : (low e first : ℕ) → (nearer low e first ≡ e) ⊎ (nearer low e first ≡ first)
-nearer_is low e first = elim (nat_le low first) as (λ b. (cond b (min e first) e ≡ e) ⊎ (cond b (min e first) e ≡ first)) [ true ↦ min_is e first | false ↦ inl refl ]
+nearer_is low e first = elim (nat_le low first) as (λ b. (cond b (min e first) e ≡ e)
+    ⊎ (cond b (min e first) e ≡ first)) [ true ↦ min_is e first | false ↦ inl refl ]
 
 nearer_below : (low e first : ℕ) → nearer low e first ≤ e
 nearer_below low e first = elim (nat_le low first) as (λ b. cond b (min e first) e ≤ e) [ true ↦ omega arith | false ↦ omega arith ]
@@ -114,7 +126,9 @@ nearer_first : (low e first : ℕ) → low ≤ first → nearer low e first ≤ 
 nearer_first low e first h = rw (le_to low first h) (omega arith)
 
 nearer_low : (low e first : ℕ) → low ≤ e → low ≤ nearer low e first
-nearer_low low e first h = elim (nat_le low first) as (λ b. nat_le low first ≡ b → low ≤ cond b (min e first) e) [ true ↦ λ t. let l : low ≤ first = le_of low first t in omega arith | false ↦ λ t. h ] refl
+nearer_low low e first h =
+    elim (nat_le low first) as (λ b. nat_le low first ≡ b
+    → low ≤ cond b (min e first) e) [ true ↦ λ t. let l : low ≤ first = le_of low first t in omega arith | false ↦ λ t. h ] refl
 
 nearest_below : (low e : ℕ) (ms : List Region) → nearest low e ms ≤ e
 nearest_below low e [] = omega arith
@@ -161,7 +175,8 @@ moved_up p pages first r is f =
       above = omega (is, low, above, arith);
       below = omega (is, low, top, arith);
       apart = λ i m e. elim (f.apart i m e) [
-        | inl l ↦ let near : end_above p pages first ≤ m.first = nearest_first (first + pages) (trapframe_page p.scheme) i m p.mappings e l in inl (omega (is, low, near, arith))
+        | inl l ↦ let near : end_above p pages first ≤ m.first =
+            nearest_first (first + pages) (trapframe_page p.scheme) i m p.mappings e l in inl (omega (is, low, near, arith))
         | inr l ↦ inr (omega (is, low, l, arith))
       ];
     }
@@ -169,7 +184,8 @@ moved_up p pages first r is f =
 -- if a run fits, one at or above it is among those that are tried and fit
 tried : (p : Process) (pages first : ℕ) → Fits p pages first → Member (end_above p pages first - pages) (filter (fits_at p pages) (places p pages))
 tried p pages first f = member_filter (fits_at p pages) _ (places p pages)
-    (member_map (λ end. end - pages) _ (trapframe_page p.scheme ∷ map (λ m. m.first) p.mappings) (nearest_member (first + pages) (trapframe_page p.scheme) p.mappings))
+    (member_map (λ end. end - pages) _ (trapframe_page p.scheme
+    ∷ map (λ m. m.first) p.mappings) (nearest_member (first + pages) (trapframe_page p.scheme) p.mappings))
     (fits_to p pages _ (moved_up p pages first (end_above p pages first) refl f))
 
 -- a mapping fits at its place
@@ -180,7 +196,8 @@ place_fits p pages first is = fits_of p pages first (place_passes p pages first 
 pub none_above : (p : Process) (pages first other : ℕ) → mapping_place p pages ≡ Some first → Fits p pages other → other ≤ first
 none_above p pages first other is f =
     let low : other + pages ≤ end_above p pages other = end_low p pages other f in
-    let found : end_above p pages other - pages ≤ first = greatest_above (end_above p pages other - pages) first (filter (fits_at p pages) (places p pages)) (tried p pages other f) is in
+    let found : end_above p pages other - pages ≤ first =
+    greatest_above (end_above p pages other - pages) first (filter (fits_at p pages) (places p pages)) (tried p pages other f) is in
     omega (low, found, arith)
 
 -- if there is no place, it fits at no page

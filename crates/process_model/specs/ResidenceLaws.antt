@@ -12,7 +12,8 @@ use Rattle.process_model.specs.Insertion.{inserted_here, inserted_other}
 use Rattle.process_model.specs.PageMap.{get}
 use Rattle.process_model.specs.Process.{Page, Process, heap_of, regions}
 use Rattle.process_model.specs.Regions.{Region, copy_rule, first_rule, keeps_stores}
-use Rattle.process_model.specs.Residence.{can_complete, is_resident, is_resident_page, leaves_mark, made_resident, made_resident_from, initial_page, region_on, settled_anew, taken_over, taken_over_unless, with_page}
+use Rattle.process_model.specs.Residence.{can_complete, is_resident, is_resident_page, leaves_mark, made_resident, made_resident_from}
+use Rattle.process_model.specs.Residence.{initial_page, region_on, settled_anew, taken_over, taken_over_unless, with_page}
 use Rattle.sv39_entry.specs.Address.{page_of}
 use Rattle.sv39_entry.specs.Schemes.{maxva, of_scheme}
 use Rattle.sv39_entry.specs.declared.access.Access.{Access}
@@ -61,7 +62,8 @@ taken_goes Store r fresh shared s = either s.dirty (keeps_stores r)
     either false false = refl
 
 -- a page is inserted at which the access can complete
-put_settles : (access : Access) (page : ℕ) (p : Process) (s : Page) → can_complete access (region_on p page) s ≡ true → SettlesPage access page p (with_page p page s)
+put_settles : (access : Access) (page : ℕ) (p : Process) (s : Page) → can_complete access (region_on p page) s ≡ true
+    → SettlesPage access page p (with_page p page s)
 put_settles access page p s goes = record {
   scheme = refl;
   parts = refl;
@@ -96,7 +98,8 @@ anew_settles files fresh access page p =
     }
 
 -- the page is resident already
-there_settles : (access : Access) (page : ℕ) (p : Process) (s : Page) → get p.settled page ≡ Some s → can_complete access (region_on p page) s ≡ true → SettlesPage access page p p
+there_settles : (access : Access) (page : ℕ) (p : Process) (s : Page) → get p.settled page ≡ Some s
+    → can_complete access (region_on p page) s ≡ true → SettlesPage access page p p
 there_settles access page p s there goes = record {
   scheme = refl;
   parts = refl;
@@ -115,7 +118,8 @@ module _ (files : List File) (fresh : ℕ) (shared : Bool) (access : Access) (pa
   taken_settles : (s : Page) (b : Bool) → get p.settled page ≡ Some s → can_complete access (region_on p page) s ≡ b
       → SettlesPage access page p (taken_over_unless fresh shared p page s b)
   taken_settles s true there goes = there_settles access page p s there goes
-  taken_settles s false there goes = put_settles access page p (taken_over fresh shared (region_on p page) s) (taken_goes access (region_on p page) fresh shared s)
+  taken_settles s false there goes =
+      put_settles access page p (taken_over fresh shared (region_on p page) s) (taken_goes access (region_on p page) fresh shared s)
 
   from_settles : (o : Option Page) → get p.settled page ≡ o → SettlesPage access page p (made_resident_from files fresh shared p access page o)
   from_settles None there = anew_settles files fresh access page p
@@ -127,7 +131,8 @@ module _ (files : List File) (fresh : ℕ) (shared : Bool) (access : Access) (pa
 -- ---- pages made resident in the middle of a call
 
 -- making a resident page resident changes nothing
-pub resident_again : (a : Environment) (access : Access) (page : ℕ) (g : Progress) → is_resident g.process access page ≡ true → resident_at a access page g ≡ Ok g
+pub resident_again : (a : Environment) (access : Access) (page : ℕ) (g : Progress) → is_resident g.process access page ≡ true
+    → resident_at a access page g ≡ Ok g
 unfolding resident_at
 resident_again a access page g resident = ap (unless_resident a access page g) resident
 
@@ -145,7 +150,8 @@ module _ (a : Environment) (access : Access) (page : ℕ) (g h : Progress) where
   serves change = record { change = change; again = resident_again a access page h change.resident }
 
   -- a resident page is settled
-  found : (o : Option Page) → get g.process.settled page ≡ o → is_resident_page access (region_on g.process page) o ≡ true → SettlesPage access page g.process g.process
+  found : (o : Option Page) → get g.process.settled page ≡ o → is_resident_page access (region_on g.process page) o ≡ true
+      → SettlesPage access page g.process g.process
   found None there resident = absurd (cc)
   found (Some s) there resident = there_settles access page g.process s there resident
 
@@ -156,7 +162,8 @@ module _ (a : Environment) (access : Access) (page : ℕ) (g h : Progress) where
       subst (λ (k : Progress). SettlesPage access page g.process k.process) (same_progress _ h is) made
 
   after_test : (b : Bool) → is_resident g.process access page ≡ b → unless_resident a access page g b ≡ Ok h → SettlesPage access page g.process h.process
-  after_test true resident is = subst (λ (k : Progress). SettlesPage access page g.process k.process) (same_progress g h is) (found (get g.process.settled page) refl resident)
+  after_test true resident is =
+      subst (λ (k : Progress). SettlesPage access page g.process k.process) (same_progress g h is) (found (get g.process.settled page) refl resident)
   after_test false resident is = let need = need_at a access page g.process in after_dry need (a.is_dry page (g.taken + need)) is
 
   -- h after a page of g was made resident: the page is resident, and nothing else changed (`ServesPage`)
@@ -172,10 +179,12 @@ same_goes Load r s bs = refl
 same_goes Store r s bs = refl
 
 module _ (access : Access) (page : ℕ) (s : Page) (bs : List ℕ) where
-  pub stays_resident : (p : Process) → get p.settled page ≡ Some s → is_resident p access page ≡ true → is_resident (with_page p page (record s { bytes = bs })) access page ≡ true
+  pub stays_resident : (p : Process) → get p.settled page ≡ Some s → is_resident p access page ≡ true
+      → is_resident (with_page p page (record s { bytes = bs })) access page ≡ true
   stays_resident p there resident =
       let through = is_resident_page access (region_on p page) in
-      ap through (inserted_here page (record s { bytes = bs }) p.settled page refl) ∙ same_goes access (region_on p page) s bs ∙ sym (ap through there) ∙ resident
+      ap through (inserted_here page (record s { bytes = bs }) p.settled page refl) ∙ same_goes access (region_on p page) s bs
+      ∙ sym (ap through there) ∙ resident
 
   pub stays : (a : Environment) (g : Progress) → get g.process.settled page ≡ Some s → is_resident g.process access page ≡ true
       → let g' = record g { process = with_page g.process page (record s { bytes = bs }) } in resident_at a access page g' ≡ Ok g'
@@ -204,10 +213,12 @@ no_alignment s rs access address =
 
 module _ (a : Environment) (access : Access) (g : Progress) where
   -- if an address is reached, no rule denies it, and its page is made resident
-  pub reached_parts : (h : Progress) (x : ℕ) → reached_in a access g x ≡ Ok h → (copy_rule g.process.scheme (regions g.process) access x ≡ None) × (resident_at a access (page_of x) g ≡ Ok h)
+  pub reached_parts : (h : Progress) (x : ℕ) → reached_in a access g x ≡ Ok h
+      → (copy_rule g.process.scheme (regions g.process) access x ≡ None) × (resident_at a access (page_of x) g ≡ Ok h)
   reached_parts h x is = go (copy_rule g.process.scheme (regions g.process) access x) refl is
     where
-      go : (o : Option Rule) → copy_rule g.process.scheme (regions g.process) access x ≡ o → resident_at_address a access x g o ≡ Ok h → (o ≡ None) × (resident_at a access (page_of x) g ≡ Ok h)
+      go : (o : Option Rule) → copy_rule g.process.scheme (regions g.process) access x ≡ o → resident_at_address a access x g o ≡ Ok h
+          → (o ≡ None) × (resident_at a access (page_of x) g ≡ Ok h)
       go None rule at = (refl, at)
       go (Some r) rule at = absurd (cc)
 
@@ -216,7 +227,8 @@ module _ (a : Environment) (access : Access) (g : Progress) where
   reached_serves h x is = made_serves a access (page_of x) g h (reached_parts h x is).1
 
   -- an address that no rule denies, on a resident page, is reached without a change
-  pub reached_at_once : (x : ℕ) → copy_rule g.process.scheme (regions g.process) access x ≡ None → resident_at a access (page_of x) g ≡ Ok g → reached_in a access g x ≡ Ok g
+  pub reached_at_once : (x : ℕ) → copy_rule g.process.scheme (regions g.process) access x ≡ None → resident_at a access (page_of x) g ≡ Ok g
+      → reached_in a access g x ≡ Ok g
   reached_at_once x rule is = ap (resident_at_address a access x g) rule ∙ is
 
 -- after an address x was reached, every address y of its page is granted and reached without a change

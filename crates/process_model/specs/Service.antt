@@ -76,7 +76,12 @@ access_outcome w h hart s x = access_outcome_if w h hart s x (is_fault x.reply)
 abbrev pub access_step : World → ℕ → Access → ℕ → ℕ → ℕ → Option ℕ → Outcome
 access_step w h access address width value via =
     on_hart w h (is_width width) (λ hart. is_user hart.phase) (λ hart. entry_serves w.policy hart address via)
-    (λ hart. with_its_process w hart (λ s p. access_outcome w h hart s (user_access p (record { access = access; address = address; width = width; value = value }))))
+    (λ hart. with_its_process w hart (λ s p. access_outcome w h hart s (user_access p (record {
+      access = access;
+      address = address;
+      width = width;
+      value = value;
+    }))))
 
 -- making pages of a process resident, in the service of a fault and in a kernel copy
 
@@ -98,7 +103,8 @@ with_progress w s g = record (with_process w s g.process) { counter = g.fresh }
 
 -- the process ends: its mappings are written back, its slot is empty and its hart idle
 abbrev pub ended : World → ℕ → Hart → ℕ → Process → Reply → Outcome
-ended w h hart s p reply = answers (with_hart (record (without_process w s) { files = all_written_back w.files p }) h (record hart { phase = Idle; slot = None })) reply
+ended w h hart s p reply =
+    answers (with_hart (record (without_process w s) { files = all_written_back w.files p }) h (record hart { phase = Idle; slot = None })) reply
 
 abbrev pub with_served : Progress → Pending → Progress
 with_served g a = record g { process = record g.process { pending = Some (record a { served = true }) } }
@@ -111,4 +117,6 @@ served_or_ended w h hart s p a (Ok g) = answers (with_progress w s (with_served 
 -- the process ends with NoFrame. Impossible if no access is pending
 abbrev pub served : World → ℕ → Hart → ℕ → Process → Option Pending → Outcome
 served w h hart s p None = refuses w (Impossible hart.phase)
-served w h hart s p (Some a) = served_or_ended w h hart s p a (resident_at_address (environment_of w s) a.access a.address (initial_progress w p) (first_rule p.scheme (regions p) a.access a.address a.width))
+served w h hart s p (Some a) =
+    served_or_ended w h hart s p a
+    (resident_at_address (environment_of w s) a.access a.address (initial_progress w p) (first_rule p.scheme (regions p) a.access a.address a.width))

@@ -10,7 +10,8 @@ use Rattle.process_model.specs.Calls.{started, replaced, forked, resized_to, map
 use Rattle.process_model.specs.Service.{access_step, environment_of, initial_progress, served, ended}
 use Rattle.process_model.specs.Stale.{with_stale_slots}
 use Rattle.process_model.specs.Harts.{Hart, next_phase, is_user, may_switch, in_trampoline, phase_for, present_asid, with_key, entry_serves, fenced}
-use Rattle.process_model.specs.World.{World, Outcome, answers, with_process, with_hart, free_slot, can_run, can_go_on, can_serve, always, on_hart, with_its_process, kernel_call}
+use Rattle.process_model.specs.World.{World, Outcome, answers, with_process, with_hart, free_slot, can_run, can_go_on, can_serve, always}
+use Rattle.process_model.specs.World.{on_hart, with_its_process, kernel_call}
 use Rattle.sv39_entry.specs.Address.{page_of}
 use Rattle.sv39_entry.specs.Schemes.{trampoline_page}
 use Rattle.sv39_entry.specs.declared.access.Access.TheVariants as access
@@ -18,7 +19,8 @@ use Rattle.process_model.specs.declared.phase.Phase.TheVariants.{Enter0}
 use Rattle.process_model.specs.declared.step.Reply.{Reply}
 use Rattle.process_model.specs.declared.step.Reply.TheVariants.{Done, Filled, InFrame, Exited, Refused}
 use Rattle.process_model.specs.declared.step.Step.{Step}
-use Rattle.process_model.specs.declared.step.Step.TheVariants.{Start, Switch, Trap, Next, Fill, Evict, Fetch, Load, Store, TrampolineFetch, Serve, Fork, Exec, Sbrk, Mmap, Munmap, CopyIn, CopyOut, Exit}
+use Rattle.process_model.specs.declared.step.Step.TheVariants.{Start, Switch, Trap, Next, Fill, Evict, Fetch, Load, Store, TrampolineFetch}
+use Rattle.process_model.specs.declared.step.Step.TheVariants.{Serve, Fork, Exec, Sbrk, Mmap, Munmap, CopyIn, CopyOut, Exit}
 
 -- steps of a hart and its buffer
 
@@ -37,7 +39,8 @@ advanced w h hart = answers (with_hart w h (record (fenced w.policy hart) { phas
 abbrev pub plain_step : World → Step → Outcome
 plain_step w (Start image) = started w (image_loads w.scheme image) (free_slot w)
 plain_step w (Switch h slot) =
-    on_hart w h true (λ hart. may_switch hart.phase && can_run w slot) always (λ hart. answers (with_hart w h (record hart { phase = phase_for slot; slot = slot })) Done)
+    on_hart w h true (λ hart. may_switch hart.phase
+    && can_run w slot) always (λ hart. answers (with_hart w h (record hart { phase = phase_for slot; slot = slot })) Done)
 plain_step w (Trap h) =
     on_hart w h true (λ hart. is_user hart.phase) always
     (λ hart. with_its_process w hart (λ s p. answers (with_hart (with_process w s (without_pending p)) h (record hart { phase = Enter0 })) Done))
@@ -48,7 +51,8 @@ plain_step w (Fetch h address via) = access_step w h access.Fetch address 4 0 vi
 plain_step w (Load h address width via) = access_step w h access.Load address width 0 via
 plain_step w (Store h address width value via) = access_step w h access.Store address width value via
 plain_step w (TrampolineFetch h offset via) =
-    on_hart w h (offset % 4 == 0 && nat_lt offset 4096) (λ hart. in_trampoline hart.phase) (λ hart. entry_serves w.policy hart (4096 * trampoline_page w.scheme + offset) via)
+    on_hart w h (offset % 4 == 0
+    && nat_lt offset 4096) (λ hart. in_trampoline hart.phase) (λ hart. entry_serves w.policy hart (4096 * trampoline_page w.scheme + offset) via)
     (λ hart. answers w (InFrame 0))
 plain_step w (Serve h) = on_hart w h true (can_serve w) always (λ hart. with_its_process w hart (λ s p. served w h hart s p p.pending))
 plain_step w (Fork h) = kernel_call w h true (λ hart s p. forked w s p (free_slot w))
@@ -56,9 +60,12 @@ plain_step w (Exec h image) = kernel_call w h true (λ hart s p. replaced w s p 
 plain_step w (Sbrk h delta) = kernel_call w h true (λ hart s p. resized_to w s p (sbrk_result p delta))
 plain_step w (Mmap h len protection flags n) = kernel_call w h true (λ hart s p. mapped_to w s (mapped w.files p len protection flags n))
 plain_step w (Munmap h address len) = kernel_call w h true (λ hart s p. unmapped_to w s (unmapped w.files p address len))
-plain_step w (CopyIn h address n) = kernel_call w h (nat_le n longest_copy) (λ hart s p. copy_in_outcome w s (copied_in (environment_of w s) (initial_progress w (without_pending p)) address n))
+plain_step w (CopyIn h address n) =
+    kernel_call w h (nat_le n longest_copy) (λ hart s p.
+    copy_in_outcome w s (copied_in (environment_of w s) (initial_progress w (without_pending p)) address n))
 plain_step w (CopyOut h address bytes) =
-    kernel_call w h (nat_le (length bytes.now) longest_copy) (λ hart s p. copy_out_outcome w s (copied_out (environment_of w s) (initial_progress w (without_pending p)) address bytes.now))
+    kernel_call w h (nat_le (length bytes.now) longest_copy) (λ hart s p.
+    copy_out_outcome w s (copied_out (environment_of w s) (initial_progress w (without_pending p)) address bytes.now))
 plain_step w (Exit h status) = kernel_call w h true (λ hart s p. ended w h hart s p (Exited status))
 
 -- the reply to a step and the world after it, with the marks of slots that may have stale buffer entries

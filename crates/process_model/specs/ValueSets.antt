@@ -1,6 +1,7 @@
 -- Laws of how many different values a function has on a list of numbers (`values`, `AreCounted`): by members, one more
 -- number, a run of numbers. With the quotient as function they count the page tables of a list of pages.
-use Rattle.std.proofs.Common.{◌≡◌, ℕ, zero, suc, true, false, cond, ◌+◌, ◌-◌, ◌/◌, ◌<◌, ◌≤◌, ◌⊎◌, inl, inr, refl, ap, sym, subst, ◌∙◌, arith, List, [], ◌∷◌, ◌++◌, map, length, max, Option, Some, None}
+use Rattle.std.proofs.Common.{◌≡◌, ℕ, zero, suc, true, false, cond, ◌+◌, ◌-◌, ◌/◌, ◌<◌, ◌≤◌, ◌⊎◌, inl, inr, refl, ap, sym, subst, ◌∙◌}
+use Rattle.std.proofs.Common.{arith, List, [], ◌∷◌, ◌++◌, map, length, max, Option, Some, None}
 use Rattle.std.proofs.lemmas.Bool.{cases_eq, cases_Bool}
 use Rattle.std.proofs.lemmas.List.{append_assoc}
 use Rattle.std.proofs.lemmas.List.Elements.{Contains-append_cases, Contains-append_left, Contains-append_right}
@@ -50,20 +51,23 @@ module _ (f : ℕ → ℕ) where
   abbrev pub values : List ℕ → NumberSet
   values xs = numbers (map f xs)
 
-  contains_next : (x y : ℕ) (xs : List ℕ) → contains (values (x ∷ xs)) y ≡ is_some (cond (eq_by_cmp nat_cmp y (f x)) (Some tt) (find nat_cmp y (values xs).entries))
+  contains_next : (x y : ℕ) (xs : List ℕ)
+      → contains (values (x ∷ xs)) y ≡ is_some (cond (eq_by_cmp nat_cmp y (f x)) (Some tt) (find nat_cmp y (values xs).entries))
   contains_next x y xs = ap is_some (find-put nat_cmp nat_cmp_total y (f x) tt (values xs).entries)
 
   pub has_value : (x y : ℕ) (xs : List ℕ) → Contains xs x → f x ≡ y → contains (values xs) y ≡ true
   has_value x y [] h e = absurd (none_in x h)
   has_value x y (z ∷ xs) h e = contains_next z y xs ∙ elim (first_or z x xs h) [
     | inl same ↦ rw (same_key y (f z) (sym e ∙ ap f (sym same)))
-    | inr later ↦ elim (eq_by_cmp nat_cmp y (f z)) as (λ b. is_some (cond b (Some tt) (find nat_cmp y (values xs).entries)) ≡ true) [ true ↦ refl | false ↦ has_value x y xs later e ]
+    | inr later ↦ elim (eq_by_cmp nat_cmp y (f z)) as (λ b.
+        is_some (cond b (Some tt) (find nat_cmp y (values xs).entries)) ≡ true) [ true ↦ refl | false ↦ has_value x y xs later e ]
   ]
 
   pub value_of : (y : ℕ) (xs : List ℕ) → contains (values xs) y ≡ true → (x : ℕ) × Contains xs x × (f x ≡ y)
   value_of y [] t = absurd (cc)
   value_of y (z ∷ xs) t =
-      elim (eq_by_cmp nat_cmp y (f z)) as (λ b. eq_by_cmp nat_cmp y (f z) ≡ b → is_some (cond b (Some tt) (find nat_cmp y (values xs).entries)) ≡ true → (x : ℕ) × Contains (z ∷ xs) x × (f x ≡ y)) [
+      elim (eq_by_cmp nat_cmp y (f z)) as (λ b. eq_by_cmp nat_cmp y (f z) ≡ b
+      → is_some (cond b (Some tt) (find nat_cmp y (values xs).entries)) ≡ true → (x : ℕ) × Contains (z ∷ xs) x × (f x ≡ y)) [
         | true ↦ λ same _. (z, in_front z xs, sym (key_same y (f z) same))
         | false ↦ λ _ found. let x = value_of y xs found in (x.0, behind z x.0 xs x.1, x.2)
       ] refl (sym (contains_next z y xs) ∙ t)
@@ -71,9 +75,11 @@ module _ (f : ℕ → ℕ) where
   moved : (xs ys : List ℕ) → ((x : ℕ) → Contains xs x → Contains ys x) → (y : ℕ) → contains (values xs) y ≡ true → contains (values ys) y ≡ true
   moved xs ys into y t = let x = value_of y xs t in has_value x.0 y ys (into x.0 x.1) x.2
 
-  pub same_count : (xs ys : List ℕ) → ((x : ℕ) → Contains xs x → Contains ys x) → ((x : ℕ) → Contains ys x → Contains xs x) → count (values xs) ≡ count (values ys)
+  pub same_count : (xs ys : List ℕ) → ((x : ℕ) → Contains xs x → Contains ys x) → ((x : ℕ) → Contains ys x → Contains xs x)
+      → count (values xs) ≡ count (values ys)
   same_count xs ys there back =
-      ap length (same_entries nat_cmp nat_cmp_total exact_unsigned _ _ (values xs).sorted (values ys).sorted (λ q. same_unit _ _ (moved xs ys there q) (moved ys xs back q)))
+      ap length (same_entries nat_cmp nat_cmp_total exact_unsigned _ _ (values xs).sorted (values ys).sorted (λ q.
+      same_unit _ _ (moved xs ys there q) (moved ys xs back q)))
 
   pub count_next : (x : ℕ) (xs : List ℕ) → count (values (x ∷ xs)) ≡ cond (contains (values xs) (f x)) (count (values xs)) (count (values xs) + 1)
   count_next x xs = length-put nat_cmp nat_cmp_total (f x) tt (values xs).entries (values xs).sorted
@@ -117,7 +123,8 @@ module _ (f : ℕ → ℕ) where
     last = inr (y, in_front y xs, refl);
   }
 
-  pub same_members : (xs ys : List ℕ) (n bound : ℕ) → ((x : ℕ) → Contains xs x → Contains ys x) → ((x : ℕ) → Contains ys x → Contains xs x) → AreCounted xs n bound → AreCounted ys n bound
+  pub same_members : (xs ys : List ℕ) (n bound : ℕ) → ((x : ℕ) → Contains xs x → Contains ys x) → ((x : ℕ) → Contains ys x → Contains xs x)
+      → AreCounted xs n bound → AreCounted ys n bound
   same_members xs ys n bound there back are = record {
     counted = same_count ys xs back there ∙ are.counted;
     below = λ x h. are.below x (back x h);
@@ -144,7 +151,8 @@ module _ (f : ℕ → ℕ) where
         let far = up (first + 1) (first + 1 + k) (omega arith) in
         let rest = run_more k (first + 1) (xs ++ first ∷ []) _ _ one (omega (arith, here)) in
         let place : first + 1 + k ≡ first + suc k = omega arith in
-        let list : (xs ++ first ∷ []) ++ numbers_from (first + 1) (suc k) ≡ xs ++ numbers_from first (suc (suc k)) = append_assoc xs (first ∷ []) (numbers_from (first + 1) (suc k)) in
+        let list : (xs ++ first ∷ []) ++ numbers_from (first + 1) (suc k) ≡ xs ++ numbers_from first (suc (suc k)) =
+        append_assoc xs (first ∷ []) (numbers_from (first + 1) (suc k)) in
         let far_is : f (first + 1 + k) ≡ f (first + suc k) = ap f place in
         counted_as _ _ _ _ _ _ list (omega (arith, far_is, far, here, step, le)) (omega (arith, far_is)) rest
 
@@ -157,7 +165,8 @@ module _ (f : ℕ → ℕ) where
         subst (λ m. AreCounted (xs ++ numbers_from first (suc k)) (n + (f m + 1 - max (f first) bound)) (f m + 1)) place (run_more k first xs n bound are le)
 
   -- two more numbers that have one value
-  pub two_more : (xs : List ℕ) (n bound y z : ℕ) → AreCounted xs n bound → bound ≤ f y + 1 → f z ≡ f y → count (values (z ∷ y ∷ xs)) ≡ n + (f y + 1 - max (f y) bound)
+  pub two_more : (xs : List ℕ) (n bound y z : ℕ) → AreCounted xs n bound → bound ≤ f y + 1 → f z ≡ f y
+      → count (values (z ∷ y ∷ xs)) ≡ n + (f y + 1 - max (f y) bound)
   two_more xs n bound y z are le same = greatest_again (y ∷ xs) _ _ z (one_more xs n bound y are le) (ap (λ m. m + 1) (sym same))
 
 -- ---- quotients

@@ -1,6 +1,7 @@
 -- The table of a script's words (`command_table`), each with the kinds of the fields after it (`Row`); and how fields are
 -- read by their kinds: the value of each (a number, bytes, a slot, a segment ..), or the cause (why the line is refused).
-use Rattle.std.specs.Prelude.{ℕ, Bool, true, false, not, List, [], ◌∷◌, Option, Some, None, Result, Ok, Err, codes, ◌++◌, ◌-◌, ◌||◌, ◌&&◌, length, replicate, nat_lt, ◌==◌, if◌then◌else◌}
+use Rattle.std.specs.Prelude.{ℕ, Bool, true, false, not, List, [], ◌∷◌, Option, Some, None, Result, Ok, Err, codes, ◌++◌, ◌-◌, ◌||◌, ◌&&◌}
+use Rattle.std.specs.Prelude.{length, replicate, nat_lt, ◌==◌, if◌then◌else◌}
 use Rattle.std.specs.Str.{bytes_eq}
 use Rattle.std.specs.List.{list_any}
 use Rattle.script_language.specs.Lines.{pieces_of}
@@ -101,13 +102,16 @@ slot_value true field = Ok (value.Optional None)
 slot_value false field = said_or cause.Number (λ n. value.Optional (Some n)) (number_of field)
 
 abbrev pub mode_value : List ℕ → Result FieldValue Cause
-mode_value field = if bytes_eq field (codes "rw") then Ok (value.Writable true) else (if bytes_eq field (codes "ro") then Ok (value.Writable false) else Err cause.Field)
+mode_value field = if bytes_eq field (codes "rw") then Ok (value.Writable true)
+    else (if bytes_eq field (codes "ro") then Ok (value.Writable false) else Err cause.Field)
 
 abbrev pub policy_value : List ℕ → Result FieldValue Cause
-policy_value field = if bytes_eq field (codes "full") then Ok (value.Policy policy.Full) else (if bytes_eq field (codes "asid") then Ok (value.Policy policy.Asid) else Err cause.Field)
+policy_value field = if bytes_eq field (codes "full") then Ok (value.Policy policy.Full)
+    else (if bytes_eq field (codes "asid") then Ok (value.Policy policy.Asid) else Err cause.Field)
 
 abbrev pub scheme_value : List ℕ → Result FieldValue Cause
-scheme_value field = if bytes_eq field (codes "sv39") then Ok (value.Scheme Sv39) else (if bytes_eq field (codes "sv48") then Ok (value.Scheme Sv48) else Err cause.Field)
+scheme_value field = if bytes_eq field (codes "sv39") then Ok (value.Scheme Sv39)
+    else (if bytes_eq field (codes "sv48") then Ok (value.Scheme Sv48) else Err cause.Field)
 
 -- the number in @N
 abbrev pub entry_number : List ℕ → Option ℕ

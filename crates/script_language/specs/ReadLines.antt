@@ -30,7 +30,8 @@ in_limits within x = if within then Ok x else Err cause.Limits
 -- the item that a word and the fields after it make, or the first cause, in this order: Word if the table lacks the word;
 -- Order if no line with the word may be next; the cause of the fields; the cause of the item; TooMany if there is no room
 -- for the item
-abbrev pub item_by : {I : Type 0} → List Row → (Keyword → Bool) → (Keyword → List FieldValue → Result I Cause) → (I → Bool) → List ℕ → List (List ℕ) → Result I Cause
+abbrev pub item_by : {I : Type 0} → List Row → (Keyword → Bool) → (Keyword → List FieldValue → Result I Cause) → (I → Bool) → List ℕ
+    → List (List ℕ) → Result I Cause
 item_by table in_order item_of has_room text fields = do
   r ← row_named (row_among table text)
   ordered ← test (in_order r.word) cause.Order

@@ -1,6 +1,7 @@
 -- What the bytes of a script mean (`script_of`): its files, images, configuration and commands (record `Script`), or its
 -- first faulty line with the cause. The order of lines, the item that each word makes of its fields, and the limits.
-use Rattle.std.specs.Prelude.{ℕ, ℤ, pos, negsuc, ◌++◌, Bool, true, false, not, List, [], ◌∷◌, Option, Some, None, is_some, Result, Ok, Err, length, slice_get, ◌+◌, ◌^◌, ◌&&◌, nat_lt, nat_le, if◌then◌else◌}
+use Rattle.std.specs.Prelude.{ℕ, ℤ, pos, negsuc, ◌++◌, Bool, true, false, not, List, [], ◌∷◌, Option, Some, None, is_some, Result, Ok, Err}
+use Rattle.std.specs.Prelude.{length, slice_get, ◌+◌, ◌^◌, ◌&&◌, nat_lt, nat_le, if◌then◌else◌}
 use Rattle.process_model.specs.Bytes.{is_width, padded}
 use Rattle.script_language.specs.Lines.{raw_lines}
 use Rattle.script_language.specs.Fields.{command_table}
@@ -121,7 +122,13 @@ abbrev pub file_of_values : List FieldValue → FileText
 file_of_values vs = record { length = number_at vs 0; writable = as_writable (slice_get vs 1); bytes = bytes_at vs 2 }
 
 abbrev pub config_of : List FieldValue → Config
-config_of vs = record { scheme = as_scheme (slice_get vs 4); harts = number_at vs 0; frames = number_at vs 1; slots = number_at vs 2; policy = as_policy (slice_get vs 3) }
+config_of vs = record {
+  scheme = as_scheme (slice_get vs 4);
+  harts = number_at vs 0;
+  frames = number_at vs 1;
+  slots = number_at vs 2;
+  policy = as_policy (slice_get vs 3);
+}
 
 -- limits
 
@@ -152,7 +159,8 @@ item_of s word.Fill vs = Ok (one (step.Fill (number_at vs 0) (number_at vs 1)))
 item_of s word.Evict vs = Ok (one (step.Evict (number_at vs 0) (number_at vs 1)))
 item_of s word.Fetch vs = Ok (one (step.Fetch (number_at vs 0) (number_at vs 1) (optional_at vs 2)))
 item_of s word.Load vs = in_limits (is_width (number_at vs 2)) (one (step.Load (number_at vs 0) (number_at vs 1) (number_at vs 2) (optional_at vs 3)))
-item_of s word.Store vs = in_limits (is_width (number_at vs 2)) (one (step.Store (number_at vs 0) (number_at vs 1) (number_at vs 2) (number_at vs 3) (optional_at vs 4)))
+item_of s word.Store vs =
+    in_limits (is_width (number_at vs 2)) (one (step.Store (number_at vs 0) (number_at vs 1) (number_at vs 2) (number_at vs 3) (optional_at vs 4)))
 item_of s word.Tramp vs = Ok (one (step.TrampolineFetch (number_at vs 0) (number_at vs 1) (optional_at vs 2)))
 item_of s word.Serve vs = Ok (one (step.Serve (number_at vs 0)))
 item_of s word.Fork vs = Ok (one (step.Fork (number_at vs 0)))
@@ -161,9 +169,12 @@ item_of s word.Sbrk vs = Ok (one (step.Sbrk (number_at vs 0) (signed_at vs 1)))
 item_of s word.Mmap vs = Ok (one (step.Mmap (number_at vs 0) (number_at vs 1) (number_at vs 2) (number_at vs 3) (number_at vs 4)))
 item_of s word.Munmap vs = Ok (one (step.Munmap (number_at vs 0) (number_at vs 1) (number_at vs 2)))
 item_of s word.CopyIn vs = in_limits (nat_le (number_at vs 2) longest_copy) (one (step.CopyIn (number_at vs 0) (number_at vs 1) (number_at vs 2)))
-item_of s word.CopyOut vs = in_limits (nat_le (length (bytes_at vs 2)) longest_copy) (item.Command (command.CopyOut (number_at vs 0) (number_at vs 1) (bytes_at vs 2)))
+item_of s word.CopyOut vs =
+    in_limits (nat_le (length (bytes_at vs 2)) longest_copy) (item.Command (command.CopyOut (number_at vs 0) (number_at vs 1) (bytes_at vs 2)))
 item_of s word.Exit vs = in_limits (is_status (signed_at vs 1)) (one (step.Exit (number_at vs 0) (signed_at vs 1)))
-item_of s word.Show vs = in_limits (has_file s (number_at vs 0) && nat_le (number_at vs 2) longest_copy) (item.Command (command.Show (number_at vs 0) (number_at vs 1) (number_at vs 2)))
+item_of s word.Show vs =
+    in_limits (has_file s (number_at vs 0)
+    && nat_le (number_at vs 2) longest_copy) (item.Command (command.Show (number_at vs 0) (number_at vs 1) (number_at vs 2)))
 item_of s word.Audit vs = Ok (item.Command command.Audit)
 item_of s word.On vs = Ok (item.Command (command.On (number_at vs 0) (number_at vs 1)))
 item_of s word.Enter vs = Ok (item.Command (command.Enter (number_at vs 0)))

@@ -1,7 +1,8 @@
 -- What the bytes of a file for threads mean (`thread_script_of`): its files, images, pool of frames, lists of calls and
 -- processes to start (record `ThreadScript`), or its first faulty line with the cause. The words, the order of lines, the
 -- item of each, the limits.
-use Rattle.std.specs.Prelude.{ℕ, ◌++◌, Bool, true, false, not, List, [], ◌∷◌, Option, Some, None, is_some, Result, Ok, Err, codes, length, map, get_or, ◌+◌, ◌==◌, ◌&&◌, nat_lt, nat_le, if◌then◌else◌}
+use Rattle.std.specs.Prelude.{ℕ, ◌++◌, Bool, true, false, not, List, [], ◌∷◌, Option, Some, None, is_some, Result, Ok, Err, codes, length}
+use Rattle.std.specs.Prelude.{map, get_or, ◌+◌, ◌==◌, ◌&&◌, nat_lt, nat_le, if◌then◌else◌}
 use Rattle.std.specs.Str.{bytes_eq}
 use Rattle.std.specs.List.{list_any}
 use Rattle.std.specs.List.{range_with_len}

@@ -104,4 +104,5 @@ reply_text (reply.Refused r) = codes "refused " ++ refusal_text r
 
 abbrev pub report_text : Report → List ℕ
 report_text r =
-    codes "free " ++ (decimal r.free ++ (codes " held " ++ (decimal r.held ++ (codes " shared " ++ (decimal r.shared ++ (codes " references " ++ decimal r.references))))))
+    codes "free " ++ (decimal r.free
+    ++ (codes " held " ++ (decimal r.held ++ (codes " shared " ++ (decimal r.shared ++ (codes " references " ++ decimal r.references))))))

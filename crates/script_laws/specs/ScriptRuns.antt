@@ -38,7 +38,8 @@ steps_of images w (command.CopyOut h address bytes) = CopyOut h address (record 
 steps_of images w (command.On h s) = made_of w (on_steps h s)
 steps_of images w (command.Enter h) = made_of w (enter_steps h)
 steps_of images w (command.Leave h) = made_of w (three_next h)
-steps_of images w (command.Fix h) = let o = series_of w (three_next h) Done in made_of w (three_next h) ++ (if is_refused o.reply then [] else service_of o.world h)
+steps_of images w (command.Fix h) =
+    let o = series_of w (three_next h) Done in made_of w (three_next h) ++ (if is_refused o.reply then [] else service_of o.world h)
 steps_of images w (command.Show f offset n) = []
 steps_of images w command.Audit = []
 
@@ -61,8 +62,10 @@ line_answer w _ rs = reply_text (last_or Done rs)
 -- the text has one line for each command; the steps are those that the commands make, and the replies those to the steps
 pub data AreLines (images : List OwnedImage) : World → List Command → List Step → List Reply → List ℕ → Type 0 where
   none : {w : World} → AreLines images w [] [] [] []
-  line : {w : World} {c : Command} {cs : List Command} {xs : List Step} {rs : List Reply} {text : List ℕ} → AreLines images (run w (steps_of images w c)).world cs xs rs text
-      → AreLines images w (c ∷ cs) (steps_of images w c ++ xs) ((run w (steps_of images w c)).replies ++ rs) (line_text (line_answer w c (run w (steps_of images w c)).replies) ++ text)
+  line : {w : World} {c : Command} {cs : List Command} {xs : List Step} {rs : List Reply} {text : List ℕ}
+      → AreLines images (run w (steps_of images w c)).world cs xs rs text
+      → AreLines images w (c ∷ cs) (steps_of images w c ++ xs) ((run w (steps_of images w c)).replies
+      ++ rs) (line_text (line_answer w c (run w (steps_of images w c)).replies) ++ text)
 
 -- the text of a script is `ok` and then a line for each command, with replies of one run since boot; these meet the headline
 pub record IsTextOfRun (s : Script) : Type 0 where

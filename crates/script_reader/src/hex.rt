@@ -49,7 +49,9 @@ fn first_eight(text: &[u8]) -> Option<(u8, u8, u8, u8, u8, u8, u8, u8, &[u8])>
 /// Inlined, so that the result need not go through memory.
 #[inline(always)]
 fn four_bytes(digits: &[u8]) -> Option<(u8, u8, u8, u8, &[u8])>
-    ensures bytes { IfSome result (λ found. pairs_of digits.now ≡ then_bytes (Some found.0) (then_bytes (Some found.1) (then_bytes (Some found.2) (then_bytes (Some found.3) (pairs_of found.4.now))))) }
+    ensures bytes { IfSome result (λ found.
+        pairs_of digits.now ≡ then_bytes (Some found.0)
+        (then_bytes (Some found.1) (then_bytes (Some found.2) (then_bytes (Some found.3) (pairs_of found.4.now))))) }
     ensures eight { IfSome result (λ found. length found.4.now + 8 ≡ length digits.now) }
 {
     let (a, b, c, d, e, f, g, h, rest) = first_eight(digits)?;

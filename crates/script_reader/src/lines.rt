@@ -80,7 +80,8 @@ fn piece_len(field: &[u8]) -> usize
 
 /// Splits off the first piece of a field: returns it and what follows its colon, `None` after the last piece.
 pub fn first_piece(field: &[u8]) -> (&[u8], Option<&[u8]>)
-    ensures { MatchOption result.1 (words.pieces_of field.now ≡ result.0.now ∷ []) (λ rest. words.pieces_of field.now ≡ result.0.now ∷ words.pieces_of rest.now) }
+    ensures { MatchOption result.1 (words.pieces_of field.now ≡ result.0.now ∷ []) (λ rest. words.pieces_of field.now ≡ result.0.now
+        ∷ words.pieces_of rest.now) }
 {
     let (piece, rest) = field.split_at(piece_len(field));
     match rest {

@@ -104,7 +104,8 @@ fn first_four(text: &[u8]) -> Option<(u8, u8, u8, u8, &[u8])>
 /// the result need not go through memory.
 #[inline(always)]
 fn four_digits(text: &[u8]) -> Option<(u64, &[u8])>
-    ensures more { IfSome result (λ found. (whole : List ℕ) (n : ℕ) → IsNumberPrefix 16 whole text.now n → IsNumberPrefix 16 whole found.1.now (n * 65536 + found.0)) }
+    ensures more { IfSome result (λ found. (whole : List ℕ) (n : ℕ) → IsNumberPrefix 16 whole text.now n
+        → IsNumberPrefix 16 whole found.1.now (n * 65536 + found.0)) }
     ensures small { IfSome result (λ found. found.0 < 65536) }
     ensures less { IfSome result (λ found. length found.1.now < length text.now) }
 {

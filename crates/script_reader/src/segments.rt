@@ -80,7 +80,9 @@ pub fn read_segment(alloc: Global, field: &[u8]) -> Result<Option<Segment>, Allo
 }
 
 fn from_pieces(alloc: Global, pieces: SegmentFields<'_>) -> Result<Option<Segment>, AllocError>
-    ensures { IfOk result (λ segment. segment ≡ words.segment_with (number_of pieces.entry.address.now) (number_of pieces.entry.memory_size.now) pieces.entry.flags.now (words.are_flags pieces.entry.flags.now) (hex_of pieces.entry.bytes.now)) }
+    ensures { IfOk result (λ segment.
+        segment ≡ words.segment_with (number_of pieces.entry.address.now) (number_of pieces.entry.memory_size.now) pieces.entry.flags.now
+        (words.are_flags pieces.entry.flags.now) (hex_of pieces.entry.bytes.now)) }
 {
     let (Some(address), Some(memory_size)) = (number(pieces.address), number(pieces.memory_size))
     else {

@@ -34,7 +34,15 @@ impl Model for ThreadDraft {
 
     ghost Value = { words.ThreadDraft };
 
-    ghost view = { λ d. record { named = d.named; files = d.files.items; images = d.images.items; pool = d.pool; lists = d.lists.items; starts = d.starts.items; lines = d.lines } };
+    ghost view = { λ d. record {
+      named = d.named;
+      files = d.files.items;
+      images = d.images.items;
+      pool = d.pool;
+      lists = d.lists.items;
+      starts = d.starts.items;
+      lines = d.lines;
+    } };
 }
 
 /// What all lines of a file for threads declare; the pool is `None` if no line was a `pool`.

@@ -67,7 +67,8 @@ pub may_step : (z a : TableId) (s : SharedSeat) → a ≡ z → FitsIn z s → I
 may_step z a s is fits = ([], (subst (λ y. FitsIn y s) (sym is) fits, tt))
 
 -- after a split both seats are at the table
-pub fits_parted : (z a b : TableId) (s t u : SharedSeat) → a ≡ z → b ≡ a → ((others : List SharedSeat) → AllFit a (s ∷ others) → AllFit b (t ∷ u ∷ others)) → FitsIn z s → FitsIn z t × FitsIn z u
+pub fits_parted : (z a b : TableId) (s t u : SharedSeat) → a ≡ z → b ≡ a
+    → ((others : List SharedSeat) → AllFit a (s ∷ others) → AllFit b (t ∷ u ∷ others)) → FitsIn z s → FitsIn z t × FitsIn z u
 fits_parted z a b s t u is same kept fits =
     let both = kept [] (subst (λ y. FitsIn y s) (sym is) fits, tt) in
     (subst (λ y. FitsIn y t) (same ∙ is) both.0, subst (λ y. FitsIn y u) (same ∙ is) both.1.0)
@@ -76,11 +77,14 @@ fits_parted z a b s t u is same kept fits =
 pub may_join : (z a : TableId) (s u : SharedSeat) → a ≡ z → FitsIn z s → FitsIn z u → (others : List SharedSeat) × AllFit a (s ∷ u ∷ others)
 may_join z a s u is first second = ([], (subst (λ y. FitsIn y s) (sym is) first, (subst (λ y. FitsIn y u) (sym is) second, tt)))
 
-pub fits_joined : (z a b : TableId) (s u t : SharedSeat) → a ≡ z → b ≡ a → ((others : List SharedSeat) → AllFit a (s ∷ u ∷ others) → AllFit b (t ∷ others)) → FitsIn z s → FitsIn z u → FitsIn z t
-fits_joined z a b s u t is same kept first second = subst (λ y. FitsIn y t) (same ∙ is) (kept [] (subst (λ y. FitsIn y s) (sym is) first, (subst (λ y. FitsIn y u) (sym is) second, tt))).0
+pub fits_joined : (z a b : TableId) (s u t : SharedSeat) → a ≡ z → b ≡ a
+    → ((others : List SharedSeat) → AllFit a (s ∷ u ∷ others) → AllFit b (t ∷ others)) → FitsIn z s → FitsIn z u → FitsIn z t
+fits_joined z a b s u t is same kept first second =
+    subst (λ y. FitsIn y t) (same ∙ is) (kept [] (subst (λ y. FitsIn y s) (sym is) first, (subst (λ y. FitsIn y u) (sym is) second, tt))).0
 
 -- a table has at most 1,024 frames, and a held frame is one of them
-pub held_within : (table : TableId) (s : SharedSeat) (ss : List SharedSeat) → AllFit table (s ∷ ss) → ((view_of s).size ≤ MOST_FRAMES) × ((f : ℕ) → IsHeld (view_of s) f → f < (view_of s).size)
+pub held_within : (table : TableId) (s : SharedSeat) (ss : List SharedSeat) → AllFit table (s ∷ ss) → ((view_of s).size ≤ MOST_FRAMES)
+    × ((f : ℕ) → IsHeld (view_of s) f → f < (view_of s).size)
 held_within table s ss fit =
     let sized = (fit.0).2 in
     (omega (arith, sized.1), λ f held. let place = ((fit.0).1 f).0 held in omega (arith, place, sized.0))

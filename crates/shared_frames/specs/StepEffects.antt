@@ -3,7 +3,8 @@
 -- holds and knows) of the seat that makes it, by the value that it found in its word of the table.
 use Rattle.std.specs.Prelude.{◌≡◌, ℕ, ◌+◌, ◌-◌, ◌<◌, ◌≤◌, ◌==◌, cond, Some}
 use Rattle.atomic_table.specs.Table.{Me, Step}
-use Rattle.frame_store.specs.View.{View, known_word, references, looked, released, without_credits, with_credits, with_word, saw_none, claimed, shared, read_full}
+use Rattle.frame_store.specs.View.{View, known_word, references, looked, released, without_credits, with_credits, with_word, saw_none}
+use Rattle.frame_store.specs.View.{claimed, shared, read_full}
 use Rattle.shared_frames.specs.Rule.{count_at, memory_at}
 
 -- a seat of the table: its view, and its slots, of which there are none here

@@ -99,7 +99,8 @@ fn clear_some(table: &Words, seat: &mut SharedSeat, frame: FrameNo, index: usize
     requires in_page { index + count ≤ 512 }
     ensures fits { FitsIn table.now.table_id seat.new }
     ensures sole { IsSole (view_of seat.new) frame.0 }
-    ensures view { (v : View) (first n : ℕ) → index ≡ first + n → view_of seat.old ≡ with_many frame.0 first n (λ _. 0) v → view_of seat.new ≡ with_many frame.0 first (n + count) (λ _. 0) v }
+    ensures view { (v : View) (first n : ℕ) → index ≡ first + n → view_of seat.old ≡ with_many frame.0 first n (λ _. 0) v
+        → view_of seat.new ≡ with_many frame.0 first (n + count) (λ _. 0) v }
 {
     'places: for place in 0..count {
         store_word(table, seat, frame, index + place, 0);
@@ -116,7 +117,8 @@ fn clear_group(table: &Words, seat: &mut SharedSeat, frame: FrameNo, index: usiz
     requires in_page { index + 8 ≤ 512 }
     ensures fits { FitsIn table.now.table_id seat.new }
     ensures sole { IsSole (view_of seat.new) frame.0 }
-    ensures view { (v : View) (first n : ℕ) → index ≡ first + n → view_of seat.old ≡ with_many frame.0 first n (λ _. 0) v → view_of seat.new ≡ with_many frame.0 first (n + 8) (λ _. 0) v }
+    ensures view { (v : View) (first n : ℕ) → index ≡ first + n → view_of seat.old ≡ with_many frame.0 first n (λ _. 0) v
+        → view_of seat.new ≡ with_many frame.0 first (n + 8) (λ _. 0) v }
 {
     let mut zeros = true;
     'places: for place in 0..GROUP {
@@ -158,7 +160,8 @@ fn copy_some(table: &Words, seat: &mut SharedSeat, from: FrameNo, to: FrameNo, i
     ensures fits { FitsIn table.now.table_id seat.new }
     ensures held { IsHeld (view_of seat.new) from.0 }
     ensures sole { IsSole (view_of seat.new) to.0 }
-    ensures view { (v u : View) → AllKnown v from.0 → ((i : ℕ) → known_word u from.0 i ≡ known_word v from.0 i) → view_of seat.old ≡ u → view_of seat.new ≡ with_many to.0 index 4 (words_known v from.0) u }
+    ensures view { (v u : View) → AllKnown v from.0 → ((i : ℕ) → known_word u from.0 i ≡ known_word v from.0 i) → view_of seat.old ≡ u
+        → view_of seat.new ≡ with_many to.0 index 4 (words_known v from.0) u }
 {
     'places: for place in 0..COPY_GROUP {
         let word = load_word(table, seat, from, index + place);
@@ -179,7 +182,8 @@ fn copy_group(table: &Words, seat: &mut SharedSeat, from: FrameNo, to: FrameNo, 
     ensures fits { FitsIn table.now.table_id seat.new }
     ensures held { IsHeld (view_of seat.new) from.0 }
     ensures sole { IsSole (view_of seat.new) to.0 }
-    ensures view { (v : View) → AllKnown v from.0 → view_of seat.old ≡ with_many to.0 0 index (words_known v from.0) v → view_of seat.new ≡ with_many to.0 0 (index + 4) (words_known v from.0) v }
+    ensures view { (v : View) → AllKnown v from.0 → view_of seat.old ≡ with_many to.0 0 index (words_known v from.0) v
+        → view_of seat.new ≡ with_many to.0 0 (index + 4) (words_known v from.0) v }
 {
     let mut same = true;
     'places: for place in 0..COPY_GROUP {

@@ -55,7 +55,8 @@ if_set b n = cond b n 0
 -- dirty and the rights have W; RSW bit 8 if the page is copy-on-write
 abbrev pub leaf_flags : Bool → Bool → Bool → Bool → Bool → Bool → ℕ
 leaf_flags read write execute user cow dirty =
-    if_set cow 256 + if_set (if dirty then write else false) 128 + 64 + if_set user 16 + if_set execute 8 + if_set (if cow then false else write) 4 + if_set read 2 + 1
+    if_set cow 256 + if_set (if dirty then write else false) 128 + 64 + if_set user 16 + if_set execute 8 + if_set (if cow then false
+    else write) 4 + if_set read 2 + 1
 
 -- a leaf over a frame as the kernel writes it; G is never set
 abbrev pub leaf_word : ℕ → ℕ → Bool → Bool → Bool → ℕ

@@ -11,7 +11,8 @@ use Rattle.table_walk.specs.Tables.{ChangesTables, HasTables, IsGrown, leaf_node
 
 -- what `map` ensures of the tables: those before, with n missing ones added, and with a leaf at `number`
 abbrev pub MapsAt : Scheme → View → View → ℕ → Tables → ℕ → ℕ → ℕ → ℕ → Type 0
-MapsAt s v w root t page number leaf n = (u : Tables) × IsGrown s t u page (top_level s) × HasTables s w root (with_leaf u number leaf) × ChangesTables v w t u n
+MapsAt s v w root t page number leaf n = (u : Tables) × IsGrown s t u page (top_level s) × HasTables s w root (with_leaf u number leaf)
+    × ChangesTables v w t u n
 
 pub maps_low : (s : Scheme) (v w : View) (root : ℕ) (t : Tables) (page leaf n : ℕ) → page < page_limit s → MapsAt s v w root t page (walk_leaf s page) leaf n
     → MapsAt s v w root t page (leaf_node page) leaf n

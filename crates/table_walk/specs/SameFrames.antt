@@ -10,7 +10,8 @@ pub same_held : (v w : View) (f : ℕ) → hold_of w f ≡ hold_of v f → IsHel
 same_held v w f same held = subst (λ (h : Hold). 0 < h.references) (sym same) held
 
 -- if what a seat has of each frame of its tables stays, it has the tables still
-pub same_tables : {s : Scheme} (v w : View) (root : ℕ) (t : Tables) → ((k f : ℕ) → get t.tables k ≡ Some f → hold_of w f ≡ hold_of v f) → HasTables s v root t → HasTables s w root t
+pub same_tables : {s : Scheme} (v w : View) (root : ℕ) (t : Tables) → ((k f : ℕ) → get t.tables k ≡ Some f → hold_of w f ≡ hold_of v f)
+    → HasTables s v root t → HasTables s w root t
 same_tables v w root t same has = record {
   known = record {
     rooted = has.known.rooted;

@@ -14,7 +14,8 @@ use Rattle.table_walk.specs.Walk.{Maps}
 
 -- each page whose table indices are other than those of `page` is mapped as it was
 abbrev pub OthersStay : Scheme → Memory → Memory → ℕ → ℕ → Type 0
-OthersStay s before after root page = (other leaf level : ℕ) → walk_leaf s other ≢ walk_leaf s page → Maps s after root other leaf level ↔ Maps s before root other leaf level
+OthersStay s before after root page = (other leaf level : ℕ) → walk_leaf s other ≢ walk_leaf s page
+    → Maps s after root other leaf level ↔ Maps s before root other leaf level
 
 -- how many places are below a table whose entries have this level: at level 0 its indices, and above it each index has 512
 -- times as many as one of the level below

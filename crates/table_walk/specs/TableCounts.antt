@@ -9,7 +9,9 @@ use Rattle.table_walk.specs.Tables.{Tables, node}
 
 -- the tables are exactly those on the ways to some pages, and to TRAMPOLINE's and TRAPFRAME's page
 abbrev pub AreTablesOf : Scheme → Tables → List ℕ → Type 0
-AreTablesOf s t pages = (k : ℕ) → IsSome (get t.tables k) ↔ ((page depth : ℕ) × Contains (trampoline_page s ∷ trapframe_page s ∷ pages) page × (depth ≤ top_level s) × (k ≡ node s page depth))
+AreTablesOf s t pages = (k : ℕ)
+    → IsSome (get t.tables k) ↔ ((page depth : ℕ) × Contains (trampoline_page s ∷ trapframe_page s ∷ pages) page × (depth ≤ top_level s)
+    × (k ≡ node s page depth))
 
 -- the tables of some pages are those of any list with the same members
 pub same_members : (s : Scheme) (t : Tables) (xs ys : List ℕ) → ((y : ℕ) → Contains xs y → Contains ys y) → ((y : ℕ) → Contains ys y → Contains xs y)

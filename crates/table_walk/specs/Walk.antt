@@ -19,7 +19,8 @@ use Rattle.table_walk.specs.declared.walk.Walk.TheVariants as walk
 -- the walk of a page is at this table after k pointers
 abbrev pub IsAt : Scheme → Memory → ℕ → ℕ → ℕ → ℕ → Type 0
 IsAt s m root page zero table = table ≡ root
-IsAt s m root page (suc k) table = (above pointer : ℕ) × IsAt s m root page k above × (m above (vpn page (top_level s - k)) ≡ Some pointer) × (kind_of pointer ≡ Pointer) × (table ≡ ppn pointer)
+IsAt s m root page (suc k) table = (above pointer : ℕ) × IsAt s m root page k above × (m above (vpn page (top_level s - k)) ≡ Some pointer)
+    × (kind_of pointer ≡ Pointer) × (table ≡ ppn pointer)
 
 -- the walk of a page reads this word at a level; None: the word is outside the memory
 pub record Reads (s : Scheme) (m : Memory) (root page level : ℕ) (word : Option ℕ) : Type 0 where
@@ -62,9 +63,13 @@ Finds s m root address found.NoLeaf =
 -- the outcome of the translation of an access. Rights are judged before the byte that the leaf leads to is looked for
 abbrev pub Translates : Scheme → Memory → Extent → ℕ → ℕ → Access → Mode → Walk → Type 0
 Translates s m there root address access mode (walk.Leaf leaf level physical) =
-    FindsLeaf s m root address leaf level × (permits mode access leaf ≡ true) × (physical ≡ physical_address leaf level address) × (has_byte there physical ≡ true)
+    FindsLeaf s m root address leaf level × (permits mode access leaf ≡ true) × (physical ≡ physical_address leaf level address)
+    × (has_byte there physical ≡ true)
 Translates s m there root address access mode (walk.PageFault cause) =
-    (cause ≡ page_fault_cause access) × (Finds s m root address found.NoLeaf ⊎ ((leaf level : ℕ) × FindsLeaf s m root address leaf level × (permits mode access leaf ≡ false)))
+    (cause ≡ page_fault_cause access)
+    × (Finds s m root address found.NoLeaf ⊎ ((leaf level : ℕ) × FindsLeaf s m root address leaf level × (permits mode access leaf ≡ false)))
 Translates s m there root address access mode (walk.AccessFault cause) =
     (cause ≡ access_fault_cause access)
-    × (Finds s m root address found.Outside ⊎ ((leaf level : ℕ) × FindsLeaf s m root address leaf level × (permits mode access leaf ≡ true) × (has_byte there (physical_address leaf level address) ≡ false)))
+    × (Finds s m root address found.Outside
+    ⊎ ((leaf level : ℕ) × FindsLeaf s m root address leaf level × (permits mode access leaf ≡ true)
+    × (has_byte there (physical_address leaf level address) ≡ false)))

@@ -42,7 +42,10 @@ pub fn map<F: FrameSupply>(
     requires leaf { kind_of leaf ≡ Leaf }
     requires backed { IsBacked (F.Seat.view seat.old) leaf }
     requires tables { (t : Tables) × HasTables scheme (F.Seat.view seat.old) root.0 t × (missing scheme t page ≤ (F.Seat.view seat.old).credits) }
-    ensures tables { (t : Tables) → HasTables scheme (F.Seat.view seat.old) root.0 t → (u : Tables) × IsGrown scheme t u page (top_level scheme) × HasTables scheme (F.Seat.view seat.new) root.0 (with_leaf u (walk_leaf scheme page) leaf) × ChangesTables (F.Seat.view seat.old) (F.Seat.view seat.new) t u (missing scheme t page) }
+    ensures tables { (t : Tables) → HasTables scheme (F.Seat.view seat.old) root.0 t → (u : Tables)
+        × IsGrown scheme t u page (top_level scheme)
+        × HasTables scheme (F.Seat.view seat.new) root.0 (with_leaf u (walk_leaf scheme page) leaf)
+        × ChangesTables (F.Seat.view seat.old) (F.Seat.view seat.new) t u (missing scheme t page) }
     ensures here { Maps scheme (held_memory (F.Seat.view seat.new)) (ppn_of root.0) page leaf 0 }
     ensures others { OthersStay scheme (held_memory (F.Seat.view seat.old)) (held_memory (F.Seat.view seat.new)) (ppn_of root.0) page }
     ensures anchored { IsHeld (F.Seat.view seat.new) 0 }
@@ -69,8 +72,12 @@ pub fn map_with_last<F: FrameSupply>(
     requires anchored { IsHeld (F.Seat.view seat.old) 0 }
     requires leaf { kind_of leaf ≡ Leaf }
     requires backed { IsBacked (F.Seat.view seat.old) leaf }
-    requires tables { (t : Tables) × HasTables scheme (F.Seat.view seat.old) root.0 t × IsLastTable scheme t last.old × (missing scheme t page ≤ (F.Seat.view seat.old).credits) }
-    ensures tables { (t : Tables) → HasTables scheme (F.Seat.view seat.old) root.0 t → IsLastTable scheme t last.old → (u : Tables) × IsGrown scheme t u page (top_level scheme) × HasTables scheme (F.Seat.view seat.new) root.0 (with_leaf u (walk_leaf scheme page) leaf) × ChangesTables (F.Seat.view seat.old) (F.Seat.view seat.new) t u (missing scheme t page) × IsLastTable scheme u last.new }
+    requires tables { (t : Tables) × HasTables scheme (F.Seat.view seat.old) root.0 t × IsLastTable scheme t last.old
+        × (missing scheme t page ≤ (F.Seat.view seat.old).credits) }
+    ensures tables { (t : Tables) → HasTables scheme (F.Seat.view seat.old) root.0 t → IsLastTable scheme t last.old → (u : Tables)
+        × IsGrown scheme t u page (top_level scheme)
+        × HasTables scheme (F.Seat.view seat.new) root.0 (with_leaf u (walk_leaf scheme page) leaf)
+        × ChangesTables (F.Seat.view seat.old) (F.Seat.view seat.new) t u (missing scheme t page) × IsLastTable scheme u last.new }
     ensures here { Maps scheme (held_memory (F.Seat.view seat.new)) (ppn_of root.0) page leaf 0 }
     ensures others { OthersStay scheme (held_memory (F.Seat.view seat.old)) (held_memory (F.Seat.view seat.new)) (ppn_of root.0) page }
     ensures anchored { IsHeld (F.Seat.view seat.new) 0 }
@@ -97,8 +104,11 @@ pub fn protect<F: FrameAccess>(
     requires leaf { kind_of leaf ≡ Leaf }
     requires backed { IsBacked (F.Seat.view seat.old) leaf }
     requires mapped { (t : Tables) × HasTables scheme (F.Seat.view seat.old) root.0 t × IsSome (get t.leaves (walk_leaf scheme page)) }
-    ensures word { (t : Tables) (f : ℕ) → HasTables scheme (F.Seat.view seat.old) root.0 t → get t.tables (last_table scheme page) ≡ Some f → F.Seat.view seat.new ≡ with_word f (vpn page 0) leaf (F.Seat.view seat.old) }
-    ensures tables { (t : Tables) → HasTables scheme (F.Seat.view seat.old) root.0 t → HasTables scheme (F.Seat.view seat.new) root.0 (with_leaf t (walk_leaf scheme page) leaf) × ChangesTables (F.Seat.view seat.old) (F.Seat.view seat.new) t t 0 }
+    ensures word { (t : Tables) (f : ℕ) → HasTables scheme (F.Seat.view seat.old) root.0 t → get t.tables (last_table scheme page) ≡ Some f
+        → F.Seat.view seat.new ≡ with_word f (vpn page 0) leaf (F.Seat.view seat.old) }
+    ensures tables { (t : Tables) → HasTables scheme (F.Seat.view seat.old) root.0 t
+        → HasTables scheme (F.Seat.view seat.new) root.0 (with_leaf t (walk_leaf scheme page) leaf)
+        × ChangesTables (F.Seat.view seat.old) (F.Seat.view seat.new) t t 0 }
     ensures here { Maps scheme (held_memory (F.Seat.view seat.new)) (ppn_of root.0) page leaf 0 }
     ensures others { OthersStay scheme (held_memory (F.Seat.view seat.old)) (held_memory (F.Seat.view seat.new)) (ppn_of root.0) page }
     ensures keeps { KeepsSeats F.rule store.old seat.old store.new seat.new }
@@ -142,7 +152,8 @@ pub fn leaf_with_last<F: FrameAccess>(
 ) -> Option<Entry>
     requires fits { IsSeatOf F.rule store.old seat.old }
     requires held { (t : Tables) × HasTables scheme (F.Seat.view seat.old) root.0 t × IsLastTable scheme t last.old }
-    ensures leaf { (t : Tables) → HasTables scheme (F.Seat.view seat.old) root.0 t → IsLastTable scheme t last.old → result ≡ get t.leaves (walk_leaf scheme page) }
+    ensures leaf { (t : Tables) → HasTables scheme (F.Seat.view seat.old) root.0 t → IsLastTable scheme t last.old
+        → result ≡ get t.leaves (walk_leaf scheme page) }
     ensures kept { (t : Tables) → HasTables scheme (F.Seat.view seat.old) root.0 t → IsLastTable scheme t last.old → IsLastTable scheme t last.new }
     ensures view { F.Seat.view seat.new ≡ F.Seat.view seat.old }
     ensures same { store.new ≡ store.old }
@@ -165,9 +176,12 @@ pub fn unmap<F: FrameAccess>(
     requires fits { IsSeatOf F.rule store.old seat.old }
     requires held { (t : Tables) × HasTables scheme (F.Seat.view seat.old) root.0 t }
     ensures leaf { (t : Tables) → HasTables scheme (F.Seat.view seat.old) root.0 t → result ≡ get t.leaves (walk_leaf scheme page) }
-    ensures word { (t : Tables) (f : ℕ) → HasTables scheme (F.Seat.view seat.old) root.0 t → get t.tables (last_table scheme page) ≡ Some f → IsSome result → F.Seat.view seat.new ≡ with_word f (vpn page 0) 0 (F.Seat.view seat.old) }
+    ensures word { (t : Tables) (f : ℕ) → HasTables scheme (F.Seat.view seat.old) root.0 t → get t.tables (last_table scheme page) ≡ Some f
+        → IsSome result → F.Seat.view seat.new ≡ with_word f (vpn page 0) 0 (F.Seat.view seat.old) }
     ensures none { result ≡ None → F.Seat.view seat.new ≡ F.Seat.view seat.old }
-    ensures tables { (t : Tables) → HasTables scheme (F.Seat.view seat.old) root.0 t → HasTables scheme (F.Seat.view seat.new) root.0 (without_leaf t (walk_leaf scheme page)) × ChangesTables (F.Seat.view seat.old) (F.Seat.view seat.new) t t 0 }
+    ensures tables { (t : Tables) → HasTables scheme (F.Seat.view seat.old) root.0 t
+        → HasTables scheme (F.Seat.view seat.new) root.0 (without_leaf t (walk_leaf scheme page))
+        × ChangesTables (F.Seat.view seat.old) (F.Seat.view seat.new) t t 0 }
     ensures here { (leaf level : ℕ) → Maps scheme (held_memory (F.Seat.view seat.new)) (ppn_of root.0) page leaf level → ⊥ }
     ensures others { OthersStay scheme (held_memory (F.Seat.view seat.old)) (held_memory (F.Seat.view seat.new)) (ppn_of root.0) page }
     ensures keeps { KeepsSeats F.rule store.old seat.old store.new seat.new }
@@ -191,11 +205,15 @@ pub fn unmap_with_last<F: FrameAccess>(
 ) -> Option<Entry>
     requires fits { IsSeatOf F.rule store.old seat.old }
     requires held { (t : Tables) × HasTables scheme (F.Seat.view seat.old) root.0 t × IsLastTable scheme t last.old }
-    ensures leaf { (t : Tables) → HasTables scheme (F.Seat.view seat.old) root.0 t → IsLastTable scheme t last.old → result ≡ get t.leaves (walk_leaf scheme page) }
+    ensures leaf { (t : Tables) → HasTables scheme (F.Seat.view seat.old) root.0 t → IsLastTable scheme t last.old
+        → result ≡ get t.leaves (walk_leaf scheme page) }
     ensures kept { (t : Tables) → HasTables scheme (F.Seat.view seat.old) root.0 t → IsLastTable scheme t last.old → IsLastTable scheme t last.new }
-    ensures word { (t : Tables) (f : ℕ) → HasTables scheme (F.Seat.view seat.old) root.0 t → IsLastTable scheme t last.old → get t.tables (last_table scheme page) ≡ Some f → IsSome result → F.Seat.view seat.new ≡ with_word f (vpn page 0) 0 (F.Seat.view seat.old) }
+    ensures word { (t : Tables) (f : ℕ) → HasTables scheme (F.Seat.view seat.old) root.0 t → IsLastTable scheme t last.old
+        → get t.tables (last_table scheme page) ≡ Some f → IsSome result → F.Seat.view seat.new ≡ with_word f (vpn page 0) 0 (F.Seat.view seat.old) }
     ensures none { result ≡ None → F.Seat.view seat.new ≡ F.Seat.view seat.old }
-    ensures tables { (t : Tables) → HasTables scheme (F.Seat.view seat.old) root.0 t → IsLastTable scheme t last.old → HasTables scheme (F.Seat.view seat.new) root.0 (without_leaf t (walk_leaf scheme page)) × ChangesTables (F.Seat.view seat.old) (F.Seat.view seat.new) t t 0 }
+    ensures tables { (t : Tables) → HasTables scheme (F.Seat.view seat.old) root.0 t → IsLastTable scheme t last.old
+        → HasTables scheme (F.Seat.view seat.new) root.0 (without_leaf t (walk_leaf scheme page))
+        × ChangesTables (F.Seat.view seat.old) (F.Seat.view seat.new) t t 0 }
     ensures here { (leaf level : ℕ) → Maps scheme (held_memory (F.Seat.view seat.new)) (ppn_of root.0) page leaf level → ⊥ }
     ensures others { OthersStay scheme (held_memory (F.Seat.view seat.old)) (held_memory (F.Seat.view seat.new)) (ppn_of root.0) page }
     ensures keeps { KeepsSeats F.rule store.old seat.old store.new seat.new }
@@ -220,8 +238,10 @@ fn leaf_in_table<F: FrameAccess>(
 ) -> Option<(FrameNo, Entry)>
     requires fits { IsSeatOf F.rule store.old seat.old }
     requires held { (t : Tables) × HasTables scheme (F.Seat.view seat.old) root.0 t × IsLastTable scheme t last.old }
-    ensures leaf { (t : Tables) → HasTables scheme (F.Seat.view seat.old) root.0 t → IsLastTable scheme t last.old → option_map (λ p. p.1) result ≡ get t.leaves (walk_leaf scheme page) }
-    ensures table { (t : Tables) → HasTables scheme (F.Seat.view seat.old) root.0 t → IsLastTable scheme t last.old → IfSome result (λ p. get t.tables (last_table scheme page) ≡ Some p.0.0) }
+    ensures leaf { (t : Tables) → HasTables scheme (F.Seat.view seat.old) root.0 t → IsLastTable scheme t last.old
+        → option_map (λ p. p.1) result ≡ get t.leaves (walk_leaf scheme page) }
+    ensures table { (t : Tables) → HasTables scheme (F.Seat.view seat.old) root.0 t → IsLastTable scheme t last.old
+        → IfSome result (λ p. get t.tables (last_table scheme page) ≡ Some p.0.0) }
     ensures kept { (t : Tables) → HasTables scheme (F.Seat.view seat.old) root.0 t → IsLastTable scheme t last.old → IsLastTable scheme t last.new }
     ensures view { F.Seat.view seat.new ≡ F.Seat.view seat.old }
     ensures same { store.new ≡ store.old }

@@ -16,10 +16,14 @@ ghost use Rattle.table_walk.specs.Tables.{bare_root, Tables, IsGrown, missing};
 /// less the root; after these are made, the tables are those of no pages. `none`, `same`: a page
 /// that is counted already lacks none.
 pub fn missing_is_growth()
-    ensures missing { (s : Scheme) (t : Tables) (pages : List ℕ) (page : ℕ) → AreTablesOf s t pages → All (λ n. n < page_limit s) pages → page < page_limit s → missing s t page ≡ tables_needed s (page ∷ pages) - tables_needed s pages }
-    ensures grown { (s : Scheme) (t u : Tables) (pages : List ℕ) (page : ℕ) → AreTablesOf s t pages → IsGrown s t u page (top_level s) → AreTablesOf s u (page ∷ pages) }
+    ensures missing { (s : Scheme) (t : Tables) (pages : List ℕ) (page : ℕ) → AreTablesOf s t pages → All (λ n. n < page_limit s) pages
+        → page < page_limit s → missing s t page ≡ tables_needed s (page ∷ pages) - tables_needed s pages }
+    ensures grown { (s : Scheme) (t u : Tables) (pages : List ℕ) (page : ℕ) → AreTablesOf s t pages → IsGrown s t u page (top_level s)
+        → AreTablesOf s u (page ∷ pages) }
     ensures missing_first { (s : Scheme) (t : Tables) (root : ℕ) → t ≡ bare_root s root → missing s t (trampoline_page s) ≡ tables_needed s [] - 1 }
     ensures first { (s : Scheme) (t u : Tables) (root : ℕ) → t ≡ bare_root s root → IsGrown s t u (trampoline_page s) (top_level s) → AreTablesOf s u [] }
-    ensures none { (s : Scheme) (t : Tables) (pages : List ℕ) (page : ℕ) → AreTablesOf s t pages → Contains (trampoline_page s ∷ trapframe_page s ∷ pages) page → missing s t page ≡ 0 }
-    ensures same { (s : Scheme) (t u : Tables) (pages : List ℕ) (page : ℕ) → AreTablesOf s t pages → Contains (trampoline_page s ∷ trapframe_page s ∷ pages) page → IsGrown s t u page (top_level s) → AreTablesOf s u pages }
+    ensures none { (s : Scheme) (t : Tables) (pages : List ℕ) (page : ℕ) → AreTablesOf s t pages
+        → Contains (trampoline_page s ∷ trapframe_page s ∷ pages) page → missing s t page ≡ 0 }
+    ensures same { (s : Scheme) (t u : Tables) (pages : List ℕ) (page : ℕ) → AreTablesOf s t pages
+        → Contains (trampoline_page s ∷ trapframe_page s ∷ pages) page → IsGrown s t u page (top_level s) → AreTablesOf s u pages }
 {}

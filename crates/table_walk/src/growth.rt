@@ -25,7 +25,9 @@ pub(crate) fn grown_table<F: FrameSupply>(
     requires fits { IsSeatOf F.rule store.old seat.old }
     requires anchored { IsHeld (F.Seat.view seat.old) 0 }
     requires tables { (t : Tables) × HasTables scheme (F.Seat.view seat.old) root.0 t × (missing scheme t page ≤ (F.Seat.view seat.old).credits) }
-    ensures tables { (t : Tables) → HasTables scheme (F.Seat.view seat.old) root.0 t → (u : Tables) × IsGrown scheme t u page (top_level scheme) × HasTables scheme (F.Seat.view seat.new) root.0 u × ChangesTables (F.Seat.view seat.old) (F.Seat.view seat.new) t u (missing scheme t page) × (get u.tables (last_table scheme page) ≡ Some result.0) }
+    ensures tables { (t : Tables) → HasTables scheme (F.Seat.view seat.old) root.0 t → (u : Tables)
+        × IsGrown scheme t u page (top_level scheme) × HasTables scheme (F.Seat.view seat.new) root.0 u
+        × ChangesTables (F.Seat.view seat.old) (F.Seat.view seat.new) t u (missing scheme t page) × (get u.tables (last_table scheme page) ≡ Some result.0) }
     ensures keeps { KeepsSeats F.rule store.old seat.old store.new seat.new }
     ensures free { F.alone → F.free store.new ≡ F.free store.old }
 {
@@ -73,7 +75,8 @@ fn new_child<F: FrameSupply>(
     requires sole { IsSole (F.Seat.view seat.old) table.0 }
     requires in_table { index < 512 }
     ensures fresh { references (F.Seat.view seat.old) result.0 ≡ 0 }
-    ensures view { F.Seat.view seat.new ≡ with_word table.0 index (pointer_word result.0) (with_hold result.0 blank_hold (claimed result.0 (F.Seat.view seat.old))) }
+    ensures view { F.Seat.view seat.new ≡ with_word table.0 index (pointer_word result.0)
+        (with_hold result.0 blank_hold (claimed result.0 (F.Seat.view seat.old))) }
     ensures keeps { KeepsSeats F.rule store.old seat.old store.new seat.new }
     ensures free { F.alone → F.free store.new ≡ F.free store.old }
 {

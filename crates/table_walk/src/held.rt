@@ -30,7 +30,8 @@ impl<F: FrameAccess> Words for HeldWords<'_, F> {
 
     ghost there = { λ w ppn index. is_some (frame_at ppn) };
 
-    ghost stays = { λ a b. (b.store.ghost_name ≡ a.store.ghost_name) × (b.seat.ghost_name ≡ a.seat.ghost_name) × (b.store.now ≡ a.store.now) × (F.Seat.view b.seat.now ≡ F.Seat.view a.seat.now) × KeepsSeats F.rule a.store.now a.seat.now b.store.now b.seat.now };
+    ghost stays = { λ a b. (b.store.ghost_name ≡ a.store.ghost_name) × (b.seat.ghost_name ≡ a.seat.ghost_name) × (b.store.now ≡ a.store.now)
+        × (F.Seat.view b.seat.now ≡ F.Seat.view a.seat.now) × KeepsSeats F.rule a.store.now a.seat.now b.store.now b.seat.now };
 
     ghost stays_itself = { λ a. (refl, refl, refl, refl, λ others h. h) };
 

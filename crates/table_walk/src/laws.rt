@@ -25,16 +25,21 @@ pub fn one_found()
 
 /// An access is translated to exactly one outcome, in any memory.
 pub fn one_outcome()
-    ensures at_least { (s : Scheme) (m : Memory) (there : Extent) (root address : ℕ) (access : Access) (mode : Mode) → (x : Walk) × Translates s m there root address access mode x }
-    ensures at_most { (s : Scheme) (m : Memory) (there : Extent) (root address : ℕ) (access : Access) (mode : Mode) (x y : Walk) → Translates s m there root address access mode x → Translates s m there root address access mode y → x ≡ y }
+    ensures at_least { (s : Scheme) (m : Memory) (there : Extent) (root address : ℕ) (access : Access) (mode : Mode) → (x : Walk)
+        × Translates s m there root address access mode x }
+    ensures at_most { (s : Scheme) (m : Memory) (there : Extent) (root address : ℕ) (access : Access) (mode : Mode) (x y : Walk)
+        → Translates s m there root address access mode x → Translates s m there root address access mode y → x ≡ y }
 {}
 
 /// If a seat has the tables below a root (`HasTables`), then walks find the leaves of these tables and no others, each at
 /// level 0 (`leaves`); a leaf is global exactly when it has G itself, as no pointer has it (`global`); no walk reads a word
 /// outside the memory (`inside`); and each page may be walked (`readable`).
 pub fn walks_of_tables()
-    ensures leaves { (s : Scheme) (v : View) (root page leaf level : ℕ) (t : Tables) → HasTables s v root t → Maps s (held_memory v) (ppn_of root) page leaf level ↔ (level ≡ 0) × (get t.leaves (walk_leaf s page) ≡ Some leaf) }
-    ensures global { (s : Scheme) (v : View) (root page leaf : ℕ) (t : Tables) → HasTables s v root t → get t.leaves (walk_leaf s page) ≡ Some leaf → IsGlobal s (held_memory v) (ppn_of root) page 0 ↔ (has leaf 5 ≡ true) }
+    ensures leaves { (s : Scheme) (v : View) (root page leaf level : ℕ) (t : Tables) → HasTables s v root t
+        → Maps s (held_memory v) (ppn_of root) page leaf level ↔ (level ≡ 0) × (get t.leaves (walk_leaf s page) ≡ Some leaf) }
+    ensures global { (s : Scheme) (v : View) (root page leaf : ℕ) (t : Tables) → HasTables s v root t
+        → get t.leaves (walk_leaf s page) ≡ Some leaf → IsGlobal s (held_memory v) (ppn_of root) page 0 ↔ (has leaf 5 ≡ true) }
     ensures inside { (s : Scheme) (v : View) (root page : ℕ) (t : Tables) → HasTables s v root t → LeavesMemory s (held_memory v) (ppn_of root) page → ⊥ }
-    ensures readable { (s : Scheme) (v : View) (root page : ℕ) (t : Tables) → HasTables s v root t → CanWalk s (IsReadable v) (held_memory v) (ppn_of root) page }
+    ensures readable { (s : Scheme) (v : View) (root page : ℕ) (t : Tables) → HasTables s v root t
+        → CanWalk s (IsReadable v) (held_memory v) (ppn_of root) page }
 {}

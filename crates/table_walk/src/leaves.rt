@@ -58,8 +58,10 @@ fn next_below<F: FrameAccess>(
 ) -> Option<(u64, u64)>
     requires fits { IsSeatOf F.rule store.old seat.old }
     requires low { level ≤ 3 }
-    requires held { (s : Scheme) × (root k : ℕ) × (t : Tables) × HasTables s (F.Seat.view seat.old) root t × (get t.tables k ≡ Some table.0) × IsTableAt k level }
-    ensures leaf { (s : Scheme) (root k : ℕ) (t : Tables) → HasTables s (F.Seat.view seat.old) root t → get t.tables k ≡ Some table.0 → IsTableAt k level → IsFirstLeafBefore t k (places level) from end result }
+    requires held { (s : Scheme) × (root k : ℕ) × (t : Tables) × HasTables s (F.Seat.view seat.old) root t × (get t.tables k ≡ Some table.0)
+        × IsTableAt k level }
+    ensures leaf { (s : Scheme) (root k : ℕ) (t : Tables) → HasTables s (F.Seat.view seat.old) root t → get t.tables k ≡ Some table.0
+        → IsTableAt k level → IsFirstLeafBefore t k (places level) from end result }
     ensures view { F.Seat.view seat.new ≡ F.Seat.view seat.old }
     ensures same { store.new ≡ store.old }
     ensures keeps { KeepsSeats F.rule store.old seat.old store.new seat.new }
@@ -95,8 +97,10 @@ fn next_at<F: FrameAccess>(
     requires low { level ≤ 3 }
     requires some { 0 < word }
     requires within { from < 512 ^ level }
-    requires held { (s : Scheme) × (root k i : ℕ) × (t : Tables) × HasTables s (F.Seat.view seat.old) root t × HasEntry (F.Seat.view seat.old) t k level i word }
-    ensures leaf { (s : Scheme) (root k i : ℕ) (t : Tables) → HasTables s (F.Seat.view seat.old) root t → HasEntry (F.Seat.view seat.old) t k level i word → IsFirstLeafBefore t (k * 512 + i) (512 ^ level) from end result }
+    requires held { (s : Scheme) × (root k i : ℕ) × (t : Tables) × HasTables s (F.Seat.view seat.old) root t
+        × HasEntry (F.Seat.view seat.old) t k level i word }
+    ensures leaf { (s : Scheme) (root k i : ℕ) (t : Tables) → HasTables s (F.Seat.view seat.old) root t
+        → HasEntry (F.Seat.view seat.old) t k level i word → IsFirstLeafBefore t (k * 512 + i) (512 ^ level) from end result }
     ensures view { F.Seat.view seat.new ≡ F.Seat.view seat.old }
     ensures same { store.new ≡ store.old }
     ensures keeps { KeepsSeats F.rule store.old seat.old store.new seat.new }

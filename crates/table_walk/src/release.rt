@@ -26,8 +26,10 @@ pub fn release_tables<F: FrameAccess>(
 )
     requires fits { IsSeatOf F.rule store.old seat.old }
     requires bare { (t : Tables) × HasTables scheme (F.Seat.view seat.old) root.0 t × AreLast (F.Seat.view seat.old) t }
-    ensures gone { (t : Tables) → HasTables scheme (F.Seat.view seat.old) root.0 t → (k f : ℕ) → get t.tables k ≡ Some f → hold_of (F.Seat.view seat.new) f ≡ not_held }
-    ensures others { (t : Tables) → HasTables scheme (F.Seat.view seat.old) root.0 t → (f : ℕ) → ((k : ℕ) → get t.tables k ≡ Some f → ⊥) → hold_of (F.Seat.view seat.new) f ≡ hold_of (F.Seat.view seat.old) f }
+    ensures gone { (t : Tables) → HasTables scheme (F.Seat.view seat.old) root.0 t → (k f : ℕ) → get t.tables k ≡ Some f
+        → hold_of (F.Seat.view seat.new) f ≡ not_held }
+    ensures others { (t : Tables) → HasTables scheme (F.Seat.view seat.old) root.0 t → (f : ℕ) → ((k : ℕ) → get t.tables k ≡ Some f → ⊥)
+        → hold_of (F.Seat.view seat.new) f ≡ hold_of (F.Seat.view seat.old) f }
     ensures tallies { SameTallies (F.Seat.view seat.old) (F.Seat.view seat.new) }
     ensures keeps { KeepsSeats F.rule store.old seat.old store.new seat.new }
     ensures free { F.alone → F.free store.old ≤ F.free store.new }
@@ -42,8 +44,11 @@ pub fn release_tables<F: FrameAccess>(
 fn release_below<F: FrameAccess>(store: &mut F, seat: &mut F::Seat, table: FrameNo, level: u32)
     requires fits { IsSeatOf F.rule store.old seat.old }
     requires low { level ≤ 3 }
-    requires bare { (s : Scheme) × (root k : ℕ) × (t : Tables) × HasTables s (F.Seat.view seat.old) root t × AreLast (F.Seat.view seat.old) t × (get t.tables k ≡ Some table.0) × IsTableAt k level }
-    ensures below { (s : Scheme) (root k : ℕ) (t : Tables) → HasTables s (F.Seat.view seat.old) root t → AreLast (F.Seat.view seat.old) t → get t.tables k ≡ Some table.0 → IsTableAt k level → (u : Tables) × ReleasesTables s (F.Seat.view seat.old) (F.Seat.view seat.new) root k t u × ((i : ℕ) → i < 512 → get u.tables (k * 512 + i) ≡ None) }
+    requires bare { (s : Scheme) × (root k : ℕ) × (t : Tables) × HasTables s (F.Seat.view seat.old) root t
+        × AreLast (F.Seat.view seat.old) t × (get t.tables k ≡ Some table.0) × IsTableAt k level }
+    ensures below { (s : Scheme) (root k : ℕ) (t : Tables) → HasTables s (F.Seat.view seat.old) root t → AreLast (F.Seat.view seat.old) t
+        → get t.tables k ≡ Some table.0 → IsTableAt k level → (u : Tables)
+        × ReleasesTables s (F.Seat.view seat.old) (F.Seat.view seat.new) root k t u × ((i : ℕ) → i < 512 → get u.tables (k * 512 + i) ≡ None) }
     ensures keeps { KeepsSeats F.rule store.old seat.old store.new seat.new }
     ensures free { F.alone → F.free store.old ≤ F.free store.new }
 {
@@ -71,8 +76,11 @@ fn release_at<F: FrameAccess>(
     requires low { level ≤ 3 }
     requires above { 0 < level }
     requires in_table { index < 512 }
-    requires bare { (s : Scheme) × (root k : ℕ) × (t : Tables) × HasTables s (F.Seat.view seat.old) root t × AreLast (F.Seat.view seat.old) t × (get t.tables k ≡ Some table.0) × IsTableAt k level }
-    ensures here { (s : Scheme) (root k : ℕ) (t : Tables) → HasTables s (F.Seat.view seat.old) root t → AreLast (F.Seat.view seat.old) t → get t.tables k ≡ Some table.0 → IsTableAt k level → (u : Tables) × ReleasesTables s (F.Seat.view seat.old) (F.Seat.view seat.new) root k t u × (get u.tables (k * 512 + index) ≡ None) }
+    requires bare { (s : Scheme) × (root k : ℕ) × (t : Tables) × HasTables s (F.Seat.view seat.old) root t
+        × AreLast (F.Seat.view seat.old) t × (get t.tables k ≡ Some table.0) × IsTableAt k level }
+    ensures here { (s : Scheme) (root k : ℕ) (t : Tables) → HasTables s (F.Seat.view seat.old) root t → AreLast (F.Seat.view seat.old) t
+        → get t.tables k ≡ Some table.0 → IsTableAt k level → (u : Tables)
+        × ReleasesTables s (F.Seat.view seat.old) (F.Seat.view seat.new) root k t u × (get u.tables (k * 512 + index) ≡ None) }
     ensures keeps { KeepsSeats F.rule store.old seat.old store.new seat.new }
     ensures free { F.alone → F.free store.old ≤ F.free store.new }
 {

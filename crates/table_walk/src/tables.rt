@@ -20,9 +20,11 @@ pub(crate) fn child<F: FrameAccess>(
     index: usize,
 ) -> Option<FrameNo>
     requires fits { IsSeatOf F.rule store.old seat.old }
-    requires held { (s : Scheme) × (root k : ℕ) × (t : Tables) × HasTables s (F.Seat.view seat.old) root t × (get t.tables k ≡ Some table.0) × (k * 512 + index < first_leaf) }
+    requires held { (s : Scheme) × (root k : ℕ) × (t : Tables) × HasTables s (F.Seat.view seat.old) root t × (get t.tables k ≡ Some table.0)
+        × (k * 512 + index < first_leaf) }
     requires in_table { index < 512 }
-    ensures child { (s : Scheme) (root k : ℕ) (t : Tables) → HasTables s (F.Seat.view seat.old) root t → get t.tables k ≡ Some table.0 → k * 512 + index < first_leaf → option_map (λ f. f.0) result ≡ get t.tables (k * 512 + index) }
+    ensures child { (s : Scheme) (root k : ℕ) (t : Tables) → HasTables s (F.Seat.view seat.old) root t → get t.tables k ≡ Some table.0
+        → k * 512 + index < first_leaf → option_map (λ f. f.0) result ≡ get t.tables (k * 512 + index) }
     ensures view { F.Seat.view seat.new ≡ F.Seat.view seat.old }
     ensures same { store.new ≡ store.old }
     ensures keeps { KeepsSeats F.rule store.old seat.old store.new seat.new }
@@ -56,8 +58,10 @@ fn deepest_table<F: FrameAccess>(
 ) -> (FrameNo, u32)
     requires fits { IsSeatOf F.rule store.old seat.old }
     requires held { (t : Tables) × HasTables scheme (F.Seat.view seat.old) root.0 t }
-    ensures there { (t : Tables) → HasTables scheme (F.Seat.view seat.old) root.0 t → get t.tables (node scheme page (top_level scheme - result.1)) ≡ Some result.0.0 }
-    ensures last { (t : Tables) → HasTables scheme (F.Seat.view seat.old) root.0 t → 0 < result.1 → get t.tables (node scheme page (suc (top_level scheme - result.1))) ≡ None }
+    ensures there { (t : Tables) → HasTables scheme (F.Seat.view seat.old) root.0 t
+        → get t.tables (node scheme page (top_level scheme - result.1)) ≡ Some result.0.0 }
+    ensures last { (t : Tables) → HasTables scheme (F.Seat.view seat.old) root.0 t → 0 < result.1
+        → get t.tables (node scheme page (suc (top_level scheme - result.1))) ≡ None }
     ensures low { result.1 ≤ top_level scheme }
     ensures view { F.Seat.view seat.new ≡ F.Seat.view seat.old }
     ensures same { store.new ≡ store.old }

@@ -80,7 +80,8 @@ pub fn translate_held<F: FrameAccess>(
 ) -> Walk
     requires fits { IsSeatOf F.rule store.old seat.old }
     requires held { (t : Tables) × HasTables scheme (F.Seat.view seat.old) root.0 t }
-    ensures outcome { (t : Tables) → HasTables scheme (F.Seat.view seat.old) root.0 t → LeavesAreThere scheme t → result ≡ walk_answer scheme t va.0 access mode }
+    ensures outcome { (t : Tables) → HasTables scheme (F.Seat.view seat.old) root.0 t → LeavesAreThere scheme t
+        → result ≡ walk_answer scheme t va.0 access mode }
     ensures view { F.Seat.view seat.new ≡ F.Seat.view seat.old }
     ensures same { store.new ≡ store.old }
     ensures keeps { KeepsSeats F.rule store.old seat.old store.new seat.new }

@@ -49,7 +49,8 @@ copy_progress p = record { process = p; fresh = 0; taken = 0 }
 -- of the bytes that it was given
 
 abbrev pub model_copy_in : List File → Process → ℕ → ℕ → List ℕ → Option Stop → Copied
-model_copy_in files p address n bytes stop = copied_in (copy_environment files stop (address + length bytes)) (copy_progress p) address (asked n (length bytes) stop)
+model_copy_in files p address n bytes stop =
+    copied_in (copy_environment files stop (address + length bytes)) (copy_progress p) address (asked n (length bytes) stop)
 
 abbrev pub model_copy_out : List File → Process → ℕ → List ℕ → List ℕ → Option Stop → Copied
 model_copy_out files p address given bytes stop =

@@ -37,7 +37,8 @@ pub record StoreModel (Seat Frames Cabinet : Type 0) : Type 1 where
   pub becomes : Cabinet → List PageMove → Cabinet → Type 0
   pub can_refuse : Cabinet → ℕ → PromiseError → Type 0
 
-abbrev pub store_model : {Seat Frames Cabinet : Type 0} → (Seat → View) → (Frames → List Seat → Type 0) → Type 0 → (Frames → ℕ) → (Frames → ℕ → ℕ) → (Cabinet → List File) → (Cabinet → List PageMove → Cabinet → Type 0)
+abbrev pub store_model : {Seat Frames Cabinet : Type 0} → (Seat → View) → (Frames → List Seat → Type 0) → Type 0 → (Frames → ℕ)
+    → (Frames → ℕ → ℕ) → (Cabinet → List File) → (Cabinet → List PageMove → Cabinet → Type 0)
     → (Cabinet → ℕ → PromiseError → Type 0) → StoreModel Seat Frames Cabinet
 store_model view rule alone free count files becomes can_refuse =
     record { view = view; rule = rule; alone = alone; free = free; count = count; files = files; becomes = becomes; can_refuse = can_refuse }
@@ -62,9 +63,11 @@ served_of (Err (Unpromised e)) = served.Unserved e
 
 -- The page of an address was made resident for an access of one byte; or a rule denies it, or frames were too few, or a page
 -- of a file was not promised. The fields are the clauses of `serve`, without alignment.
-pub record Reaches {Seat Frames Cabinet : Type 0} (l : StoreModel Seat Frames Cabinet) (a b : Place Seat Frames Cabinet) (access : Access) (address : ℕ) (r : Result (Unit {0}) Stop) : Type 0 where
+pub record Reaches {Seat Frames Cabinet : Type 0} (l : StoreModel Seat Frames Cabinet) (a b : Place Seat Frames Cabinet) (access : Access)
+    (address : ℕ) (r : Result (Unit {0}) Stop) : Type 0 where
   pub ended : (t : Tables) (p : Process) → IsSpace (body_at l a) t p → IsEnd (copy_rule p.scheme (regions p) access address) (served_of r)
-  pub ready : served_of r ≡ served.Ready → HasMadeResident (body_at l a) (body_at l b) (l.files a.files) access (page_of address) (λ f c. l.alone → c ≡ l.count a.store f)
+  pub ready : served_of r ≡ served.Ready
+      → HasMadeResident (body_at l a) (body_at l b) (l.files a.files) access (page_of address) (λ f c. l.alone → c ≡ l.count a.store f)
   pub dry : served_of r ≡ served.Ended NoFrame → LacksFrames (body_at l a) (body_at l b) access (page_of address)
   pub whole : (rule : Rule) → served_of r ≡ served.Ended rule → (t : Tables) (p : Process) → IsSpace (body_at l a) t p → IsSpace (body_at l b) t p
   pub unpromised : (e : Refusal) → served_of r ≡ served.Unserved e → (x : PromiseError) × l.can_refuse a.files 1 x × (e ≡ refusal_of x)
@@ -76,8 +79,10 @@ pub record Reaches {Seat Frames Cabinet : Type 0} (l : StoreModel Seat Frames Ca
   pub moves : ((e : Refusal) → served_of r ≢ served.Unserved e) → (t : Tables) (p : Process) → IsSpace (body_at l a) t p
       → l.becomes a.files (served_moves (l.files a.files) p (page_of address) (copy_rule p.scheme (regions p) access address)) b.files
   pub enough : l.alone → WhenMadeResident (body_at l a) access (page_of address) (l.count a.store) (λ need. served_of r ≡ served.Ready → need ≤ l.free a.store)
-  pub short : l.alone → WhenMadeResident (body_at l a) access (page_of address) (l.count a.store) (λ need. served_of r ≡ served.Ended NoFrame → l.free a.store < need)
-  pub free : l.alone → WhenMadeResident (body_at l a) access (page_of address) (l.count a.store) (λ need. l.free b.store ≡ l.free a.store - (if is_ready (served_of r) then need else 0))
+  pub short : l.alone → WhenMadeResident (body_at l a) access (page_of address) (l.count a.store) (λ need.
+      served_of r ≡ served.Ended NoFrame → l.free a.store < need)
+  pub free : l.alone → WhenMadeResident (body_at l a) access (page_of address) (l.count a.store) (λ need.
+      l.free b.store ≡ l.free a.store - (if is_ready (served_of r) then need else 0))
   pub root : b.space.root ≡ a.space.root
   pub trapframe : b.space.trapframe ≡ a.space.trapframe
   pub layout : b.space.layout ≡ a.space.layout

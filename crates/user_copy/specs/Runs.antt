@@ -2,7 +2,8 @@
 -- (`runs`, `runs_of`); what is done with one that is read (`IsRead`) or stored (`Puts`); the whole copy (`CopiesIn`,
 -- `CopiesOut`): each page is made resident (in memory and ready) once, at the run's first address, and then the run is
 -- copied. The first run that is stopped ends the copy; the runs before it stay copied.
-use Rattle.std.specs.Prelude.{◌≡◌, ℕ, zero, suc, ◌+◌, ◌-◌, ◌%◌, nat_le, Option, None, Some, Result, Ok, Err, List, [], ◌∷◌, ◌++◌, drop, length, take, if◌then◌else◌}
+use Rattle.std.specs.Prelude.{◌≡◌, ℕ, zero, suc, ◌+◌, ◌-◌, ◌%◌, nat_le, Option, None, Some, Result, Ok, Err, List, [], ◌∷◌, ◌++◌, drop}
+use Rattle.std.specs.Prelude.{length, take, if◌then◌else◌}
 use Rattle.address_space.specs.Agreement.{IsSpace}
 use Rattle.address_space.specs.Steps.{CanRead, CanWrite, TakesFrames}
 use Rattle.frame_store.specs.Laws.{KeepsSeats}

@@ -51,19 +51,38 @@ pub fn copy_in<S: FrameSeat, F: FrameSupply<Seat = S>, C: Files>(
     requires fits { IsSeatOf F.rule store.old space.old.seat }
     requires ready { IsAlive (body_of S.view space.old) }
     requires few { n ≤ longest_copy }
-    ensures copied { IfOk result (λ bytes. CopiesIn (store_model S.view F.rule F.alone F.free F.count C.files C.becomes C.can_refuse) (runs va.0 n) (place space.old store.old files.old) (place space.new store.new files.new) [] bytes.items None) }
-    ensures stopped { IfErr result (λ short. CopiesIn (store_model S.view F.rule F.alone F.free F.count C.files C.becomes C.can_refuse) (runs va.0 n) (place space.old store.old files.old) (place space.new store.new files.new) [] short.bytes.items (Some short.rule)) }
+    ensures copied { IfOk result (λ bytes.
+        CopiesIn (store_model S.view F.rule F.alone F.free F.count C.files C.becomes C.can_refuse) (runs va.0 n)
+        (place space.old store.old files.old) (place space.new store.new files.new) [] bytes.items None) }
+    ensures stopped { IfErr result (λ short.
+        CopiesIn (store_model S.view F.rule F.alone F.free F.count C.files C.becomes C.can_refuse) (runs va.0 n)
+        (place space.old store.old files.old) (place space.new store.new files.new) [] short.bytes.items (Some short.rule)) }
     ensures done { IfErr result (λ short. short.done ≡ length short.bytes.items) }
-    ensures model { (t : Tables) (p : Process) → IsSpace (body_of S.view space.old) t p → IsModelCopy (body_of S.view space.new) (model_copy_in (C.files files.old) p va.0 n (bytes_in result) (stop_in result)) (bytes_in result) (stop_in result) }
+    ensures model { (t : Tables) (p : Process) → IsSpace (body_of S.view space.old) t p
+        → IsModelCopy (body_of S.view space.new) (model_copy_in (C.files files.old) p va.0 n (bytes_in result) (stop_in result))
+        (bytes_in result) (stop_in result) }
     ensures whole { IfOk result (λ bytes. length bytes.items ≡ n) }
     ensures fewer { IfErr result (λ short. short.done < n) }
-    ensures bytes { (t : Tables) (p : Process) → IsSpace (body_of S.view space.old) t p → bytes_in result ≡ process_bytes (C.files files.old) p va.0 (length (bytes_in result)) }
+    ensures bytes { (t : Tables) (p : Process) → IsSpace (body_of S.view space.old) t p
+        → bytes_in result ≡ process_bytes (C.files files.old) p va.0 (length (bytes_in result)) }
     ensures granted { (t : Tables) (p : Process) → IsSpace (body_of S.view space.old) t p → AreGranted p Load va.0 (length (bytes_in result)) }
-    ensures first { (t : Tables) (p : Process) → IsSpace (body_of S.view space.old) t p → IfErr result (λ short. (rule : Rule) → short.rule ≡ Denied rule → rule ≢ NoFrame → copy_rule p.scheme (regions p) Load (va.0 + short.done) ≡ Some rule) }
-    ensures dry { (t : Tables) (p : Process) → IsSpace (body_of S.view space.old) t p → IfErr result (λ short. short.rule ≡ Denied NoFrame → (copy_rule p.scheme (regions p) Load (va.0 + short.done) ≡ None) × (is_resident p Load (page_of (va.0 + short.done)) ≡ false)) }
-    ensures unpromised { (t : Tables) (p : Process) → IsSpace (body_of S.view space.old) t p → IfErr result (λ short. (e : Refusal) → short.rule ≡ Unpromised e → (copy_rule p.scheme (regions p) Load (va.0 + short.done) ≡ None) × (0 < length (resident_reads (C.files files.old) p (page_of (va.0 + short.done))))) }
-    ensures after { (t : Tables) (p : Process) → IsSpace (body_of S.view space.old) t p → (u : Tables) × (q : Process) × IsSpace (body_of S.view space.new) u q × IsAfterCopy Load va.0 (length (bytes_in result)) p q × HasSameBytes (C.files files.old) p q }
-    ensures lacks { (t : Tables) (p : Process) → IsSpace (body_of S.view space.old) t p → IfErr result (λ short. short.rule ≡ Denied NoFrame → (u : Tables) × (q : Process) × IsSpace (body_of S.view space.new) u q × IsAfterCopy Load va.0 short.done p q × RanShort (S.view space.old.seat) (S.view space.new.seat) q Load (page_of (va.0 + short.done)) × (F.alone → F.free store.new < resident_need true q Load (page_of (va.0 + short.done)))) }
+    ensures first { (t : Tables) (p : Process) → IsSpace (body_of S.view space.old) t p
+        → IfErr result (λ short. (rule : Rule) → short.rule ≡ Denied rule → rule ≢ NoFrame
+        → copy_rule p.scheme (regions p) Load (va.0 + short.done) ≡ Some rule) }
+    ensures dry { (t : Tables) (p : Process) → IsSpace (body_of S.view space.old) t p
+        → IfErr result (λ short. short.rule ≡ Denied NoFrame → (copy_rule p.scheme (regions p) Load (va.0 + short.done) ≡ None)
+        × (is_resident p Load (page_of (va.0 + short.done)) ≡ false)) }
+    ensures unpromised { (t : Tables) (p : Process) → IsSpace (body_of S.view space.old) t p
+        → IfErr result (λ short. (e : Refusal) → short.rule ≡ Unpromised e
+        → (copy_rule p.scheme (regions p) Load (va.0 + short.done) ≡ None)
+        × (0 < length (resident_reads (C.files files.old) p (page_of (va.0 + short.done))))) }
+    ensures after { (t : Tables) (p : Process) → IsSpace (body_of S.view space.old) t p → (u : Tables) × (q : Process)
+        × IsSpace (body_of S.view space.new) u q × IsAfterCopy Load va.0 (length (bytes_in result)) p q × HasSameBytes (C.files files.old) p q }
+    ensures lacks { (t : Tables) (p : Process) → IsSpace (body_of S.view space.old) t p
+        → IfErr result (λ short. short.rule ≡ Denied NoFrame → (u : Tables) × (q : Process) × IsSpace (body_of S.view space.new) u q
+        × IsAfterCopy Load va.0 short.done p q
+        × RanShort (S.view space.old.seat) (S.view space.new.seat) q Load (page_of (va.0 + short.done))
+        × (F.alone → F.free store.new < resident_need true q Load (page_of (va.0 + short.done)))) }
     ensures same_files { C.files files.new ≡ C.files files.old }
     ensures space { StillStands (body_of S.view space.old) (body_of S.view space.new) }
     ensures keeps { KeepsSeats F.rule store.old space.old.seat store.new space.new.seat }
@@ -96,17 +115,36 @@ pub fn copy_out<S: FrameSeat, F: FrameSupply<Seat = S>, C: Files>(
     requires fits { IsSeatOf F.rule store.old space.old.seat }
     requires ready { IsAlive (body_of S.view space.old) }
     requires few { length bytes.now ≤ longest_copy }
-    ensures copied { IfOk result (λ _. CopiesOut (store_model S.view F.rule F.alone F.free F.count C.files C.becomes C.can_refuse) (runs_of va.0 bytes.now) (place space.old store.old files.old) (place space.new store.new files.new) 0 (length bytes.now) None) }
-    ensures stopped { IfErr result (λ short. CopiesOut (store_model S.view F.rule F.alone F.free F.count C.files C.becomes C.can_refuse) (runs_of va.0 bytes.now) (place space.old store.old files.old) (place space.new store.new files.new) 0 short.done (Some short.rule)) }
+    ensures copied { IfOk result (λ _.
+        CopiesOut (store_model S.view F.rule F.alone F.free F.count C.files C.becomes C.can_refuse) (runs_of va.0 bytes.now)
+        (place space.old store.old files.old) (place space.new store.new files.new) 0 (length bytes.now) None) }
+    ensures stopped { IfErr result (λ short.
+        CopiesOut (store_model S.view F.rule F.alone F.free F.count C.files C.becomes C.can_refuse) (runs_of va.0 bytes.now)
+        (place space.old store.old files.old) (place space.new store.new files.new) 0 short.done (Some short.rule)) }
     ensures none { IfErr result (λ short. short.bytes.items ≡ []) }
-    ensures model { (t : Tables) (p : Process) → IsSpace (body_of S.view space.old) t p → IsModelCopy (body_of S.view space.new) (model_copy_out (C.files files.old) p va.0 bytes.now (bytes_out bytes.now result) (stop_in result)) (bytes_out bytes.now result) (stop_in result) }
+    ensures model { (t : Tables) (p : Process) → IsSpace (body_of S.view space.old) t p
+        → IsModelCopy (body_of S.view space.new)
+        (model_copy_out (C.files files.old) p va.0 bytes.now (bytes_out bytes.now result) (stop_in result)) (bytes_out bytes.now result) (stop_in result) }
     ensures fewer { IfErr result (λ short. short.done < length bytes.now) }
     ensures granted { (t : Tables) (p : Process) → IsSpace (body_of S.view space.old) t p → AreGranted p Store va.0 (length (bytes_out bytes.now result)) }
-    ensures first { (t : Tables) (p : Process) → IsSpace (body_of S.view space.old) t p → IfErr result (λ short. (rule : Rule) → short.rule ≡ Denied rule → rule ≢ NoFrame → copy_rule p.scheme (regions p) Store (va.0 + short.done) ≡ Some rule) }
-    ensures dry { (t : Tables) (p : Process) → IsSpace (body_of S.view space.old) t p → IfErr result (λ short. short.rule ≡ Denied NoFrame → (copy_rule p.scheme (regions p) Store (va.0 + short.done) ≡ None) × (is_resident p Store (page_of (va.0 + short.done)) ≡ false)) }
-    ensures unpromised { (t : Tables) (p : Process) → IsSpace (body_of S.view space.old) t p → IfErr result (λ short. (e : Refusal) → short.rule ≡ Unpromised e → (copy_rule p.scheme (regions p) Store (va.0 + short.done) ≡ None) × (0 < length (resident_reads (C.files files.old) p (page_of (va.0 + short.done))))) }
-    ensures after { (t : Tables) (p : Process) → IsSpace (body_of S.view space.old) t p → (u : Tables) × (q : Process) × IsSpace (body_of S.view space.new) u q × IsAfterCopy Store va.0 (length (bytes_out bytes.now result)) p q × HasPut (C.files files.old) va.0 (bytes_out bytes.now result) p q }
-    ensures lacks { (t : Tables) (p : Process) → IsSpace (body_of S.view space.old) t p → IfErr result (λ short. short.rule ≡ Denied NoFrame → (u : Tables) × (q : Process) × IsSpace (body_of S.view space.new) u q × IsAfterCopy Store va.0 short.done p q × RanShort (S.view space.old.seat) (S.view space.new.seat) q Store (page_of (va.0 + short.done)) × (F.alone → F.free store.new < resident_need true q Store (page_of (va.0 + short.done)))) }
+    ensures first { (t : Tables) (p : Process) → IsSpace (body_of S.view space.old) t p
+        → IfErr result (λ short. (rule : Rule) → short.rule ≡ Denied rule → rule ≢ NoFrame
+        → copy_rule p.scheme (regions p) Store (va.0 + short.done) ≡ Some rule) }
+    ensures dry { (t : Tables) (p : Process) → IsSpace (body_of S.view space.old) t p
+        → IfErr result (λ short. short.rule ≡ Denied NoFrame → (copy_rule p.scheme (regions p) Store (va.0 + short.done) ≡ None)
+        × (is_resident p Store (page_of (va.0 + short.done)) ≡ false)) }
+    ensures unpromised { (t : Tables) (p : Process) → IsSpace (body_of S.view space.old) t p
+        → IfErr result (λ short. (e : Refusal) → short.rule ≡ Unpromised e
+        → (copy_rule p.scheme (regions p) Store (va.0 + short.done) ≡ None)
+        × (0 < length (resident_reads (C.files files.old) p (page_of (va.0 + short.done))))) }
+    ensures after { (t : Tables) (p : Process) → IsSpace (body_of S.view space.old) t p → (u : Tables) × (q : Process)
+        × IsSpace (body_of S.view space.new) u q × IsAfterCopy Store va.0 (length (bytes_out bytes.now result)) p q
+        × HasPut (C.files files.old) va.0 (bytes_out bytes.now result) p q }
+    ensures lacks { (t : Tables) (p : Process) → IsSpace (body_of S.view space.old) t p
+        → IfErr result (λ short. short.rule ≡ Denied NoFrame → (u : Tables) × (q : Process) × IsSpace (body_of S.view space.new) u q
+        × IsAfterCopy Store va.0 short.done p q
+        × RanShort (S.view space.old.seat) (S.view space.new.seat) q Store (page_of (va.0 + short.done))
+        × (F.alone → F.free store.new < resident_need true q Store (page_of (va.0 + short.done)))) }
     ensures same_files { C.files files.new ≡ C.files files.old }
     ensures space { StillStands (body_of S.view space.old) (body_of S.view space.new) }
     ensures keeps { KeepsSeats F.rule store.old space.old.seat store.new space.new.seat }
@@ -135,8 +173,12 @@ fn read_pages<S: FrameSeat, F: FrameSupply<Seat = S>, C: Files>(
     requires ready { IsAlive (body_of S.view space.old) }
     requires few { n ≤ longest_copy }
     requires empty { bytes.old.items ≡ [] }
-    ensures copied { IfOk result (λ _. CopiesIn (store_model S.view F.rule F.alone F.free F.count C.files C.becomes C.can_refuse) (runs va.0 n) (place space.old store.old files.old) (place space.new store.new files.new) [] bytes.new.items None) }
-    ensures stopped { IfErr result (λ stop. CopiesIn (store_model S.view F.rule F.alone F.free F.count C.files C.becomes C.can_refuse) (runs va.0 n) (place space.old store.old files.old) (place space.new store.new files.new) [] bytes.new.items (Some stop)) }
+    ensures copied { IfOk result (λ _.
+        CopiesIn (store_model S.view F.rule F.alone F.free F.count C.files C.becomes C.can_refuse) (runs va.0 n)
+        (place space.old store.old files.old) (place space.new store.new files.new) [] bytes.new.items None) }
+    ensures stopped { IfErr result (λ stop.
+        CopiesIn (store_model S.view F.rule F.alone F.free F.count C.files C.becomes C.can_refuse) (runs va.0 n)
+        (place space.old store.old files.old) (place space.new store.new files.new) [] bytes.new.items (Some stop)) }
     ensures space { StillStands (body_of S.view space.old) (body_of S.view space.new) }
     ensures keeps { KeepsSeats F.rule store.old space.old.seat store.new space.new.seat }
 {
@@ -163,8 +205,12 @@ fn read_page<S: FrameSeat, F: FrameSupply<Seat = S>, C: Files>(
     requires ready { IsAlive (body_of S.view space.old) }
     requires inside { va.0 % 4096 + n ≤ 4096 }
     requires few { length bytes.old.items + n ≤ longest_copy }
-    ensures copied { IfOk result (λ _. CopiesIn (store_model S.view F.rule F.alone F.free F.count C.files C.becomes C.can_refuse) (some_run va.0 n) (place space.old store.old files.old) (place space.new store.new files.new) bytes.old.items bytes.new.items None) }
-    ensures stopped { IfErr result (λ stop. CopiesIn (store_model S.view F.rule F.alone F.free F.count C.files C.becomes C.can_refuse) (some_run va.0 n) (place space.old store.old files.old) (place space.new store.new files.new) bytes.old.items bytes.new.items (Some stop)) }
+    ensures copied { IfOk result (λ _.
+        CopiesIn (store_model S.view F.rule F.alone F.free F.count C.files C.becomes C.can_refuse) (some_run va.0 n)
+        (place space.old store.old files.old) (place space.new store.new files.new) bytes.old.items bytes.new.items None) }
+    ensures stopped { IfErr result (λ stop.
+        CopiesIn (store_model S.view F.rule F.alone F.free F.count C.files C.becomes C.can_refuse) (some_run va.0 n)
+        (place space.old store.old files.old) (place space.new store.new files.new) bytes.old.items bytes.new.items (Some stop)) }
     ensures more { IfOk result (λ _. length bytes.new.items ≡ length bytes.old.items + n) }
     ensures low { IfOk result (λ _. 0 < n → va.0 < maxva space.old.layout.scheme) }
     ensures space { StillStands (body_of S.view space.old) (body_of S.view space.new) }
@@ -197,8 +243,12 @@ fn write_pages<S: FrameSeat, F: FrameSupply<Seat = S>, C: Files>(
     requires fits { IsSeatOf F.rule store.old space.old.seat }
     requires ready { IsAlive (body_of S.view space.old) }
     requires few { length bytes.now ≤ longest_copy }
-    ensures copied { IfOk result (λ _. CopiesOut (store_model S.view F.rule F.alone F.free F.count C.files C.becomes C.can_refuse) (runs_of va.0 bytes.now) (place space.old store.old files.old) (place space.new store.new files.new) 0 (length bytes.now) None) }
-    ensures stopped { IfErr result (λ short. CopiesOut (store_model S.view F.rule F.alone F.free F.count C.files C.becomes C.can_refuse) (runs_of va.0 bytes.now) (place space.old store.old files.old) (place space.new store.new files.new) 0 short.done (Some short.rule)) }
+    ensures copied { IfOk result (λ _.
+        CopiesOut (store_model S.view F.rule F.alone F.free F.count C.files C.becomes C.can_refuse) (runs_of va.0 bytes.now)
+        (place space.old store.old files.old) (place space.new store.new files.new) 0 (length bytes.now) None) }
+    ensures stopped { IfErr result (λ short.
+        CopiesOut (store_model S.view F.rule F.alone F.free F.count C.files C.becomes C.can_refuse) (runs_of va.0 bytes.now)
+        (place space.old store.old files.old) (place space.new store.new files.new) 0 short.done (Some short.rule)) }
     ensures none { IfErr result (λ short. short.bytes.items ≡ []) }
     ensures space { StillStands (body_of S.view space.old) (body_of S.view space.new) }
     ensures keeps { KeepsSeats F.rule store.old space.old.seat store.new space.new.seat }
@@ -225,8 +275,12 @@ fn write_page<S: FrameSeat, F: FrameSupply<Seat = S>, C: Files>(
     requires fits { IsSeatOf F.rule store.old space.old.seat }
     requires ready { IsAlive (body_of S.view space.old) }
     requires inside { va.0 % 4096 + length bytes.now ≤ 4096 }
-    ensures copied { IfOk result (λ _. CopiesOut (store_model S.view F.rule F.alone F.free F.count C.files C.becomes C.can_refuse) (some_bytes va.0 bytes.now) (place space.old store.old files.old) (place space.new store.new files.new) done (done + length bytes.now) None) }
-    ensures stopped { IfErr result (λ short. CopiesOut (store_model S.view F.rule F.alone F.free F.count C.files C.becomes C.can_refuse) (some_bytes va.0 bytes.now) (place space.old store.old files.old) (place space.new store.new files.new) done short.done (Some short.rule)) }
+    ensures copied { IfOk result (λ _.
+        CopiesOut (store_model S.view F.rule F.alone F.free F.count C.files C.becomes C.can_refuse) (some_bytes va.0 bytes.now)
+        (place space.old store.old files.old) (place space.new store.new files.new) done (done + length bytes.now) None) }
+    ensures stopped { IfErr result (λ short.
+        CopiesOut (store_model S.view F.rule F.alone F.free F.count C.files C.becomes C.can_refuse) (some_bytes va.0 bytes.now)
+        (place space.old store.old files.old) (place space.new store.new files.new) done short.done (Some short.rule)) }
     ensures none { IfErr result (λ short. short.bytes.items ≡ []) }
     ensures low { IfOk result (λ _. 0 < length bytes.now → va.0 < maxva space.old.layout.scheme) }
     ensures space { StillStands (body_of S.view space.old) (body_of S.view space.new) }
@@ -253,7 +307,8 @@ fn reach<S: FrameSeat, F: FrameSupply<Seat = S>, C: Files>(
 ) -> Result<(), Stop>
     requires fits { IsSeatOf F.rule store.old space.old.seat }
     requires ready { IsAlive (body_of S.view space.old) }
-    ensures reaches { Reaches (store_model S.view F.rule F.alone F.free F.count C.files C.becomes C.can_refuse) (place space.old store.old files.old) (place space.new store.new files.new) access va.0 result }
+    ensures reaches { Reaches (store_model S.view F.rule F.alone F.free F.count C.files C.becomes C.can_refuse)
+        (place space.old store.old files.old) (place space.new store.new files.new) access va.0 result }
     ensures keeps { KeepsSeats F.rule store.old space.old.seat store.new space.new.seat }
 {
     stop_of(serve(space, store, files, va, 1, access))

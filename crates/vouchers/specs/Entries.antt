@@ -35,7 +35,9 @@ abbrev pub birth_code : Coded Birth
 birth_code = code_by (ℕ × Gv) (coded× coded_ℕ itself) (λ b. (b.list, b.opening)) (λ p. record { list = p.0; opening = p.1 }) (λ _. refl)
 
 abbrev pub entry_code : Coded TokenEntry
-entry_code = code_by (List ℕ × (Birth × List Birth)) (coded× (coded_list coded_ℕ) (coded× birth_code (coded_list birth_code))) (λ e. (e.name, (e.birth, e.children))) (λ p. record { name = p.0; birth = p.1.0; children = p.1.1 }) (λ _. refl)
+entry_code = code_by (List ℕ
+    × (Birth × List Birth)) (coded× (coded_list coded_ℕ) (coded× birth_code (coded_list birth_code))) (λ e.
+    (e.name, (e.birth, e.children))) (λ p. record { name = p.0; birth = p.1.0; children = p.1.1 }) (λ _. refl)
 
 -- The view of an issuer or a token. `keeps`: it is an issuer's. `given`: the issuer's list, of entries issued and not
 -- redeemed. `held`: the entry that a token holds
@@ -48,8 +50,17 @@ pub record View : Type 0 where
   pub before : List TokenEntry
 
 abbrev pub view_code : Coded View
-view_code = code_by (Bool × (List TokenEntry × (List TokenEntry × (List TokenEntry × List TokenEntry)))) (coded× coded_bool (coded× (coded_list entry_code) (coded× (coded_list entry_code) (coded× (coded_list entry_code) (coded_list entry_code)))))
-    (λ v. (v.keeps, (v.given, (v.held, (v.back, v.before))))) (λ p. record { keeps = p.0; given = p.1.0; held = p.1.1.0; back = p.1.1.1.0; before = p.1.1.1.1 }) (λ _. refl)
+view_code = code_by (Bool
+    × (List TokenEntry × (List TokenEntry
+    × (List TokenEntry × List TokenEntry))))
+    (coded× coded_bool (coded× (coded_list entry_code) (coded× (coded_list entry_code) (coded× (coded_list entry_code) (coded_list entry_code)))))
+    (λ v. (v.keeps, (v.given, (v.held, (v.back, v.before))))) (λ p. record {
+      keeps = p.0;
+      given = p.1.0;
+      held = p.1.1.0;
+      back = p.1.1.1.0;
+      before = p.1.1.1.1;
+    }) (λ _. refl)
 
 -- equality of names, of codes, of births and of entries, as a test
 abbrev pub same_name : List ℕ → List ℕ → Bool

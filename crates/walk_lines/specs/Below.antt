@@ -15,7 +15,8 @@ by_kind kind.Pointer e below = e ∷ below
 
 abbrev pub by_word : (ℕ → List TableEntry) → ℕ → ℕ → ℕ → ℕ → Option ℕ → List TableEntry
 by_word below level table index page None = []
-by_word below level table index page (Some w) = by_kind (kind_of w) (record { level = level; table = table; index = index; page = page; word = w }) (below (ppn w))
+by_word below level table index page (Some w) =
+    by_kind (kind_of w) (record { level = level; table = table; index = index; page = page; word = w }) (below (ppn w))
 
 -- the lists of the first n indices, one after another
 unfoldable pub in_turn : (ℕ → List TableEntry) → ℕ → List TableEntry

@@ -41,7 +41,8 @@ IsBefore d e = (d.page < e.page) ⊎ ((d.page ≡ e.page) × (e.level < d.level)
 pub record IsListing (s : Scheme) (m : Memory) (root : ℕ) (es : List TableEntry) : Type 0 where
   pub each : All (IsValidEntry s m root) es
   -- none is left out: it has every valid entry that the walk of a page reads
-  pub all : (page level word : ℕ) → page < page_limit s → (r : Reads s m root page level (Some word)) → IsValid word → Contains es (entry_read page level r.table word)
+  pub all : (page level word : ℕ) → page < page_limit s → (r : Reads s m root page level (Some word)) → IsValid word
+      → Contains es (entry_read page level r.table word)
   pub order : AllPairs IsBefore es
 
 -- the first virtual address of a page, by its indices alone: that of the lower half of the addresses, or, if the highest

@@ -22,7 +22,8 @@ letter set text = if set then text else codes "-"
 -- V, R, W, X, U, G, A and D, bits 0 to 7 of a page table entry, and C, bit 8, by which the kernel marks copy-on-write
 abbrev pub flags_text : ℕ → List ℕ
 flags_text w =
-    letter (has w 0) (codes "V") ++ (letter (has w 1) (codes "R") ++ (letter (has w 2) (codes "W") ++ (letter (has w 3) (codes "X") ++ (letter (has w 4) (codes "U")
+    letter (has w 0) (codes "V")
+    ++ (letter (has w 1) (codes "R") ++ (letter (has w 2) (codes "W") ++ (letter (has w 3) (codes "X") ++ (letter (has w 4) (codes "U")
     ++ (letter (has w 5) (codes "G") ++ (letter (has w 6) (codes "A") ++ (letter (has w 7) (codes "D") ++ letter (has w 8) (codes "C"))))))))
 
 -- what the word says to the walk
@@ -39,7 +40,8 @@ word_text None = codes "outside the memory"
 word_text (Some w) = hexadecimal w ++ (codes " " ++ (flags_text w ++ (codes " " ++ meaning_text w)))
 
 abbrev pub entry_text : WalkEntry → List ℕ
-entry_text e = codes "level " ++ (decimal e.level ++ (codes ": " ++ (hexadecimal e.table ++ (codes "[" ++ (decimal e.index ++ (codes "] = " ++ word_text e.word))))))
+entry_text e = codes "level "
+    ++ (decimal e.level ++ (codes ": " ++ (hexadecimal e.table ++ (codes "[" ++ (decimal e.index ++ (codes "] = " ++ word_text e.word))))))
 
 -- ---- a listing of page tables, as vmprint of MIT 6.1810 prints it (the page table lab of 2024)
 

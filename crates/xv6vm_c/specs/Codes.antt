@@ -45,7 +45,8 @@ unknown argument = record { status = 6; level = 0; word = 0; address = 0; cause 
 
 -- a leaf that a walk finds for an address, by its numbers, with the physical address that it gives
 abbrev pub leaf_at : ℕ → ℕ → Bool → ℕ → Leaf
-leaf_at word level global address = record { status = 0; level = level; word = word; address = physical_address word level address; global = if global then 1 else 0 }
+leaf_at word level global address =
+    record { status = 0; level = level; word = word; address = physical_address word level address; global = if global then 1 else 0 }
 
 -- no leaf, whatever the reason
 abbrev pub no_leaf : Leaf

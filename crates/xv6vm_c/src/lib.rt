@@ -65,7 +65,8 @@ pub extern "C" fn xv6vm_translate(
 /// address that it gives. The byte at that address need not be in the memory.
 #[unsafe(no_mangle)]
 pub extern "C" fn xv6vm_lookup(words: &[u64], base_ppn: u64, satp: u64, address: u64) -> Leaf
-    ensures found { (s : Scheme) → scheme_of satp ≡ Some s → (f : Found) × (result ≡ leaf_of f address) × Finds s (lent_memory (record { base = base_ppn; words = words.now })) (root_ppn satp) address f }
+    ensures found { (s : Scheme) → scheme_of satp ≡ Some s → (f : Found) × (result ≡ leaf_of f address)
+        × Finds s (lent_memory (record { base = base_ppn; words = words.now })) (root_ppn satp) address f }
     ensures bare { is_bare satp ≡ true → result ≡ bare_leaf address }
     ensures unknown { is_bare satp ≡ false → scheme_of satp ≡ None → result ≡ unknown_leaf }
 {
@@ -101,10 +102,21 @@ pub extern "C" fn xv6vm_tlb_fill(
     address: u64,
 ) -> u32
     ensures fills { (s : Scheme) → scheme_of satp ≡ Some s →
-        Fills s (lent_memory (record { base = base_ppn; words = words.now })) (lent_extent (record { base = base_ppn; words = words.now })) (root_ppn satp) (asid satp) address (length entries.old) (entries_of entries.old) (entries_of entries.new) }
+        Fills s (lent_memory (record { base = base_ppn; words = words.now })) (lent_extent (record {
+          base = base_ppn;
+          words = words.now;
+        })) (root_ppn satp) (asid satp) address (length entries.old) (entries_of entries.old) (entries_of entries.new) }
     ensures stays { scheme_of satp ≡ None → entries.new ≡ entries.old }
-    ensures added { result ≡ 0 → (s : Scheme) × (scheme_of satp ≡ Some s) × ((e : TlbEntry) × IsOutcome s (lent_memory (record { base = base_ppn; words = words.now })) (lent_extent (record { base = base_ppn; words = words.now })) (root_ppn satp) (asid satp) address e × IsLast e entries.new) }
-    ensures fault { result ≡ 2 → (s : Scheme) × (scheme_of satp ≡ Some s) × EndsInAccessFault s (lent_memory (record { base = base_ppn; words = words.now })) (lent_extent (record { base = base_ppn; words = words.now })) (root_ppn satp) address × (entries.new ≡ entries.old) }
+    ensures added { result ≡ 0 → (s : Scheme) × (scheme_of satp ≡ Some s)
+        × ((e : TlbEntry) × IsOutcome s (lent_memory (record {
+          base = base_ppn;
+          words = words.now;
+        })) (lent_extent (record { base = base_ppn; words = words.now })) (root_ppn satp) (asid satp) address e × IsLast e entries.new) }
+    ensures fault { result ≡ 2 → (s : Scheme) × (scheme_of satp ≡ Some s)
+        × EndsInAccessFault s (lent_memory (record { base = base_ppn; words = words.now })) (lent_extent (record {
+          base = base_ppn;
+          words = words.now;
+        })) (root_ppn satp) address × (entries.new ≡ entries.old) }
     ensures bare { result ≡ 3 ↔ (is_bare satp ≡ true) }
     ensures unknown { result ≡ 6 → scheme_of satp ≡ None }
     ensures code { (result ≡ 0) ⊎ ((result ≡ 2) ⊎ ((result ≡ 3) ⊎ (result ≡ 6))) }
@@ -189,7 +201,8 @@ pub extern "C" fn xv6vm_tlb_fence(
     has_asid: u32,
     asid: u16,
 )
-    ensures entries { entries_of entries.new ≡ filter (λ e. not (is_fenced (address_if has_address address) (asid_if has_asid asid) e)) (entries_of entries.old) }
+    ensures entries { entries_of entries.new ≡ filter (λ e.
+        not (is_fenced (address_if has_address address) (asid_if has_asid asid) e)) (entries_of entries.old) }
     ensures places { (k : ℕ) → entry_at entries.new k ≡ unfenced (address_if has_address address) (asid_if has_asid asid) (entry_at entries.old k) }
 {
     let va = if has_address == 0 {
@@ -214,7 +227,8 @@ pub extern "C" fn xv6vm_permits(
     mode: u32,
     outcome: Outcome,
 ) -> u32
-    ensures yes { result ≡ 1 → IsTranslation (record { base = base_ppn; words = words.now }) satp address access mode outcome ⊎ IsCached entries.now satp address access mode outcome }
+    ensures yes { result ≡ 1 → IsTranslation (record { base = base_ppn; words = words.now }) satp address access mode outcome
+        ⊎ IsCached entries.now satp address access mode outcome }
     ensures not_now { result ≢ 1 → IsTranslation (record { base = base_ppn; words = words.now }) satp address access mode outcome → ⊥ }
     ensures not_cached { result ≢ 1 → IsCached entries.now satp address access mode outcome → ⊥ }
     ensures code { result ≤ 1 }

@@ -36,10 +36,12 @@ pub extern "C" fn xv6vm_play(
     text: &mut [u8],
     written: &mut usize,
 ) -> Played
-    ensures played { result.status ≡ 0 → (s : Script) × (script_of script.now ≡ Ok s) × (take written.new text.new ≡ text_of s) × (written.new ≡ length (text_of s)) }
+    ensures played { result.status ≡ 0 → (s : Script) × (script_of script.now ≡ Ok s) × (take written.new text.new ≡ text_of s)
+        × (written.new ≡ length (text_of s)) }
     ensures rest { result.status ≡ 0 → drop written.new text.new ≡ drop written.new text.old }
     ensures refused { result.status ≡ 23 → (c : ScriptCause) × (script_of script.now ≡ Err (result.line, c)) × (result.cause ≡ cause_number c) }
-    ensures too_long { result.status ≡ 25 → (s : Script) × (script_of script.now ≡ Ok s) × (written.new ≡ length (text_of s)) × (length text.old < written.new) }
+    ensures too_long { result.status ≡ 25 → (s : Script) × (script_of script.now ≡ Ok s) × (written.new ≡ length (text_of s))
+        × (length text.old < written.new) }
     ensures stays { result.status ≢ 0 → text.new ≡ text.old }
     ensures nothing { result.status ≢ 0 → result.status ≢ 25 → written.new ≡ 0 }
     ensures zero { result.status ≢ 23 → (result.cause ≡ 0) × (result.line ≡ 0) }
