@@ -11,6 +11,7 @@ use Rattle.process_model.specs.PageMap as pages
 use Rattle.process_model.specs.PageMap.{PageMap, NumberSet, empty, from_list, numbers}
 use Rattle.process_model.specs.Process.{Page, Process, regions}
 use Rattle.process_model.specs.Regions.{end_of, makes_leaf, Region, region_at}
+use Rattle.process_model.specs.declared.limits.TheConstants.{MOST_PARTS}
 use Rattle.table_walk.specs.Tables.{Tables}
 use Rattle.address_space.specs.Agreement.{HoldsTrapframe, NamesFrame, no_extra, IsInMemory}
 use Rattle.address_space.specs.Layouts.{last_page, region_of}
@@ -46,7 +47,7 @@ IsAscending end (p ∷ ps) = (end ≤ p.region.first) × IsAscending (end_of (re
 
 -- parts that a space can be built of: at most 18, ascending and apart, below TRAPFRAME, each a region that can have leaves
 pub record AreParts (z : Scheme) (ps : List Part) : Type 0 where
-  pub few : length ps ≤ 18
+  pub few : length ps ≤ MOST_PARTS
   pub ascending : IsAscending 0 ps
   pub low : All (λ p. p.region.first + p.region.pages ≤ (trapframe_page z)) ps
   pub leafy : All (λ p. makes_leaf (region_in p) ≡ true) ps

@@ -18,12 +18,9 @@ use crate::part::Part;
 use crate::region::{Region, RegionKind, Source};
 use arrayvec::ArrayVec;
 use bitflags::Flags;
-use process_model::{MOST_MAPPINGS, MOST_SEGMENTS};
+use process_model::{MOST_MAPPINGS, MOST_PARTS, MOST_REGIONS};
 use std::marker::Model;
 use sv39_entry::{Access, PAGE_SIZE, Rights, Rule, Scheme, Va};
-
-/// The most parts of a process: segments, guard and stack.
-const MOST_PARTS: usize = MOST_SEGMENTS + 2;
 
 /// The scheme of translation and the regions of a process: its parts (segments, guard and stack), at most 18; its mappings,
 /// at most 16; and the addresses at which the heap begins and ends.
@@ -57,7 +54,7 @@ impl Layout {
     /// Returns the layout of a process that starts: these parts in this order, no mapping, and an empty heap at the end of
     /// the last part (at address 0 if there are no parts). There are at most 18 parts, and each ends at TRAPFRAME or below.
     pub fn new(scheme: Scheme, parts: &[Part]) -> Layout
-        requires few { length parts.now ≤ 18 }
+        requires few { length parts.now ≤ MOST_PARTS }
         requires low { All (λ p. p.region.first + p.region.pages ≤ trapframe_page scheme) parts.now }
         ensures scheme { result.scheme ≡ scheme }
         ensures parts { result.parts ≡ regions_in parts.now }
@@ -133,7 +130,7 @@ impl Layout {
 
     /// Returns all regions: the parts, the heap, which may have no pages, and the mappings. In the layout of a space that is a
     /// process they are in ascending order of address.
-    pub fn regions(&self) -> ArrayVec<Region, 35>
+    pub fn regions(&self) -> ArrayVec<Region, MOST_REGIONS>
         ensures { (p : Process) → LaysOut self.now p → map region_of result.items ≡ regions p }
     {
         let mut all = ArrayVec::new();

@@ -19,6 +19,7 @@ use address_space::{Part, Region, RegionKind, Source, Space, frames_needed};
 use arrayvec::ArrayVec;
 use bitflags::Flags;
 use frame_store::{FrameSeat, FrameSupply, NoFrame};
+use process_model::MOST_PARTS;
 use sv39_entry::{PAGE_SIZE, Rights};
 
 /// Builds the address space of a new process of `image`, with the scheme of the image, and returns it. `seat`, which
@@ -61,7 +62,7 @@ pub fn start_frames(image: &Image) -> usize
 
 /// The parts of the process of an image: its segments, and after the last one a guard page and a stack page (the xv6 book,
 /// "Code: exec").
-pub(crate) fn parts_of<'a>(image: &Image<'a>) -> ArrayVec<Part<'a>, 18>
+pub(crate) fn parts_of<'a>(image: &Image<'a>) -> ArrayVec<Part<'a>, MOST_PARTS>
     ensures parts { AreParts image.now.scheme result.items }
     ensures process { (fresh : ℕ) → process_of_parts image.now.scheme fresh result.items ≡ model.process_of image.now.scheme fresh image.now.loads }
     ensures need { build_need image.now.scheme result.items ≡ start_need image.now.scheme image.now.loads }

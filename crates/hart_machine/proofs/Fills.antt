@@ -62,8 +62,8 @@ module _ (es : List TlbEntry) (few : length es ≤ buffer_size) where
   -- and the new entry is the last
   pub number_is : (k : Key) → next_number es ≡ length (with_key (map key_of es) k) - 1
   number_is k = elim (cases_lt (length es) buffer_size) [
-    | inl less ↦ rw (room less) (rw (length-append (map key_of es) (k ∷ []), same_length) (let least = min-eq_left {n = length es} {m = 31} (omega (arith, less)) in omega (arith, least)))
-    | inr full ↦ rw (no_room full) (rw (length-append (drop 1 (map key_of es)) (k ∷ []), length-drop 1 (map key_of es), same_length) (let least = min-eq_right {n = 31} {m = length es} (omega (arith, full)) in omega (arith, least, few, full)))
+    | inl less ↦ rw (room less) (rw (length-append (map key_of es) (k ∷ []), same_length) (let least = min-eq_left {n = length es} {m = buffer_size - 1} (omega (arith, less)) in omega (arith, least)))
+    | inr full ↦ rw (no_room full) (rw (length-append (drop 1 (map key_of es)) (k ∷ []), length-drop 1 (map key_of es), same_length) (let least = min-eq_right {n = buffer_size - 1} {m = length es} (omega (arith, full)) in omega (arith, least, few, full)))
   ]
 
 -- the hart is the model's with another key

@@ -24,7 +24,7 @@ use crate::slot_process::Pending;
 use crate::tables::SatpTable;
 use address_space::Region;
 use arrayvec::ArrayVec;
-use process_model::{Phase, Policy};
+use process_model::{MOST_REGIONS, Phase, Policy};
 use sv39_entry::{Access, FrameNo, Rule, Satp, Scheme, Va};
 use table_walk::StoredWords;
 
@@ -86,7 +86,7 @@ impl Machine {
 
     /// Returns the regions of the process in a slot, in ascending order of address; the heap is among them, even if it has no pages.
     /// `None` if the slot has no process.
-    pub fn regions(&self, slot: usize) -> Option<ArrayVec<Region, 35>>
+    pub fn regions(&self, slot: usize) -> Option<ArrayVec<Region, MOST_REGIONS>>
         ensures { (w : World) → IsInWorld self.now w → option_map (λ rs. map region_of rs.items) result ≡ option_map regions (process_in w slot) }
     {
         match self.slots.get(slot) {

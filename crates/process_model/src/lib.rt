@@ -20,7 +20,8 @@ pub use file::FileText;
 pub use image::{BadImage, Image, Segment};
 pub use limits::{
     BUFFER_SIZE, FEWEST_FRAMES, LONGEST_COPY, LONGEST_FILE, MOST_ENTRIES, MOST_FILES, MOST_FRAMES,
-    MOST_HARTS, MOST_MAPPINGS, MOST_SEGMENTS, MOST_SHARED_FRAMES, MOST_SLOTS,
+    MOST_HARTS, MOST_MAPPINGS, MOST_PARTS, MOST_REGIONS, MOST_SEGMENTS, MOST_SHARED_FRAMES,
+    MOST_SLOTS,
 };
 pub use phase::Phase;
 pub use scalar_reply::ScalarReply;

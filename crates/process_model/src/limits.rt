@@ -1,6 +1,6 @@
 // The limits of machines, processes and runs on threads, each a constant that definitions, code and texts read: counts of
-// harts, slots (places in the process table), frames, segments, mappings, files, buffer entries and calls; lengths of copies
-// and files.
+// harts, slots (places in the process table), frames, segments, mappings, parts and regions, files, buffer entries and calls;
+// lengths of copies and files.
 
 /// The most harts of a machine or of a run on threads.
 pub const MOST_HARTS: usize = 8;
@@ -22,6 +22,12 @@ pub const MOST_SEGMENTS: usize = 16;
 
 /// The most mappings of a process.
 pub const MOST_MAPPINGS: usize = 16;
+
+/// The most parts of a process: the segments of its image, the guard page and the stack.
+pub const MOST_PARTS: usize = MOST_SEGMENTS + 2;
+
+/// The most regions of a process: its parts, the heap and the mappings.
+pub const MOST_REGIONS: usize = MOST_PARTS + 1 + MOST_MAPPINGS;
 
 /// The most files of a machine or of a run on threads.
 pub const MOST_FILES: usize = 16;
