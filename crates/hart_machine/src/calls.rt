@@ -44,13 +44,13 @@ impl Machine {
         ensures refused { IfErr result (λ e. (w : World) (run : harts.Hart → ℕ → Process → Outcome) → IsWorld self.now w
             → call_while w hart waits run ≡ refuses w e) }
     {
-        let Some(phase) = self.phase_of(hart) else {
+        let Some((phase, on)) = self.place_of(hart) else {
             return Err(Refusal::BadArgument);
         };
-        if !is_kernel(phase) || self.awaits_service(hart) != waits {
+        if !is_kernel(phase) || self.awaits_service(on) != waits {
             return Err(Refusal::Impossible(phase));
         }
-        let Some(slot) = self.slot_of(hart) else {
+        let Some(slot) = on else {
             return Err(Refusal::Impossible(phase));
         };
         Ok(slot)

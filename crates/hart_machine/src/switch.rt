@@ -55,13 +55,13 @@ impl Machine {
         ensures buffers { SameBuffers self.old self.new }
         ensures tables { SameTables self.old self.new }
     {
-        let Some(phase) = self.phase_of(hart) else {
+        let Some((phase, on)) = self.place_of(hart) else {
             return ScalarReply::Refused(Refusal::BadArgument);
         };
         if !is_user(phase) {
             return ScalarReply::Refused(Refusal::Impossible(phase));
         }
-        let Some(slot) = self.slot_of(hart) else {
+        let Some(slot) = on else {
             return ScalarReply::Refused(Refusal::Impossible(phase));
         };
         self.set_pending(slot, None);
@@ -78,10 +78,10 @@ impl Machine {
         ensures buffers { (w : World) (is : IsWorld self.old w) → BuffersAre self.old self.new is.tables is.kernel (step.Next hart) (reply_of_scalar result) }
         ensures places { SamePlaces self.old self.new }
     {
-        let Some(phase) = self.phase_of(hart) else {
+        let Some((phase, on)) = self.place_of(hart) else {
             return ScalarReply::Refused(Refusal::BadArgument);
         };
-        if !self.can_go_on(hart, phase) {
+        if !self.can_go_on(phase, on) {
             return ScalarReply::Refused(Refusal::Impossible(phase));
         }
         let policy = self.policy;
@@ -89,19 +89,20 @@ impl Machine {
         ScalarReply::Done
     }
 
-    /// Whether a hart in this phase has a next instruction of kernel entry or return, and no waiting access keeps it in the
-    /// kernel.
-    fn can_go_on(&self, hart: usize, phase: Phase) -> bool
-        ensures { (w : World) (x : harts.Hart) → IsWorld self.now w → slice_get w.harts hart ≡ Some x → x.phase ≡ phase → result ≡ model.can_go_on w x }
+    /// Whether a hart in this phase, with the process of this slot, has a next instruction of kernel entry or return, and no
+    /// waiting access keeps it in the kernel.
+    fn can_go_on(&self, phase: Phase, on: Option<usize>) -> bool
+        ensures { (w : World) (x : harts.Hart) → IsWorld self.now w → x.phase ≡ phase → x.slot ≡ on → result ≡ model.can_go_on w x }
     {
-        next_phase(phase).is_some() && !(is_kernel(phase) && self.awaits_service(hart))
+        next_phase(phase).is_some() && !(is_kernel(phase) && self.awaits_service(on))
     }
 
-    /// Whether an access of the process on a hart waits for service: it faulted, and was not served.
-    pub(crate) fn awaits_service(&self, hart: usize) -> bool
-        ensures { (w : World) (x : harts.Hart) → IsWorld self.now w → slice_get w.harts hart ≡ Some x → result ≡ model.awaits_service w x }
+    /// Whether an access of the process in a slot waits for service: it faulted, and was not served. `None`, for no process:
+    /// false.
+    pub(crate) fn awaits_service(&self, on: Option<usize>) -> bool
+        ensures { (w : World) (x : harts.Hart) → IsWorld self.now w → x.slot ≡ on → result ≡ model.awaits_service w x }
     {
-        let Some(slot) = self.slot_of(hart) else {
+        let Some(slot) = on else {
             return false;
         };
         match self.slots.get(slot) {

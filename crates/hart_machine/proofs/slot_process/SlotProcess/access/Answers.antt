@@ -22,11 +22,10 @@ returns-clause-reply c t p slot_process walks =
 pub returns-clause-after : goal.returns-clause-after
 returns-clause-after c t p slot_process walks =
     let e = c.translated-walk.ensures in
-    let here = rw e.same slot_process.agrees in
     let walk = e.walk t p slot_process walks in
-    let reply = c.user_access_scalar-reply.ensures.reply t p here walk in
+    let reply = c.user_access_scalar-reply.ensures.reply t p (rw e.same slot_process.agrees) walk in
     record {
-      agrees = rw c.keep_faulted.ensures.space (c.user_access_scalar-reply.ensures.after t p here walk);
+      agrees = rw c.keep_faulted.ensures.space (c.user_access_scalar-reply.ensures.after t p (rw e.same slot_process.agrees) walk);
       framed = rw (c.keep_faulted.ensures.space, c.user_access_scalar-reply.ensures.place.trapframe, e.same) slot_process.framed;
       pending = access_pending p (request_of c.args.request) ∙ sym (c.keep_faulted.ensures.pending ∙ ap (pending_after (request_of c.args.request)) reply);
       wide = access_wide p (request_of c.args.request) c.requires.width;

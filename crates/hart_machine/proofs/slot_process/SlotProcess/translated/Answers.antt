@@ -1,4 +1,4 @@
-use Rattle.std.proofs.Common.{ap, subst, sym, ◌∙◌}
+use Rattle.std.proofs.Common.{◌≡◌, subst}
 use Rattle.std.specs.Prelude.{IfSome, Option}
 use Rattle.table_walk.specs.Leaves.{walk_answer}
 use Rattle.table_walk.specs.declared.walk.Walk.{Walk}
@@ -8,7 +8,7 @@ use Rattle.hart_machine.proofs.slot_process.SlotProcess.translated.Goals as goal
 
 pub returns-in-Some-clause-walk : goal.returns-in-Some-clause-walk
 returns-in-Some-clause-walk c t p slot_process walks =
-    subst (λ (o : Option Walk). IfSome o (λ walk. walk ≡ walk_answer p.scheme t c.args.va.0 c.args.access User)) (sym c.in-Some.is) walks
+    subst (λ (o : Option Walk). IfSome o (λ walk. walk ≡ walk_answer p.scheme t c.args.va.0 c.args.access User)) c.in-Some.is walks
 
 pub returns-in-None : goal.returns-in-None
 returns-in-None c =
