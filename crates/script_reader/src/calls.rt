@@ -1,80 +1,74 @@
-// Parsers of the script lines that are a kernel call (`fork`, `sbrk`, `mmap`, `munmap`, `copyin`, `copyout`, `exit`) or
-// `serve`, the service of a fault: each makes a step of a hart, or the line's item (what it declares or commands), from the
-// values of its fields. The kernel call `exec` is in `compound_commands`.
+// Makers of the items of script lines that are a kernel call (`fork`, `sbrk`, `mmap`, `munmap`, `copyin`, `copyout`, `exit`) or
+// `serve`, the service of a fault, from the fields of the line; of `copyout`, from their values. The kernel call `exec` is in
+// `compound_commands`.
 
-ghost use Rattle.std.specs.Prelude.{◌≡◌, Ok};
+ghost use Rattle.std.specs.Prelude.{◌≡◌, nat_le};
+ghost use Rattle.process_model.specs.Copies.{longest_copy};
+ghost use Rattle.process_model.specs.declared.step.Step.TheVariants as step;
 ghost use Rattle.script_language.specs.Script as words;
 ghost use Rattle.script_reader.specs.Alone.{item_alone};
 
-use crate::field_access::{index_at, number_at, signed_at, take_bytes};
+use crate::field_access::{index_at, number_at, take_bytes};
 use crate::limits::{in_limits, one};
 use process_model::{LONGEST_COPY, Step};
 use script_language::{Cause, Command, FieldValue, Item, Keyword};
 use std::alloc::Global;
 
-/// Makes the step of `serve HART`, the service of a fault.
-pub fn serve(values: &[FieldValue]) -> Step<'static>
-    ensures { Ok (words.one result) ≡ item_alone Keyword.Serve values.now }
+/// Makes the item of `serve HART`, the service of a fault.
+pub fn serve(hart: usize) -> Item
+    ensures { result ≡ words.one (step.Serve hart) }
 {
-    Step::Serve {
-        hart: index_at(values, 0),
-    }
+    one(Step::Serve { hart })
 }
 
-/// Makes the step of `fork HART`.
-pub fn fork(values: &[FieldValue]) -> Step<'static>
-    ensures { Ok (words.one result) ≡ item_alone Keyword.Fork values.now }
+/// Makes the item of `fork HART`.
+pub fn fork(hart: usize) -> Item
+    ensures { result ≡ words.one (step.Fork hart) }
 {
-    Step::Fork {
-        hart: index_at(values, 0),
-    }
+    one(Step::Fork { hart })
 }
 
-/// Makes the step of `sbrk HART DELTA`, with a signed number of bytes.
-pub fn sbrk(values: &[FieldValue]) -> Step<'static>
-    ensures { Ok (words.one result) ≡ item_alone Keyword.Sbrk values.now }
+/// Makes the item of `sbrk HART DELTA`, with a signed number of bytes.
+pub fn sbrk(hart: usize, delta: i64) -> Item
+    ensures { result ≡ words.one (step.Sbrk hart delta) }
 {
-    Step::Sbrk {
-        hart: index_at(values, 0),
-        delta: signed_at(values, 1),
-    }
+    one(Step::Sbrk { hart, delta })
 }
 
-/// Makes the step of `mmap HART LEN PROT FLAGS FILE`. The step checks the arguments.
-pub fn mmap(values: &[FieldValue]) -> Step<'static>
-    ensures { Ok (words.one result) ≡ item_alone Keyword.Mmap values.now }
+/// Makes the item of `mmap HART LEN PROT FLAGS FILE`. The step checks the arguments.
+pub fn mmap(hart: usize, length: u64, protection: u64, flags: u64, file: usize) -> Item
+    ensures { result ≡ words.one (step.Mmap hart length protection flags file) }
 {
-    Step::Mmap {
-        hart: index_at(values, 0),
-        length: number_at(values, 1),
-        protection: number_at(values, 2),
-        flags: number_at(values, 3),
-        file: index_at(values, 4),
-    }
+    one(Step::Mmap {
+        hart,
+        length,
+        protection,
+        flags,
+        file,
+    })
 }
 
-/// Makes the step of `munmap HART ADDRESS LEN`.
-pub fn munmap(values: &[FieldValue]) -> Step<'static>
-    ensures { Ok (words.one result) ≡ item_alone Keyword.Munmap values.now }
+/// Makes the item of `munmap HART ADDRESS LEN`.
+pub fn munmap(hart: usize, address: u64, length: u64) -> Item
+    ensures { result ≡ words.one (step.Munmap hart address length) }
 {
-    Step::Munmap {
-        hart: index_at(values, 0),
-        address: number_at(values, 1),
-        length: number_at(values, 2),
-    }
+    one(Step::Munmap {
+        hart,
+        address,
+        length,
+    })
 }
 
 /// Makes the item of `copyin HART ADDRESS COUNT`.
 ///
 /// # Errors
 /// `Limits`, exactly when COUNT is above 256 bytes.
-pub fn copy_in(values: &[FieldValue]) -> Result<Item, Cause>
-    ensures { result ≡ item_alone Keyword.CopyIn values.now }
+pub fn copy_in(hart: usize, address: u64, count: usize) -> Result<Item, Cause>
+    ensures { result ≡ words.in_limits (nat_le count longest_copy) (words.one (step.CopyIn hart address count)) }
 {
-    let count = index_at(values, 2);
     let step = Step::CopyIn {
-        hart: index_at(values, 0),
-        address: number_at(values, 1),
+        hart,
+        address,
         count,
     };
     in_limits(count <= LONGEST_COPY, one(step))
@@ -103,12 +97,11 @@ pub fn copy_out(alloc: Global, values: Vec<FieldValue>) -> Result<Item, Cause>
 ///
 /// # Errors
 /// `Limits`, exactly when STATUS is below -2^31 or above 2^31 - 1.
-pub fn exit(values: &[FieldValue]) -> Result<Item, Cause>
-    ensures { result ≡ item_alone Keyword.Exit values.now }
+pub fn exit(hart: usize, status: i64) -> Result<Item, Cause>
+    ensures { result ≡ words.in_limits (words.is_status status) (words.one (step.Exit hart status)) }
 {
-    let Ok(status) = i32::try_from(signed_at(values, 1)) else {
+    let Ok(status) = i32::try_from(status) else {
         return Err(Cause::Limits);
     };
-    let hart = index_at(values, 0);
     Ok(one(Step::Exit { hart, status }))
 }

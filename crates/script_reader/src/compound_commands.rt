@@ -1,9 +1,10 @@
-// Parsers of the script lines that are several steps (`on`, `enter`, `leave`, `fix`) or name a declared image or file
-// (`start`, `exec`, `show`): each makes the line's item (what it declares or commands) from the values of its fields.
+// Makers of the items of script lines that are several steps (`on`, `enter`, `leave`, `fix`), from the fields of the line, or
+// name a declared image or file (`start`, `exec`, `show`), from their values.
 
-ghost use Rattle.std.specs.Prelude.{◌≡◌, Ok};
+ghost use Rattle.std.specs.Prelude.{◌≡◌};
 ghost use Rattle.script_language.specs.Script as words;
-ghost use Rattle.script_reader.specs.Alone.{item_alone};
+ghost use Rattle.script_language.specs.declared.script.Command.TheVariants as command;
+ghost use Rattle.script_language.specs.declared.script.Item.TheVariants as item;
 
 use crate::draft::Draft;
 use crate::field_access::{index_at, number_at};
@@ -60,34 +61,29 @@ pub fn show(draft: &Draft, values: &[FieldValue]) -> Result<Item, Cause>
 }
 
 /// Makes the command of `on HART SLOT`.
-pub fn on(values: &[FieldValue]) -> Item
-    ensures { Ok result ≡ item_alone Keyword.On values.now }
+pub fn on(hart: usize, slot: usize) -> Item
+    ensures { result ≡ item.Command (command.On hart slot) }
 {
-    let hart = index_at(values, 0);
-    let slot = index_at(values, 1);
     Item::Command(Command::On { hart, slot })
 }
 
 /// Makes the command of `enter HART`.
-pub fn enter(values: &[FieldValue]) -> Item
-    ensures { Ok result ≡ item_alone Keyword.Enter values.now }
+pub fn enter(hart: usize) -> Item
+    ensures { result ≡ item.Command (command.Enter hart) }
 {
-    let hart = index_at(values, 0);
     Item::Command(Command::Enter { hart })
 }
 
 /// Makes the command of `leave HART`.
-pub fn leave(values: &[FieldValue]) -> Item
-    ensures { Ok result ≡ item_alone Keyword.Leave values.now }
+pub fn leave(hart: usize) -> Item
+    ensures { result ≡ item.Command (command.Leave hart) }
 {
-    let hart = index_at(values, 0);
     Item::Command(Command::Leave { hart })
 }
 
 /// Makes the command of `fix HART`.
-pub fn fix(values: &[FieldValue]) -> Item
-    ensures { Ok result ≡ item_alone Keyword.Fix values.now }
+pub fn fix(hart: usize) -> Item
+    ensures { result ≡ item.Command (command.Fix hart) }
 {
-    let hart = index_at(values, 0);
     Item::Command(Command::Fix { hart })
 }

@@ -1,17 +1,133 @@
-// Fast path of the script reader: `add_fast` parses a common line after `boot` in one pass (`fast_path`) and adds its
-// command to the draft (what the lines so far declare and command). A line that the fast path cannot parse is left to be
-// read field by field.
+// Fast path of the script reader: `add_fast` finds the word of a common line after `boot`, reads the fields after it in one
+// pass (`fast_path`), and adds the command that the makers of the reader make of them to the draft (what the lines so far
+// declare and command). A line that the fast path cannot read is left to be read field by field.
 
-ghost use Rattle.std.specs.Prelude.{◌≡◌, ℕ, IfSome, MatchOption, Ok, OnOk, true};
+ghost use Rattle.std.specs.Prelude.{◌≡◌, ℕ, IfSome, MatchOption, Ok, OnOk, codes, true};
 ghost use Rattle.script_language.specs.Script as words;
-ghost use Rattle.script_reader.specs.FastLines.{AddsCommand};
+ghost use Rattle.script_reader.specs.FastLines.{AddsCommand, AddsMade};
+ghost use Rattle.script_reader.specs.FastPath.{SaysItem};
 ghost use Rattle.script_reader.specs.FastWords.{letters};
 
+use crate::accesses::{load, store};
+use crate::calls::{copy_in, exit, fork, mmap, munmap};
+use crate::compound_commands::{enter, fix, leave, on};
 use crate::draft::Draft;
-use crate::fast_path::{FastWord, fast_command, load, store, word_prefix};
+use crate::fast_path::{
+    FastWord, five_numbers, four_via, number_slot, one_number, three_numbers, three_via,
+    two_numbers, two_via, word_prefix,
+};
 use crate::number_prefixes::is_end;
-use script_language::LONGEST_LINE;
+use crate::steps::{fetch, fill, next, switch, trap};
+use script_language::{Cause, Item, LONGEST_LINE};
 use std::alloc::AllocError;
+
+/// Adds the command that was made of a line. `None`: the line has a fault, and the draft is unchanged. Inlined, since the
+/// caller may know which command it is.
+#[inline(always)]
+fn add_made(draft: &mut Draft, made: Result<Item, Cause>) -> Option<Result<(), AllocError>>
+    ensures added { IfSome result (λ done. OnOk done (AddsMade draft.old draft.new made)) }
+    ensures other { MatchOption result (draft.new ≡ draft.old) (λ _. Unit {0}) }
+{
+    let Ok(item) = made else {
+        return None;
+    };
+    match item {
+        Item::Command(command) => Some(draft.add_command(command)),
+        Item::File(_) | Item::Image(_) | Item::Boot(_) => None,
+    }
+}
+
+/// Returns what `load` and the fields after it make. `None`: to be read field by field.
+#[inline(always)]
+fn load_item(fields: &[u8]) -> Option<Result<Item, Cause>>
+    ensures { IfSome result (λ made. SaysItem (codes "load") fields.now made) }
+{
+    let (hart, address, width, via) = three_via(fields)?;
+    Some(load(hart as usize, address, width, via))
+}
+
+/// Returns what `store` and the fields after it make. `None`: to be read field by field.
+#[inline(always)]
+fn store_item(fields: &[u8]) -> Option<Result<Item, Cause>>
+    ensures { IfSome result (λ made. SaysItem (codes "store") fields.now made) }
+{
+    let (hart, address, width, value, via) = four_via(fields)?;
+    Some(store(hart as usize, address, width, value, via))
+}
+
+/// Returns what `exit` and the fields after it make. `None`: to be read field by field, as a status with a sign is.
+fn exit_item(fields: &[u8]) -> Option<Result<Item, Cause>>
+    ensures { IfSome result (λ made. SaysItem (codes "exit") fields.now made) }
+{
+    let (hart, status) = two_numbers(fields)?;
+    let Ok(signed) = i64::try_from(status) else {
+        return None;
+    };
+    Some(exit(hart as usize, signed))
+}
+
+/// Returns what a word and the fields after it make. `None`: to be read field by field.
+fn fast_item(word: FastWord, fields: &[u8]) -> Option<Result<Item, Cause>>
+    ensures { IfSome result (λ made. SaysItem (letters word) fields.now made) }
+{
+    match word {
+        FastWord::Load => load_item(fields),
+        FastWord::Store => store_item(fields),
+        FastWord::Switch => {
+            let (hart, slot) = number_slot(fields)?;
+            Some(Ok(switch(hart as usize, slot)))
+        }
+        FastWord::Fetch => {
+            let (hart, address, via) = two_via(fields)?;
+            Some(Ok(fetch(hart as usize, address, via)))
+        }
+        FastWord::Fix => {
+            let hart = one_number(fields)?;
+            Some(Ok(fix(hart as usize)))
+        }
+        FastWord::Enter => {
+            let hart = one_number(fields)?;
+            Some(Ok(enter(hart as usize)))
+        }
+        FastWord::Exit => exit_item(fields),
+        FastWord::Leave => {
+            let hart = one_number(fields)?;
+            Some(Ok(leave(hart as usize)))
+        }
+        FastWord::On => {
+            let (hart, slot) = two_numbers(fields)?;
+            Some(Ok(on(hart as usize, slot as usize)))
+        }
+        FastWord::Fill => {
+            let (hart, address) = two_numbers(fields)?;
+            Some(Ok(fill(hart as usize, address)))
+        }
+        FastWord::Next => {
+            let hart = one_number(fields)?;
+            Some(Ok(next(hart as usize)))
+        }
+        FastWord::Trap => {
+            let hart = one_number(fields)?;
+            Some(Ok(trap(hart as usize)))
+        }
+        FastWord::Fork => {
+            let hart = one_number(fields)?;
+            Some(Ok(fork(hart as usize)))
+        }
+        FastWord::CopyIn => {
+            let (hart, address, count) = three_numbers(fields)?;
+            Some(copy_in(hart as usize, address, count as usize))
+        }
+        FastWord::Mmap => {
+            let (hart, length, protection, flags, file) = five_numbers(fields)?;
+            Some(Ok(mmap(hart as usize, length, protection, flags, file as usize)))
+        }
+        FastWord::Munmap => {
+            let (hart, address, length) = three_numbers(fields)?;
+            Some(Ok(munmap(hart as usize, address, length)))
+        }
+    }
+}
 
 /// Adds the command of a word. `None`: the fast path does not parse its fields, and the draft is unchanged. Not inlined,
 /// unlike the cases of `load` and `store` in `add_word`.
@@ -20,21 +136,20 @@ fn add_other(draft: &mut Draft, word: FastWord, fields: &[u8]) -> Option<Result<
     ensures added { IfSome result (λ done. OnOk done (AddsCommand draft.old draft.new (letters word) fields.now)) }
     ensures other { MatchOption result (draft.new ≡ draft.old) (λ _. Unit {0}) }
 {
-    let command = fast_command(word, fields)?;
-    Some(draft.add_command(command))
+    let made = fast_item(word, fields)?;
+    add_made(draft, made)
 }
 
 /// Adds the command of a word. `None`: the fast path does not parse its fields, and the draft is unchanged. Loads
-/// and stores, most lines of most scripts, are added where they are parsed, so that their kind need not be
-/// found out again.
+/// and stores, most lines of most scripts, are added where they are read, so that their kind need not be found out again.
 #[inline(always)]
 fn add_word(draft: &mut Draft, word: FastWord, fields: &[u8]) -> Option<Result<(), AllocError>>
     ensures added { IfSome result (λ done. OnOk done (AddsCommand draft.old draft.new (letters word) fields.now)) }
     ensures other { MatchOption result (draft.new ≡ draft.old) (λ _. Unit {0}) }
 {
     match word {
-        FastWord::Load => Some(draft.add_command(load(fields)?)),
-        FastWord::Store => Some(draft.add_command(store(fields)?)),
+        FastWord::Load => add_made(draft, load_item(fields)?),
+        FastWord::Store => add_made(draft, store_item(fields)?),
         _ => add_other(draft, word, fields),
     }
 }

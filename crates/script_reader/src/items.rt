@@ -1,4 +1,4 @@
-// `make_item`: calls the parser that belongs to the word of a script line, and returns the line's item: a declared file or
+// `make_item`: calls the maker that belongs to the word of a script line, and returns the line's item: a declared file or
 // image, the configuration of `boot`, or a command.
 
 ghost use Rattle.script_language.specs.Script as words;
@@ -10,7 +10,7 @@ use crate::compound_commands::{enter, exec, fix, leave, on, show, start};
 use crate::declarations::{boot, elf, file, image};
 use crate::draft::Draft;
 use crate::fault::LineFault;
-use crate::limits::one;
+use crate::field_access::{index_at, number_at, optional_at, signed_at};
 use crate::steps::{evict, fetch, fill, next, switch, tramp, trap};
 use script_language::{Cause, Command, FieldValue, Item, Keyword};
 use std::alloc::Global;
@@ -36,30 +36,47 @@ pub fn make_item(
         Keyword::Elf => Ok(Item::Image(elf(alloc, values))),
         Keyword::Boot => Ok(boot(v)?),
         Keyword::Start => Ok(start(draft, v)?),
-        Keyword::Switch => Ok(one(switch(v))),
-        Keyword::Trap => Ok(one(trap(v))),
-        Keyword::Next => Ok(one(next(v))),
-        Keyword::Fill => Ok(one(fill(v))),
-        Keyword::Evict => Ok(one(evict(v))),
-        Keyword::Fetch => Ok(one(fetch(v))),
-        Keyword::Load => Ok(load(v)?),
-        Keyword::Store => Ok(store(v)?),
-        Keyword::Tramp => Ok(one(tramp(v))),
-        Keyword::Serve => Ok(one(serve(v))),
-        Keyword::Fork => Ok(one(fork(v))),
+        Keyword::Switch => Ok(switch(index_at(v, 0), optional_at(v, 1))),
+        Keyword::Trap => Ok(trap(index_at(v, 0))),
+        Keyword::Next => Ok(next(index_at(v, 0))),
+        Keyword::Fill => Ok(fill(index_at(v, 0), number_at(v, 1))),
+        Keyword::Evict => Ok(evict(index_at(v, 0), index_at(v, 1))),
+        Keyword::Fetch => Ok(fetch(index_at(v, 0), number_at(v, 1), optional_at(v, 2))),
+        Keyword::Load => Ok(load(
+            index_at(v, 0),
+            number_at(v, 1),
+            number_at(v, 2),
+            optional_at(v, 3),
+        )?),
+        Keyword::Store => Ok(store(
+            index_at(v, 0),
+            number_at(v, 1),
+            number_at(v, 2),
+            number_at(v, 3),
+            optional_at(v, 4),
+        )?),
+        Keyword::Tramp => Ok(tramp(index_at(v, 0), number_at(v, 1), optional_at(v, 2))),
+        Keyword::Serve => Ok(serve(index_at(v, 0))),
+        Keyword::Fork => Ok(fork(index_at(v, 0))),
         Keyword::Exec => Ok(exec(draft, v)?),
-        Keyword::Sbrk => Ok(one(sbrk(v))),
-        Keyword::Mmap => Ok(one(mmap(v))),
-        Keyword::Munmap => Ok(one(munmap(v))),
-        Keyword::CopyIn => Ok(copy_in(v)?),
+        Keyword::Sbrk => Ok(sbrk(index_at(v, 0), signed_at(v, 1))),
+        Keyword::Mmap => Ok(mmap(
+            index_at(v, 0),
+            number_at(v, 1),
+            number_at(v, 2),
+            number_at(v, 3),
+            index_at(v, 4),
+        )),
+        Keyword::Munmap => Ok(munmap(index_at(v, 0), number_at(v, 1), number_at(v, 2))),
+        Keyword::CopyIn => Ok(copy_in(index_at(v, 0), number_at(v, 1), index_at(v, 2))?),
         Keyword::CopyOut => Ok(copy_out(alloc, values)?),
-        Keyword::Exit => Ok(exit(v)?),
+        Keyword::Exit => Ok(exit(index_at(v, 0), signed_at(v, 1))?),
         Keyword::Show => Ok(show(draft, v)?),
         Keyword::Audit => Ok(Item::Command(Command::Audit)),
-        Keyword::On => Ok(on(v)),
-        Keyword::Enter => Ok(enter(v)),
-        Keyword::Leave => Ok(leave(v)),
-        Keyword::Fix => Ok(fix(v)),
+        Keyword::On => Ok(on(index_at(v, 0), index_at(v, 1))),
+        Keyword::Enter => Ok(enter(index_at(v, 0))),
+        Keyword::Leave => Ok(leave(index_at(v, 0))),
+        Keyword::Fix => Ok(fix(index_at(v, 0))),
         Keyword::Pool | Keyword::List => Err(LineFault::Cause(Cause::Word)),
     }
 }

@@ -17,7 +17,8 @@ pub fn in_limits<T: Drop>(within: bool, said: T) -> Result<T, Cause>
     if within { Ok(said) } else { Err(Cause::Limits) }
 }
 
-/// Returns the item of a line that is one step.
+/// Returns the item of a line that is one step. Inlined, since the caller may know which step it is.
+#[inline(always)]
 pub fn one(step: Step<'static>) -> Item
     ensures { result ≡ words.one step.entry }
 {

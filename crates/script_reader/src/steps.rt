@@ -1,80 +1,59 @@
-// Parsers of the script lines that are one step of a hart, without limits to check: `switch`, `trap`, `next`, `fill`,
-// `evict`, `fetch`, `tramp`. Each makes the step from the values of the line's fields.
+// Makers of the items of script lines that are one step of a hart, without limits to check: `switch`, `trap`, `next`, `fill`,
+// `evict`, `fetch`, `tramp`, from the fields of the line.
 
-ghost use Rattle.std.specs.Prelude.{◌≡◌, Ok};
+ghost use Rattle.std.specs.Prelude.{◌≡◌};
+ghost use Rattle.process_model.specs.declared.step.Step.TheVariants as step;
 ghost use Rattle.script_language.specs.Script as words;
-ghost use Rattle.script_reader.specs.Alone.{item_alone};
 
-use crate::field_access::{index_at, number_at, optional_at};
+use crate::limits::one;
 use process_model::Step;
-use script_language::{FieldValue, Keyword};
+use script_language::Item;
 
-/// Makes the step of `switch HART SLOT`; for a SLOT of `-` the slot is `None`.
-pub fn switch(values: &[FieldValue]) -> Step<'static>
-    ensures { Ok (words.one result) ≡ item_alone Keyword.Switch values.now }
+/// Makes the item of `switch HART SLOT`; for a SLOT of `-` the slot is `None`.
+pub fn switch(hart: usize, slot: Option<usize>) -> Item
+    ensures { result ≡ words.one (step.Switch hart slot) }
 {
-    Step::Switch {
-        hart: index_at(values, 0),
-        slot: optional_at(values, 1),
-    }
+    one(Step::Switch { hart, slot })
 }
 
-/// Makes the step of `trap HART`.
-pub fn trap(values: &[FieldValue]) -> Step<'static>
-    ensures { Ok (words.one result) ≡ item_alone Keyword.Trap values.now }
+/// Makes the item of `trap HART`.
+pub fn trap(hart: usize) -> Item
+    ensures { result ≡ words.one (step.Trap hart) }
 {
-    Step::Trap {
-        hart: index_at(values, 0),
-    }
+    one(Step::Trap { hart })
 }
 
-/// Makes the step of `next HART`.
-pub fn next(values: &[FieldValue]) -> Step<'static>
-    ensures { Ok (words.one result) ≡ item_alone Keyword.Next values.now }
+/// Makes the item of `next HART`.
+pub fn next(hart: usize) -> Item
+    ensures { result ≡ words.one (step.Next hart) }
 {
-    Step::Next {
-        hart: index_at(values, 0),
-    }
+    one(Step::Next { hart })
 }
 
-/// Makes the step of `fill HART ADDRESS`.
-pub fn fill(values: &[FieldValue]) -> Step<'static>
-    ensures { Ok (words.one result) ≡ item_alone Keyword.Fill values.now }
+/// Makes the item of `fill HART ADDRESS`.
+pub fn fill(hart: usize, address: u64) -> Item
+    ensures { result ≡ words.one (step.Fill hart address) }
 {
-    Step::Fill {
-        hart: index_at(values, 0),
-        address: number_at(values, 1),
-    }
+    one(Step::Fill { hart, address })
 }
 
-/// Makes the step of `evict HART ENTRY`.
-pub fn evict(values: &[FieldValue]) -> Step<'static>
-    ensures { Ok (words.one result) ≡ item_alone Keyword.Evict values.now }
+/// Makes the item of `evict HART ENTRY`.
+pub fn evict(hart: usize, entry: usize) -> Item
+    ensures { result ≡ words.one (step.Evict hart entry) }
 {
-    Step::Evict {
-        hart: index_at(values, 0),
-        entry: index_at(values, 1),
-    }
+    one(Step::Evict { hart, entry })
 }
 
-/// Makes the step of `fetch HART ADDRESS [@ENTRY]`; without `@ENTRY` the access walks the page table.
-pub fn fetch(values: &[FieldValue]) -> Step<'static>
-    ensures { Ok (words.one result) ≡ item_alone Keyword.Fetch values.now }
+/// Makes the item of `fetch HART ADDRESS [@ENTRY]`; without `@ENTRY` the access walks the page table.
+pub fn fetch(hart: usize, address: u64, via: Option<usize>) -> Item
+    ensures { result ≡ words.one (step.Fetch hart address via) }
 {
-    Step::Fetch {
-        hart: index_at(values, 0),
-        address: number_at(values, 1),
-        via: optional_at(values, 2),
-    }
+    one(Step::Fetch { hart, address, via })
 }
 
-/// Makes the step of `tramp HART OFFSET [@ENTRY]`; without `@ENTRY` the fetch walks the page table.
-pub fn tramp(values: &[FieldValue]) -> Step<'static>
-    ensures { Ok (words.one result) ≡ item_alone Keyword.Tramp values.now }
+/// Makes the item of `tramp HART OFFSET [@ENTRY]`; without `@ENTRY` the fetch walks the page table.
+pub fn tramp(hart: usize, offset: u64, via: Option<usize>) -> Item
+    ensures { result ≡ words.one (step.TrampolineFetch hart offset via) }
 {
-    Step::TrampolineFetch {
-        hart: index_at(values, 0),
-        offset: number_at(values, 1),
-        via: optional_at(values, 2),
-    }
+    one(Step::TrampolineFetch { hart, offset, via })
 }

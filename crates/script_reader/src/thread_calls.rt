@@ -1,8 +1,12 @@
-// Parsers of the calls in a file for threads that name no image and no list: `fetch`, `load`, `store`, `sbrk`, `mmap`,
-// `munmap`, `copyin`, `copyout`, `exit`, written as in scripts but without their hart. Each makes the line's item (what it
-// declares or commands).
+// Makers of the items of calls in a file for threads that name no image and no list: `fetch`, `load`, `store`, `sbrk`, `mmap`,
+// `munmap`, `copyin`, `copyout`, `exit`, written as in scripts but without their hart. Each makes the item (what a line declares
+// or commands) from the fields of the line, or from their values.
 
-ghost use Rattle.std.specs.Prelude.{◌≡◌, Ok};
+ghost use Rattle.std.specs.Prelude.{◌≡◌, Ok, nat_le};
+ghost use Rattle.process_model.specs.Bytes as bytes;
+ghost use Rattle.process_model.specs.Copies.{longest_copy};
+ghost use Rattle.process_model.specs.declared.call.Call.TheVariants as call;
+ghost use Rattle.script_language.specs.ReadLines.{in_limits};
 ghost use Rattle.script_language.specs.ThreadScript as words;
 ghost use Rattle.script_reader.specs.CallAlone.{call_alone};
 
@@ -12,7 +16,8 @@ use process_model::{Call, LONGEST_COPY, is_width};
 use script_language::{Cause, FieldValue, Keyword, ListedCall, ThreadItem};
 use std::alloc::Global;
 
-/// Returns the item of a call that borrows nothing.
+/// Returns the item of a call that borrows nothing. Inlined, as `load` and `store` are.
+#[inline(always)]
 pub fn one(call: Call<'static>) -> ThreadItem
     ensures { result ≡ words.one call.entry }
 {
@@ -20,43 +25,42 @@ pub fn one(call: Call<'static>) -> ThreadItem
 }
 
 /// Makes the item of `fetch ADDRESS`.
-pub fn fetch(values: &[FieldValue]) -> ThreadItem
-    ensures { Ok result ≡ call_alone Keyword.Fetch values.now }
+pub fn fetch(address: u64) -> ThreadItem
+    ensures { result ≡ words.one (call.Fetch address) }
 {
-    one(Call::Fetch {
-        address: number_at(values, 0),
-    })
+    one(Call::Fetch { address })
 }
 
 /// Makes the item of `load ADDRESS WIDTH`.
 ///
 /// # Errors
 /// `Limits`, exactly when WIDTH is none of 1, 2, 4 and 8 bytes.
-pub fn load(values: &[FieldValue]) -> Result<ThreadItem, Cause>
-    ensures { result ≡ call_alone Keyword.Load values.now }
+#[inline(always)]
+pub fn load(address: u64, width: u64) -> Result<ThreadItem, Cause>
+    ensures { result ≡ in_limits (bytes.is_width width) (words.one (call.Load address width)) }
 {
-    let width = number_at(values, 1);
-    let call = Call::Load {
-        address: number_at(values, 0),
-        width,
-    };
-    in_limits(is_width(width), one(call))
+    if !is_width(width) {
+        return Err(Cause::Limits);
+    }
+    Ok(one(Call::Load { address, width }))
 }
 
 /// Makes the item of `store ADDRESS WIDTH VALUE`.
 ///
 /// # Errors
 /// `Limits`, exactly when WIDTH is none of 1, 2, 4 and 8 bytes.
-pub fn store(values: &[FieldValue]) -> Result<ThreadItem, Cause>
-    ensures { result ≡ call_alone Keyword.Store values.now }
+#[inline(always)]
+pub fn store(address: u64, width: u64, value: u64) -> Result<ThreadItem, Cause>
+    ensures { result ≡ in_limits (bytes.is_width width) (words.one (call.Store address width value)) }
 {
-    let width = number_at(values, 1);
-    let call = Call::Store {
-        address: number_at(values, 0),
+    if !is_width(width) {
+        return Err(Cause::Limits);
+    }
+    Ok(one(Call::Store {
+        address,
         width,
-        value: number_at(values, 2),
-    };
-    in_limits(is_width(width), one(call))
+        value,
+    }))
 }
 
 /// Makes the item of `sbrk DELTA`, with a signed number of bytes.
@@ -94,15 +98,10 @@ pub fn munmap(values: &[FieldValue]) -> ThreadItem
 ///
 /// # Errors
 /// `Limits`, exactly when COUNT is above 256 bytes.
-pub fn copy_in(values: &[FieldValue]) -> Result<ThreadItem, Cause>
-    ensures { result ≡ call_alone Keyword.CopyIn values.now }
+pub fn copy_in(address: u64, count: usize) -> Result<ThreadItem, Cause>
+    ensures { result ≡ in_limits (nat_le count longest_copy) (words.one (call.CopyIn address count)) }
 {
-    let count = index_at(values, 1);
-    let call = Call::CopyIn {
-        address: number_at(values, 0),
-        count,
-    };
-    in_limits(count <= LONGEST_COPY, one(call))
+    in_limits(count <= LONGEST_COPY, one(Call::CopyIn { address, count }))
 }
 
 /// Makes the item of `copyout ADDRESS HEX`.

@@ -1,100 +1,89 @@
-// Fast path of the reader of files for threads: `add_fast` parses a common call (`load`, `store`, `fetch`, `copyin` or
-// `fork`, and numbers) in one pass and adds it to the open list of the draft (what the lines so far declare). The words are
-// found and the numbers read by the fast path of scripts (`fast_path`, `number_prefixes`). `None` is no fault: the line, of
-// another form or with a fault, is then read field by field.
+// Fast path of the reader of files for threads: `add_fast` finds the word of a common call (`load`, `store`, `fetch`,
+// `copyin` or `fork`, and numbers), reads the fields after it in one pass (`fast_path`), and adds the call that the makers of
+// the reader make of them to the open list of the draft (what the lines so far declare). A line that the fast path cannot read
+// is left to be read field by field.
 
 ghost use Rattle.std.specs.Prelude.{◌≡◌, ℕ, IfSome, MatchOption, Ok, OnOk, codes, true};
 ghost use Rattle.script_language.specs.ReadLines.{is_ascii, with_said};
 ghost use Rattle.script_language.specs.ThreadScript as words;
 ghost use Rattle.script_reader.specs.FastWords.{letters};
-ghost use Rattle.script_reader.specs.ThreadFastLines.{AddsCall, SaysCall, takes_calls};
+ghost use Rattle.script_reader.specs.ThreadFastLines.{AddsCall, AddsMade, SaysItem, takes_calls};
 
-use crate::fast_path::{FastWord, is_over, one, word_prefix};
-use crate::number_prefixes::{is_end, next_address, next_number};
+use crate::fast_path::{
+    FastWord, one_address, one_number, three_numbers, two_numbers, word_prefix,
+};
+use crate::number_prefixes::is_end;
+use crate::thread_calls::{copy_in, fetch, load, store};
 use crate::thread_draft::ThreadDraft;
-use process_model::{Call, LONGEST_COPY, is_width};
-use script_language::{LONGEST_LINE, ListedCall};
+use crate::thread_named::fork;
+use script_language::{Cause, LONGEST_LINE, ThreadItem};
 use std::alloc::AllocError;
 
-/// Parses the fields of `fetch`: the address. `None`: to be read field by field.
-fn fetch(line: &[u8]) -> Option<ListedCall>
-    ensures { IfSome result (λ c. (s : words.ThreadDraft) → SaysCall s (codes "fetch") line.now c) }
-{
-    let (address, line) = next_address(line)?;
-    if !is_over(line) {
-        return None;
-    }
-    Some(ListedCall::One(Call::Fetch { address }))
-}
-
-/// Parses the fields of `load`: address and width. `None`: to be read field by field. Inlined, so that the call need not be
-/// copied to the caller.
+/// Adds the call that was made of a line. `None`: the line has a fault, and the draft is unchanged. Inlined, since the caller
+/// may know which call it is.
 #[inline(always)]
-fn load(line: &[u8]) -> Option<ListedCall>
-    ensures { IfSome result (λ c. (s : words.ThreadDraft) → SaysCall s (codes "load") line.now c) }
+fn add_made(
+    draft: &mut ThreadDraft,
+    made: Result<ThreadItem, Cause>,
+) -> Option<Result<(), AllocError>>
+    requires { takes_calls draft.old ≡ true }
+    ensures added { IfSome result (λ done. OnOk done (AddsMade draft.old draft.new made)) }
+    ensures other { MatchOption result (draft.new ≡ draft.old) (λ _. Unit {0}) }
 {
-    let (address, line) = next_address(line)?;
-    let (width, line) = next_number(line)?;
-    if !is_over(line) || !is_width(width) {
+    let Ok(item) = made else {
         return None;
+    };
+    match item {
+        ThreadItem::Call(call) => Some(draft.add_call(call)),
+        ThreadItem::File(_)
+        | ThreadItem::Image(_)
+        | ThreadItem::Pool(_)
+        | ThreadItem::List(_)
+        | ThreadItem::Start(_) => None,
     }
-    Some(ListedCall::One(Call::Load { address, width }))
 }
 
-/// Parses the fields of `store`: address, width and value. `None`: to be read field by field. Inlined, so that the call need
-/// not be copied to the caller.
+/// Returns what `load` and the fields after it make. `None`: to be read field by field.
 #[inline(always)]
-fn store(line: &[u8]) -> Option<ListedCall>
-    ensures { IfSome result (λ c. (s : words.ThreadDraft) → SaysCall s (codes "store") line.now c) }
+fn load_item(fields: &[u8]) -> Option<Result<ThreadItem, Cause>>
+    ensures { IfSome result (λ made. (s : words.ThreadDraft) → SaysItem s (codes "load") fields.now made) }
 {
-    let (address, line) = next_address(line)?;
-    let (width, line) = next_number(line)?;
-    let (value, line) = next_address(line)?;
-    if !is_over(line) || !is_width(width) {
-        return None;
-    }
-    Some(ListedCall::One(Call::Store {
-        address,
-        width,
-        value,
-    }))
+    let (address, width) = two_numbers(fields)?;
+    Some(load(address, width))
 }
 
-/// Parses the fields of `copyin`: address and count. `None`: to be read field by field. A count above 256 is left to that,
-/// since it is a fault.
-fn copy_in(line: &[u8]) -> Option<ListedCall>
-    ensures { IfSome result (λ c. (s : words.ThreadDraft) → SaysCall s (codes "copyin") line.now c) }
+/// Returns what `store` and the fields after it make. `None`: to be read field by field.
+#[inline(always)]
+fn store_item(fields: &[u8]) -> Option<Result<ThreadItem, Cause>>
+    ensures { IfSome result (λ made. (s : words.ThreadDraft) → SaysItem s (codes "store") fields.now made) }
 {
-    let (address, line) = next_address(line)?;
-    let count = one(line)?;
-    if count > LONGEST_COPY {
-        return None;
-    }
-    Some(ListedCall::One(Call::CopyIn { address, count }))
+    let (address, width, value) = three_numbers(fields)?;
+    Some(store(address, width, value))
 }
 
-/// Parses the field of `fork`: a list. `None`: to be read field by field. A list that no line of the file begins is left to
-/// that, since it is a fault.
-fn fork(draft: &ThreadDraft, line: &[u8]) -> Option<ListedCall>
-    ensures { IfSome result (λ c. SaysCall draft.now (codes "fork") line.now c) }
-{
-    let list = one(line)?;
-    if !draft.is_named(list) {
-        return None;
-    }
-    Some(ListedCall::One(Call::Fork { list }))
-}
-
-/// Parses the fields after a word, and returns the call of both. `None`: to be read field by field.
-fn fast_call(draft: &ThreadDraft, word: FastWord, line: &[u8]) -> Option<ListedCall>
-    ensures { IfSome result (λ c. SaysCall draft.now (letters word) line.now c) }
+/// Returns what a word and the fields after it make. `None`: to be read field by field.
+fn fast_item(
+    draft: &ThreadDraft,
+    word: FastWord,
+    fields: &[u8],
+) -> Option<Result<ThreadItem, Cause>>
+    ensures { IfSome result (λ made. SaysItem draft.now (letters word) fields.now made) }
 {
     match word {
-        FastWord::Load => load(line),
-        FastWord::Store => store(line),
-        FastWord::Fetch => fetch(line),
-        FastWord::CopyIn => copy_in(line),
-        FastWord::Fork => fork(draft, line),
+        FastWord::Load => load_item(fields),
+        FastWord::Store => store_item(fields),
+        FastWord::Fetch => {
+            let address = one_address(fields)?;
+            Some(Ok(fetch(address)))
+        }
+        FastWord::CopyIn => {
+            let (address, count) = two_numbers(fields)?;
+            Some(copy_in(address, count as usize))
+        }
+        FastWord::Fork => {
+            let list = one_number(fields)?;
+            Some(fork(draft, list as usize))
+        }
         _ => None,
     }
 }
@@ -111,12 +100,12 @@ fn add_other(
     ensures added { IfSome result (λ done. OnOk done (AddsCall draft.old draft.new (letters word) fields.now)) }
     ensures other { MatchOption result (draft.new ≡ draft.old) (λ _. Unit {0}) }
 {
-    let call = fast_call(draft, word, fields)?;
-    Some(draft.add_call(call))
+    let made = fast_item(draft, word, fields)?;
+    add_made(draft, made)
 }
 
 /// Adds the call of a word. `None`: the fast path does not parse its fields, and the draft is unchanged. Loads and stores,
-/// most lines of most files, are added where they are parsed.
+/// most lines of most files, are added where they are read.
 #[inline(always)]
 fn add_word(
     draft: &mut ThreadDraft,
@@ -128,8 +117,8 @@ fn add_word(
     ensures other { MatchOption result (draft.new ≡ draft.old) (λ _. Unit {0}) }
 {
     match word {
-        FastWord::Load => Some(draft.add_call(load(fields)?)),
-        FastWord::Store => Some(draft.add_call(store(fields)?)),
+        FastWord::Load => add_made(draft, load_item(fields)?),
+        FastWord::Store => add_made(draft, store_item(fields)?),
         _ => add_other(draft, word, fields),
     }
 }

@@ -1,4 +1,4 @@
-// `make_item`: calls the parser that belongs to the word of a line of a file for threads, and returns the line's item: a
+// `make_item`: calls the maker that belongs to the word of a line of a file for threads, and returns the line's item: a
 // file, an image, the pool (numbers of frames and slots), the beginning of a list, a call, or a start.
 
 ghost use Rattle.script_language.specs.ThreadScript as words;
@@ -6,6 +6,7 @@ ghost use Rattle.script_reader.specs.ReadResults.{GivesLine};
 
 use crate::declarations::{elf, file, image};
 use crate::fault::LineFault;
+use crate::field_access::{index_at, number_at};
 use crate::thread_calls::{copy_in, copy_out, exit, fetch, load, mmap, munmap, sbrk, store};
 use crate::thread_draft::ThreadDraft;
 use crate::thread_named::{exec, fork, list, pool, start};
@@ -34,17 +35,17 @@ pub fn make_item(
         Keyword::Pool => Ok(pool(v)?),
         Keyword::List => Ok(list(draft, v)?),
         Keyword::Start => Ok(start(draft, v)?),
-        Keyword::Fetch => Ok(fetch(v)),
-        Keyword::Load => Ok(load(v)?),
-        Keyword::Store => Ok(store(v)?),
+        Keyword::Fetch => Ok(fetch(number_at(v, 0))),
+        Keyword::Load => Ok(load(number_at(v, 0), number_at(v, 1))?),
+        Keyword::Store => Ok(store(number_at(v, 0), number_at(v, 1), number_at(v, 2))?),
         Keyword::Exec => Ok(exec(draft, v)?),
         Keyword::Sbrk => Ok(sbrk(v)),
         Keyword::Mmap => Ok(mmap(v)),
         Keyword::Munmap => Ok(munmap(v)),
-        Keyword::CopyIn => Ok(copy_in(v)?),
+        Keyword::CopyIn => Ok(copy_in(number_at(v, 0), index_at(v, 1))?),
         Keyword::CopyOut => Ok(copy_out(alloc, values)?),
         Keyword::Exit => Ok(exit(v)?),
-        Keyword::Fork => Ok(fork(draft, v)?),
+        Keyword::Fork => Ok(fork(draft, index_at(v, 0))?),
         Keyword::Boot
         | Keyword::Switch
         | Keyword::Trap

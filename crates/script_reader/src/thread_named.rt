@@ -2,6 +2,8 @@
 // `pool`, the numbers of frames and slots. Each makes the line's item (what it declares or commands) and checks its limits.
 
 ghost use Rattle.std.specs.Prelude.{◌≡◌};
+ghost use Rattle.process_model.specs.declared.call.Call.TheVariants as call;
+ghost use Rattle.script_language.specs.ReadLines.{in_limits};
 ghost use Rattle.script_language.specs.ThreadScript as words;
 ghost use Rattle.script_reader.specs.CallAlone.{call_alone};
 
@@ -69,9 +71,8 @@ pub fn exec(draft: &ThreadDraft, values: &[FieldValue]) -> Result<ThreadItem, Ca
 ///
 /// # Errors
 /// `Limits`, exactly when no line of the file begins list K.
-pub fn fork(draft: &ThreadDraft, values: &[FieldValue]) -> Result<ThreadItem, Cause>
-    ensures { result ≡ words.item_of draft.now Keyword.Fork values.now }
+pub fn fork(draft: &ThreadDraft, list: usize) -> Result<ThreadItem, Cause>
+    ensures { result ≡ in_limits (words.is_named (draft.now).named list) (words.one (call.Fork list)) }
 {
-    let list = index_at(values, 0);
     in_limits(draft.is_named(list), one(Call::Fork { list }))
 }
