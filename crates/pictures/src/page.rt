@@ -23,15 +23,12 @@ const AFTER_TITLE: &str = "</title>
 <style>
 :root { color-scheme: light }
 body { margin: 0; font: 15px/1.45 system-ui, sans-serif; color: #111; background: #fff }
-header { position: sticky; top: 0; display: flex; flex-wrap: wrap; gap: .5em; align-items: center; padding: .5em 1em; background: #eee;
-border-bottom: 1px solid #999 }
+header { position: sticky; top: 0; display: flex; flex-wrap: wrap; gap: .5em; align-items: center; padding: .5em 1em; background: #eee; border-bottom: 1px solid #999 }
 header input { flex: 1; min-width: 8em }
 button { font: inherit; min-width: 2.6em; min-height: 2.2em }
 main { display: grid; grid-template-columns: minmax(16em, 24em) minmax(0, 1fr); gap: 1em; padding: 1em }
-#lines { margin: 0; padding: 0; list-style: none; font: 13px/1.5 ui-monospace, Menlo, Consolas, monospace; max-height: calc(100vh - 6em);
-overflow: auto; position: sticky; top: 4.5em }
-#lines button { display: block; width: 100%; min-height: 0; padding: .1em .4em; text-align: left; font: inherit; white-space: pre-wrap;
-overflow-wrap: anywhere; border: 0; border-left: .4em solid transparent; background: none }
+#lines { margin: 0; padding: 0; list-style: none; font: 13px/1.5 ui-monospace, Menlo, Consolas, monospace; max-height: calc(100vh - 6em); overflow: auto; position: sticky; top: 4.5em }
+#lines button { display: block; width: 100%; min-height: 0; padding: .1em .4em; text-align: left; font: inherit; white-space: pre-wrap; overflow-wrap: anywhere; border: 0; border-left: .4em solid transparent; background: none }
 #lines button[aria-current] { border-left-color: #c2185b; background: #f3e3ea; font-weight: bold }
 #lines .answer { color: #444 }
 h2 { font: bold 17px/1.4 ui-monospace, Menlo, Consolas, monospace; margin: 0 0 .4em; overflow-wrap: anywhere }
@@ -101,8 +98,7 @@ function show(number) {
   at('after').replaceChildren(after);
   at('slider').value = now;
   at('place').textContent = 'line ' + (now + 1) + ' of ' + steps.length;
-  [...at('lines').children].forEach((it, place) => place === now ? it.firstChild.setAttribute('aria-current', 'step') :
-  it.firstChild.removeAttribute('aria-current'));
+  [...at('lines').children].forEach((it, place) => place === now ? it.firstChild.setAttribute('aria-current', 'step') : it.firstChild.removeAttribute('aria-current'));
   at('lines').children[now].scrollIntoView({ block: 'nearest' });
   history.replaceState(null, '', '#' + (now + 1));
 }
