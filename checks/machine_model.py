@@ -11,7 +11,14 @@ import re
 
 PAGE = 4096
 WORD = 1 << 64
-BUFFER = 32
+
+# ---------------------------------------------------------------- the limits
+
+HARTS, SLOTS, BUFFER = 8, 64, 32
+FEWEST_FRAMES, FRAMES = 16, 1024
+SEGMENTS, MAPPINGS, FILES = 16, 16, 16
+LONGEST_IMAGE, LONGEST_MAPPING, LONGEST_FILE, LONGEST_COPY = 1 << 20, 1 << 20, 1 << 16, 256
+IMAGES, LINES = 64, 100000
 
 # ---------------------------------------------------------------- the model: images
 
@@ -72,7 +79,7 @@ SCHEMES = {"sv39": Scheme("sv39", 38, (18, 9), 5), "sv48": Scheme("sv48", 47, (2
 
 def elf_segments(data):
     """The LOAD headers of ELF bytes; each must lie in the bytes, which is checked before the next is read."""
-    demand(len(data) <= 1048576, "BadImage", "TooLong")
+    demand(len(data) <= LONGEST_IMAGE, "BadImage", "TooLong")
     demand(len(data) >= 64, "BadImage", "Header")
     demand(data[:4] == b"\x7fELF", "BadImage", "Magic")
     field = lambda at, size: int.from_bytes(data[at:at + size], "little")
@@ -96,7 +103,7 @@ def read_image(image, scheme):
             demand(off + filesz <= len(data), "BadImage", "Contents")
             demand((up(vaddr + memsz) + 2) * PAGE <= scheme.trapframe, "BadImage", "TooHigh")
             demand(vaddr >= end, "BadImage", "Order")
-            demand(len(taken) < 16, "BadImage", "TooMany")
+            demand(len(taken) < SEGMENTS, "BadImage", "TooMany")
             end = up(vaddr + memsz) * PAGE
             taken.append(Segment(vaddr, memsz, flags, data[off:off + filesz]))
     demand(taken, "BadImage", "NoLoad")
@@ -426,9 +433,9 @@ class Machine:
     def mmap(self, number, length, prot, flags, file):
         """Maps a file at the greatest address that has room."""
         process = self.slots[self.hart(number, ("kernel",)).slot]
-        demand(1 <= length <= 1048576 and 1 <= prot <= 7 and flags in (1, 2) and file < len(self.files), "BadArgument")
+        demand(1 <= length <= LONGEST_MAPPING and 1 <= prot <= 7 and flags in (1, 2) and file < len(self.files), "BadArgument")
         demand(flags == 2 or not prot & 2 or self.files[file][0], "FileNotWritable")
-        demand(len(process.maps) < 16, "MappingsFull")
+        demand(len(process.maps) < MAPPINGS, "MappingsFull")
         end, count = self.scheme.trapframe // PAGE, up(length)
         for mapping in reversed(process.maps):
             if end - count >= mapping.first + mapping.count:
@@ -602,13 +609,13 @@ class Script:
             return read_number(text[1:], "Field")
         if kind in ("hex", "fewbytes"):
             value = read_hex(text)
-            need(kind == "hex" or len(value) <= 256, "Limits")
+            need(kind == "hex" or len(value) <= LONGEST_COPY, "Limits")
             return value
         if kind == "segment":
             return read_segment(text)
         value = read_signed(text) if kind in ("signed", "status") else read_number(text)
         good = {"width": value in (1, 2, 4, 8), "image": value < len(self.images), "shown": value < len(self.files),
-                "few": value <= 256, "status": -1 << 31 <= value < 1 << 31}
+                "few": value <= LONGEST_COPY, "status": -1 << 31 <= value < 1 << 31}
         need(good.get(kind, True), "Limits")
         return value
 
@@ -638,20 +645,20 @@ class Script:
     def take(self, command, values):
         """Checks what a line declares, and keeps it."""
         if command == "file":
-            need(values[0] <= 65536 and len(values[2]) <= values[0], "Limits")
-            need(len(self.files) < 16, "TooMany")
+            need(values[0] <= LONGEST_FILE and len(values[2]) <= values[0], "Limits")
+            need(len(self.files) < FILES, "TooMany")
             self.files.append((values[1] == "rw", values[2].ljust(values[0], b"\0")))
         elif command in DECLARATIONS:
-            need(len(self.images) < 64, "TooMany")
+            need(len(self.images) < IMAGES, "TooMany")
             self.images.append(values if command == "image" else values[0])
         elif command == "boot":
             harts, frames, slots, policy, scheme = values
             scheme = SCHEMES[scheme or "sv39"]
-            need(1 <= harts <= 8 and 16 <= frames <= 1024 and 1 <= slots <= 64, "Limits")
+            need(1 <= harts <= HARTS and FEWEST_FRAMES <= frames <= FRAMES and 1 <= slots <= SLOTS, "Limits")
             need(frames >= scheme.kernel_frames(frames, slots), "Limits")
             self.boot = (harts, frames, slots, policy, scheme)
         else:
-            need(len(self.steps) < 100000, "TooMany")
+            need(len(self.steps) < LINES, "TooMany")
             self.steps.append((command, values))
 
     def machine(self):

@@ -112,7 +112,7 @@ RULES = [
     (rf"are its own, at most {N}\b", constant("MOST_CALLS")),
     (rf"journal, of at most {N} entries", constant("MOST_ENTRIES")),
     (rf"A piece of at most {N} bytes is read", found("crates/audit_player/src/transfer.rt", r"\[0u8; (\d+)\]")),
-    (rf"which is written at {N} bytes", constant("PAGE")),
+    (rf"which is written at {N} bytes", constant("BLOCK")),
     (rf"`PackedCommand` of {N} bytes", found("crates/script_reader/src/commands.rt", r"size_of::<PackedCommand>\(\) == (\d+)")),
     (rf"(?:put back after|After|makes up to) {N} (?:of its )?calls", constant("QUANTUM")),
     (rf"{N} are listed", constant("MOST_LISTED")),

@@ -31,8 +31,10 @@ class Sources:
         self.read_crates()
         self.paths = set(self.walk())
         self.files = {os.path.basename(it) for it in self.paths}
+        self.formulas = []
         for path in sorted(self.paths):
             self.read(path)
+        self.evaluate()
 
     def read_crates(self):
         for line in (self.root / "crates.txt").read_text().splitlines():
@@ -135,9 +137,17 @@ class Sources:
                 self.names[name].add(crate)
 
     def note_constant(self, crate, code):
-        found = re.search(r"const (\w+): .*?= ([\d_xa-fA-F *<+-]+);", code)
+        found = re.search(r"const (\w+): .*?= ([A-Z\d_xa-f *<+-]+);", code)
         if found:
-            self.constants[found[1]].add((crate, eval(found[2], {})))
+            self.formulas.append((crate, found[1], found[2]))
+
+    def evaluate(self):
+        """Constants may be made of others: those whose parts have one value each, until none is left that has."""
+        for _ in range(3):
+            known = {name: value for name, values in self.constants.items() for _, value in values}
+            for crate, name, formula in self.formulas:
+                if set(re.findall(r"\b[A-Z]\w*", formula)) <= set(known):
+                    self.constants[name].add((crate, eval(formula, {}, known)))
 
     def read_definitions(self, crate, text):
         container, whole = (), ""

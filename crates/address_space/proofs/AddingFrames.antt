@@ -1,6 +1,5 @@
 -- Lemmas on the frames of a space when a page gets one: a frame is claimed and filled (`Comes`); then a leaf is written over
--- it, with the tables that were missing. After both, the seat (an owner's capability at a frame store) owns the named frames
--- (`leaf_owns`).
+-- it, with the tables that were missing. After both, the seat owns the named frames (`leaf_owns`).
 use Rattle.std.proofs.Common.{◌≡◌, ℕ, ◌+◌, ◌<◌, ◌⊎◌, None, Some, true, refl, ap, sym, subst, ◌∙◌, inl, inr, arith}
 use Rattle.std.proofs.lemmas.Bool.{cases_eq}
 use Rattle.std.proofs.lemmas.Option.{same_Some}

@@ -1,5 +1,5 @@
--- Lemma `adds`, for the call `add_page`: once a frame is claimed and filled, the missing tables are made and a leaf names
--- the frame, the process with this page settled (in memory) is in memory, as `AddsPage` says.
+-- Lemma `adds`, for the call `add_page`: once a frame is claimed and filled, the missing tables are made and a leaf names the
+-- frame, the process with this page settled is in memory, as `AddsPage` says.
 use Rattle.std.proofs.Common.{◌≡◌, ℕ, ◌<◌, None, Some, List, ◌∷◌, not, ◌&&◌, false, refl, ap, sym, ◌∙◌, inl, inr, arith}
 use Rattle.std.proofs.lemmas.Bool.{cases_eq}
 use Rattle.std.proofs.lemmas.Option.{same_Some}

@@ -1,6 +1,6 @@
 -- Lemmas for `Space::settle`, which reserves the frames for a page and its missing tables together. If that is refused, the
 -- space is as it was and the seat's tallies (counts of claims and reads) say why (`RunsDry`); else the page can be added
--- (`can_add`), and then it is settled (in memory) as `Settles` says.
+-- (`can_add`), and then it is settled as `Settles` says.
 use Rattle.std.proofs.Common.{◌≡◌, ℕ, ◌+◌, ◌-◌, ◌<◌, ◌≤◌, Option, Some, List, ◌∷◌, append-nil, Result, Ok, Err, IsOk, IsErr, IfErr, is_ok, if◌then◌else◌, true, false, ap, sym, ◌∙◌, arith, [], subst}
 use Rattle.std.specs.Prelude.{All}
 use Rattle.frame_store.specs.Holds.{hold_of-frames}

@@ -1,6 +1,5 @@
--- Lemmas on a build part by part (a part is a region with its first bytes): once the pages of the first parts are filled,
--- the next part can be filled (`can_fill`) and the credits (reserved frames) suffice for it; after it one part more is
--- filled (`part_fills`).
+-- Lemmas on a build part by part (a part is a region with its first bytes): once the pages of the first parts are filled, the
+-- next part can be filled (`can_fill`) and the credits suffice for it; after it one part more is filled (`part_fills`).
 use Rattle.std.proofs.Common.{◌≡◌, ℕ, zero, suc, true, false, ◌+◌, ◌<◌, ◌≤◌, Some, inl, inr, refl, ap, sym, subst, ◌∙◌, arith, List, [], ◌∷◌, ◌++◌, length, map, get_or, take, drop}
 use Rattle.std.specs.Prelude.{Contains}
 use Rattle.std.proofs.lemmas.Bool.Decides.{nat_tests}

@@ -1,5 +1,4 @@
--- Lemma `soles_stay`: when a page is added, the seat (an owner's capability at a frame store) stays the sole holder of each
--- frame of which it was.
+-- Lemma `soles_stay`: when a page is added, the seat stays the sole holder of each frame of which it was.
 use Rattle.std.proofs.Common.{ℕ, inl, inr}
 use Rattle.std.proofs.lemmas.Bool.{cases_Bool, cases_eq}
 use Rattle.frame_store.specs.View.{View, hold_of, IsSole}

@@ -1,5 +1,5 @@
--- Lemmas on a build page by page within one part (a region with its first bytes): the next page can be added (`can_add`),
--- the credits (reserved frames) suffice, and after it one page more of the part is filled (`next_fills`).
+-- Lemmas on a build page by page within one part (a region with its first bytes): the next page can be added (`can_add`), the
+-- credits suffice, and after it one page more of the part is filled (`next_fills`).
 use Rattle.std.proofs.Common.{◌≡◌, ℕ, ◌+◌, ◌-◌, ◌*◌, ◌<◌, ◌≤◌, inl, inr, refl, ap, sym, subst, ◌∙◌, arith, List, [], ◌∷◌, drop}
 use Rattle.std.specs.Prelude.{All, Contains}
 use Rattle.std.proofs.lemmas.Bool.{cases_eq}

@@ -1,6 +1,5 @@
--- Lemmas for `open_tables`, the first tables of a space: an empty root, then TRAMPOLINE's leaf over frame 0, then
--- TRAPFRAME's leaf. What the seat (an owner's capability at a frame store) owns after each, the result (`opens`), and the
--- credits (reserved frames) spent.
+-- Lemmas for `open_tables`, the first tables of a space: an empty root, then TRAMPOLINE's leaf over frame 0, then TRAPFRAME's
+-- leaf. What the seat owns after each, the result (`opens`), and the credits spent.
 use Rattle.std.proofs.Common.{◌≡◌, ◌+◌, ℕ, true, false, ◌-◌, ◌≤◌, ◌⊎◌, Some, None, inl, inr, refl, ap, sym, ◌∙◌, arith, [], ◌∷◌}
 use Rattle.std.proofs.lemmas.Bool.{cases_eq}
 use Rattle.std.proofs.lemmas.Option.{same_Some}

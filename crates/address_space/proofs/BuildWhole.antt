@@ -1,7 +1,7 @@
--- Lemmas on a whole build of a space on a seat (an owner's capability at a frame store): all frames that the build needs are
--- reserved and one is claimed for the trapframe, the first tables are made, all parts (regions with their first bytes) are
--- filled. The credits (reserved frames) suffice for each step; at the end the space is the process (`agrees_whole`), and the
--- seat's tally of claimed frames has grown by all of them (`takes_all`).
+-- Lemmas on a whole build of a space on a seat: all frames that the build needs are reserved and one is claimed for the
+-- trapframe, the first tables are made, all parts (regions with their first bytes) are filled. The credits suffice for each
+-- step; at the end the space is the process (`agrees_whole`), and the seat's tally of claimed frames has grown by all of them
+-- (`takes_all`).
 use Rattle.std.proofs.Common.{◌≡◌, ℕ, ◌+◌, ◌*◌, ◌<◌, ◌≤◌, refl, ap, sym, ◌∙◌, arith, List, []}
 use Rattle.frame_store.specs.Holds.{hold_of-frames}
 use Rattle.frame_store.specs.Tallies.{spent_is, spent_on, spent_taken, taken_on}

@@ -1,6 +1,6 @@
 -- Lemmas on one leaf that is removed and the frame that it named: no other leaf or table names that frame; its reference is
--- dropped, and the seat (an owner's capability at a frame store) owns the others as before (`drops_leaf`). Also lemmas on
--- tallies (counts of claims and reads) of calls that claim no frame.
+-- dropped, and the seat owns the others as before (`drops_leaf`). Also lemmas on tallies (counts of claims and reads) of
+-- calls that claim no frame.
 use Rattle.std.proofs.Common.{◌≡◌, ℕ, Bool, true, false, ◌+◌, ◌-◌, ◌≤◌, ◌^◌, ◌&&◌, cond, Option, None, Some, refl, ap, sym, subst, ◌∙◌, inl, inr, arith}
 use Rattle.std.specs.Prelude.{nat_le, nat_lt, []}
 use Rattle.std.proofs.lemmas.Bool.{cases_eq}

@@ -1,6 +1,5 @@
 -- Lemmas on the end of a space whose pages are gone: TRAPFRAME's leaf is removed, then TRAMPOLINE's, and then the tables are
--- released (`strips`); at last the frames of these two pages are released, and the seat (an owner's capability at a frame
--- store) holds none (`is_bare`).
+-- released (`strips`); at last the frames of these two pages are released, and the seat holds none (`is_bare`).
 use Rattle.std.proofs.Common.{◌≡◌, ℕ, ◌<◌, ◌⊎◌, None, Some, refl, ap, sym, ◌∙◌, inl, inr, arith, subst}
 use Rattle.std.specs.Prelude.{[]}
 use Rattle.std.proofs.lemmas.Bool.{cases_eq}

@@ -3,7 +3,7 @@
 use Rattle.std.proofs.Common.{◌≡◌, ℕ, zero, suc, ◌<◌, ◌≤◌, length, get_or, arith, true, false, List, [], ◌∷◌, ◌++◌, map, drop, refl, ap, sym, ◌∙◌, inl, inr, Option, Some, None}
 use Rattle.std.proofs.lemmas.Bool.{cases_Bool}
 use Rattle.address_space.specs.Layouts.{region_of}
-use Rattle.address_space.specs.declared.region.Region.{Region as Run}
+use Rattle.address_space.specs.declared.region.Region.{Region as CodeRegion}
 use Rattle.process_model.specs.Process.{Process, heap_of, regions}
 use Rattle.process_model.specs.Regions.{Region, holds_page, region_at}
 
@@ -43,19 +43,19 @@ module _ (p : Process) (parts : List Region) (page : ℕ) (is : p.parts ≡ part
     mapping_found o other found = found ∙ sym (after_parts ∙ first_passed (heap_of p) p.mappings page (ap (λ r. holds_page r page) (sym heap) ∙ other))
 
 -- a region that does not hold the page is passed by
-pub passed : (rs : List Run) (i page : ℕ) (d : Run) → i < length rs → holds_page (region_of (get_or rs i d)) page ≡ false
+pub passed : (rs : List CodeRegion) (i page : ℕ) (d : CodeRegion) → i < length rs → holds_page (region_of (get_or rs i d)) page ≡ false
     → region_at (map region_of (drop i rs)) page ≡ region_at (map region_of (drop (suc i) rs)) page
 passed [] i page d less other = absurd (omega arith)
 passed (r ∷ rs) zero page d less other = rw other refl
 passed (r ∷ rs) (suc i) page d less other = passed rs i page d (omega arith) other
 
-pub met : (rs : List Run) (i page : ℕ) (d : Run) → i < length rs → holds_page (region_of (get_or rs i d)) page ≡ true
+pub met : (rs : List CodeRegion) (i page : ℕ) (d : CodeRegion) → i < length rs → holds_page (region_of (get_or rs i d)) page ≡ true
     → region_at (map region_of (drop i rs)) page ≡ Some (region_of (get_or rs i d))
 met [] i page d less held = absurd (omega arith)
 met (r ∷ rs) zero page d less held = rw held refl
 met (r ∷ rs) (suc i) page d less held = met rs i page d (omega arith) held
 
-pub none_left : (rs : List Run) (i page : ℕ) → length rs ≤ i → region_at (map region_of (drop i rs)) page ≡ None
+pub none_left : (rs : List CodeRegion) (i page : ℕ) → length rs ≤ i → region_at (map region_of (drop i rs)) page ≡ None
 none_left [] zero page past = refl
 none_left [] (suc i) page past = refl
 none_left (r ∷ rs) zero page past = absurd (omega arith)

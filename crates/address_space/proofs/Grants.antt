@@ -1,5 +1,5 @@
--- Lemma `grants`: in a space that is a process, the walk of a user access finds a leaf that permits it if and only if no
--- rule (reason for denial) of the regions denies it, alignment aside, and its page is resident (in memory and ready for it).
+-- Lemma `grants`: in a space that is a process, the walk of a user access finds a leaf that permits it if and only if no rule
+-- (reason for denial) of the regions denies it, alignment aside, and its page is resident.
 use Rattle.std.proofs.Common.{◌≡◌, ℕ, ◌%◌, Bool, Option, None, Some, true, false, refl, ap, sym, ◌∙◌, inl, inr}
 use Rattle.std.specs.Prelude.{◌↔◌}
 use Rattle.process_model.specs.PageMap as pages
@@ -7,8 +7,9 @@ use Rattle.process_model.specs.Process.{Page, Process, regions}
 use Rattle.process_model.specs.Regions.{copy_rule}
 use Rattle.process_model.specs.Residence.{access_answer, is_resident, is_resident_page, region_on}
 use Rattle.process_model.specs.Service.{Answer, AccessRequest, faulted, if_resident, if_settled, unless_denied}
-use Rattle.process_model.specs.declared.step.Reply.{Reply}
-use Rattle.process_model.specs.declared.step.Reply.TheVariants.{Fault}
+use Rattle.process_model.specs.declared.reply.Reply.{Reply}
+use Rattle.process_model.specs.declared.reply.ScalarReply.TheVariants.{Fault}
+use Rattle.process_model.specs.declared.reply.Reply.TheVariants.{Scalar}
 use Rattle.sv39_entry.specs.Address.{page_of}
 use Rattle.sv39_entry.specs.Causes.{page_fault_cause}
 use Rattle.sv39_entry.specs.declared.access.Access.{Access}
@@ -21,7 +22,7 @@ use Rattle.address_space.specs.Agreement.{Body, IsSpace}
 use Rattle.address_space.proofs.Users.{walked_by_user}
 
 abbrev is_fault : Reply → Bool
-is_fault (Fault cause) = true
+is_fault (Scalar (Fault cause)) = true
 is_fault _ = false
 
 no_fault : (access : Access) (s : Page) (offset width value : ℕ) → is_fault (access_answer access s offset width value).0 ≡ false

@@ -1,6 +1,5 @@
--- Lemmas on what the kernel's seat (an owner's capability at a frame store) holds, `HoldsKernel`: after an empty root is
--- made, after a frame is claimed for a stack, after tables are added. Also lemmas that sum up the credits (reserved frames)
--- spent.
+-- Lemmas on what the kernel's seat holds, `HoldsKernel`: after an empty root is made, after a frame is claimed for a stack,
+-- after tables are added. Also lemmas that sum up the credits spent.
 use Rattle.std.proofs.Common.{◌≡◌, ℕ, ◌+◌, ◌^◌, ◌<◌, ◌⊎◌, List, [], ◌∷◌, ◌++◌, length, Option, None, Some, inl, inr, refl, ap, sym, subst, ◌∙◌, arith}
 use Rattle.std.specs.FinMap.{FinMap, empty, get, get-empty}
 use Rattle.std.specs.Ordering.{nat_cmp}

@@ -1,6 +1,5 @@
--- Lemmas on `kernel_page`, the frame to which a page of the kernel is mapped: for the trampoline, a frame at its own
--- address, the stack of a slot (place in the process table), and none above the trampoline. What one more frame or stack
--- changes, and bounds of pages and frames.
+-- Lemmas on `kernel_page`, the frame to which a page of the kernel is mapped: for the trampoline, a frame at its own address,
+-- the stack of a slot, and none above the trampoline. What one more frame or stack changes, and bounds of pages and frames.
 use Rattle.std.proofs.Common.{◌≡◌, ℕ, zero, suc, ◌+◌, ◌-◌, ◌/◌, ◌%◌, ◌^◌, ◌<◌, ◌≤◌, ◌⊎◌, Bool, true, false, cond, List, [], ◌∷◌, ◌++◌, length, Option, None, Some, inl, inr, refl, ap, sym, subst, ◌∙◌, arith}
 use Rattle.std.specs.Prelude.{◌==◌, ◌&&◌, nat_le, nat_lt, option_map, slice_get}
 use Rattle.std.proofs.lemmas.Bool.{cases_eq, cases_lt, eq-eqb, ne_eqb, lt-ltb, le-ltb, le-leb, lt-leb, and_left, and_right, and_parts, eqb-true, ltb-true}

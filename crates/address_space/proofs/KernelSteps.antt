@@ -1,5 +1,5 @@
 -- Lemmas for the steps of `KernelTable::build`: a root that maps the trampoline, one more stack, one more frame. After each,
--- what is mapped (`MapsKernel`), how many tables were missing, and the credits (reserved frames) spent.
+-- what is mapped (`MapsKernel`), how many tables were missing, and the credits spent.
 use Rattle.std.proofs.Common.{◌≡◌, ℕ, ◌+◌, ◌*◌, ◌/◌, ◌^◌, ◌<◌, true, false, List, [], ◌∷◌, ◌++◌, length, Option, None, Some, inl, inr, refl, ap, sym, subst, ◌∙◌, arith}
 use Rattle.std.specs.FinMap.{get, get-empty}
 use Rattle.std.specs.Ordering.{nat_cmp}

@@ -1,6 +1,5 @@
 -- Lemmas on the page tables that the kernel's pages need: how many are missing for the trampoline, a stack (none) and each
--- further frame, and which there are after each of these is mapped. Also how many credits (reserved frames) a build of the
--- table begins with.
+-- further frame, and which there are after each of these is mapped. Also how many credits a build of the table begins with.
 use Rattle.std.proofs.Common.{◌≡◌, ℕ, zero, suc, ◌+◌, ◌-◌, ◌<◌, ◌≤◌, Bool, true, false, ◌||◌, List, [], ◌∷◌, Option, None, Some, inl, inr, refl, ap, sym, ◌∙◌, arith}
 use Rattle.std.specs.Prelude.{◌==◌, is_some, if◌then◌else◌}
 use Rattle.std.specs.FinMap.{empty, get, get-empty}

@@ -1,6 +1,5 @@
--- Lemma `kernel_walks`: an access in supervisor mode, translated by the kernel's table in the frames that its seat (an
--- owner's capability at a frame store) holds, has the outcome `kernel_walk`. Before it, lemmas on the words of its leaves
--- and on addresses.
+-- Lemma `kernel_walks`: an access in supervisor mode, translated by the kernel's table in the frames that its seat holds, has
+-- the outcome `kernel_walk`. Before it, lemmas on the words of its leaves and on addresses.
 use Rattle.std.proofs.Common.{◌≡◌, ℕ, ◌+◌, ◌-◌, ◌*◌, ◌/◌, ◌%◌, ◌^◌, ◌<◌, true, false, List, Option, None, Some, inl, inr, refl, ap, sym, ◌∙◌, arith, ◌⊎◌}
 use Rattle.std.specs.FinMap.{get}
 use Rattle.std.specs.Prelude.{◌↔◌, ◌==◌, is_some}

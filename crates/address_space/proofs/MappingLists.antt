@@ -9,18 +9,18 @@ use Rattle.std.specs.List.{prefix_len, refill}
 use Rattle.process_model.specs.Mappings.{with_instead, with_mapping}
 use Rattle.process_model.specs.Regions.{Region}
 use Rattle.address_space.specs.Layouts.{region_of}
-use Rattle.address_space.specs.declared.region.Region.{Region as Run}
+use Rattle.address_space.specs.declared.region.Region.{Region as CodeRegion}
 
-abbrev pub places_up_to : ℕ → List Run → ℕ
-places_up_to first rs = prefix_len (λ (r : Run). nat_le r.first first) rs
+abbrev pub places_up_to : ℕ → List CodeRegion → ℕ
+places_up_to first rs = prefix_len (λ (r : CodeRegion). nat_le r.first first) rs
 
-abbrev pub places_before : ℕ → List Run → ℕ
-places_before first rs = prefix_len (λ (r : Run). not (r.first == first)) rs
+abbrev pub places_before : ℕ → List CodeRegion → ℕ
+places_before first rs = prefix_len (λ (r : CodeRegion). not (r.first == first)) rs
 
 one_more : (n : ℕ) → 1 + n ≡ suc n
 one_more n = omega arith
 
-pub mapping_added : (rs : List Run) (r : Run) → map region_of (insert rs (places_up_to r.first rs) r) ≡ with_mapping (region_of r) (map region_of rs)
+pub mapping_added : (rs : List CodeRegion) (r : CodeRegion) → map region_of (insert rs (places_up_to r.first rs) r) ≡ with_mapping (region_of r) (map region_of rs)
 mapping_added [] r = refl
 mapping_added (m ∷ rs) r = go (nat_le m.first r.first) (nat_lt r.first m.first) (grind (arith, nat_tests)) (mapping_added rs r)
   where
@@ -33,7 +33,7 @@ mapping_added (m ∷ rs) r = go (nat_le m.first r.first) (nat_lt r.first m.first
     go false false is rest = absurd (cc)
 
 -- no mapping begins there
-pub none_begins : (rs : List Run) (first : ℕ) (ms : List Region) → places_before first rs ≡ length rs → map region_of rs ≡ with_instead (map region_of rs) first ms
+pub none_begins : (rs : List CodeRegion) (first : ℕ) (ms : List Region) → places_before first rs ≡ length rs → map region_of rs ≡ with_instead (map region_of rs) first ms
 none_begins [] first ms none = refl
 none_begins (m ∷ rs) first ms none = go (m.first == first) none (none_begins rs first ms)
   where
@@ -42,7 +42,7 @@ none_begins (m ∷ rs) first ms none = go (m.first == first) none (none_begins r
     go true is rest = absurd (omega (arith, is))
     go false is rest = ap (λ xs. region_of m ∷ xs) (rest (omega (arith, is)))
 
-pub mapping_gone : (rs : List Run) (first : ℕ) → places_before first rs < length rs → map region_of (remove rs (places_before first rs)) ≡ with_instead (map region_of rs) first []
+pub mapping_gone : (rs : List CodeRegion) (first : ℕ) → places_before first rs < length rs → map region_of (remove rs (places_before first rs)) ≡ with_instead (map region_of rs) first []
 mapping_gone [] first less = absurd (omega (arith, less))
 mapping_gone (m ∷ rs) first less = go (m.first == first) less (mapping_gone rs first)
   where
@@ -52,7 +52,7 @@ mapping_gone (m ∷ rs) first less = go (m.first == first) less (mapping_gone rs
     go true is rest = refl
     go false is rest = ap (λ k. map region_of (remove (m ∷ rs) k)) (one_more (places_before first rs)) ∙ ap (λ xs. region_of m ∷ xs) (rest (omega (arith, is)))
 
-pub mapping_changed : (rs : List Run) (first : ℕ) (r : Run) → places_before first rs < length rs
+pub mapping_changed : (rs : List CodeRegion) (first : ℕ) (r : CodeRegion) → places_before first rs < length rs
     → map region_of (slice_set rs (places_before first rs) r) ≡ with_instead (map region_of rs) first (region_of r ∷ [])
 mapping_changed [] first r less = absurd (omega (arith, less))
 mapping_changed (m ∷ rs) first r less = go (m.first == first) less (mapping_changed rs first r)
@@ -65,13 +65,13 @@ mapping_changed (m ∷ rs) first r less = go (m.first == first) less (mapping_ch
     go false is rest = ap (λ k. map region_of (slice_set (m ∷ rs) k r)) (one_more (places_before first rs)) ∙ ap (λ xs. region_of m ∷ xs) (rest (omega (arith, is)))
 
 -- the place that was found is one of the list, or the end of it
-pub place_within : (rs : List Run) (first : ℕ) → places_before first rs ≤ length rs
-place_within rs first = prefix_len-le-length (λ (r : Run). not (r.first == first)) rs
+pub place_within : (rs : List CodeRegion) (first : ℕ) → places_before first rs ≤ length rs
+place_within rs first = prefix_len-le-length (λ (r : CodeRegion). not (r.first == first)) rs
 
-pub room_within : (rs : List Run) (first : ℕ) → places_up_to first rs ≤ length rs
-room_within rs first = prefix_len-le-length (λ (r : Run). nat_le r.first first) rs
+pub room_within : (rs : List CodeRegion) (first : ℕ) → places_up_to first rs ≤ length rs
+room_within rs first = prefix_len-le-length (λ (r : CodeRegion). nat_le r.first first) rs
 
 -- a list that is written back whole is the written one
-pub all_refilled : (rs ws : List Run) → length ws ≡ length rs → refill (length rs) rs ws ≡ ws
+pub all_refilled : (rs ws : List CodeRegion) → length ws ≡ length rs → refill (length rs) rs ws ≡ ws
 all_refilled rs ws same =
     ap (λ d. take (length rs) (ws ++ d)) (drop_all (length ws) rs (omega (arith, same))) ∙ ap (take (length rs)) (append-nil ws) ∙ take_all (length rs) ws (omega (arith, same))

@@ -1,6 +1,5 @@
--- Lemmas for `mark_stored`: a page that may be written gets a leaf with D over the frame that it has, of which the seat (an
--- owner's capability at a frame store) is the sole holder. The page then has the dirty mark (D) if its stores are written
--- back (`marks`).
+-- Lemmas for `mark_stored`: a page that may be written gets a leaf with D over the frame that it has, of which the seat is
+-- the sole holder. The page then has the dirty mark (D) if its stores are written back (`marks`).
 use Rattle.std.proofs.Common.{◌≡◌, ℕ, Option, Some, Bool, true, false, not, ◌&&◌, ◌||◌, refl, ap, sym, subst, ◌∙◌}
 use Rattle.std.proofs.lemmas.Option.{same_Some}
 use Rattle.std.specs.FinMap.{get}

@@ -15,7 +15,7 @@ use Rattle.sv39_entry.specs.Schemes.{trampoline_page, trapframe_page, of_scheme}
 use Rattle.sv39_entry.specs.declared.scheme.Scheme.{Scheme}
 use Rattle.address_space.specs.Parts.{AreParts, IsAscending, numbers_of, pages_of, part_pages, region_in, regions_in}
 use Rattle.address_space.specs.declared.part.Part.{Part}
-use Rattle.address_space.specs.declared.region.Region.{Region as Run}
+use Rattle.address_space.specs.declared.region.Region.{Region as CodeRegion}
 use Rattle.process_model.specs.ValueSets.{AreCounted, div_near, div_up, none_counted, run_counted, two_more}
 
 -- ---- one part more
@@ -45,7 +45,7 @@ module _ (ps : List Part) (i : ℕ) (d : Part) (less : i < length ps) where
       ap length pages_more ∙ length-append (pages_of (take i ps)) (part_pages (get_or ps i d))
       ∙ ap (λ n. length (pages_of (take i ps)) + n) (run_length (get_or ps i d).region.pages (get_or ps i d).region.first (get_or ps i d).bytes.now)
 
-  pub region_more : (rs ss : List Run) → ss ≡ rs ++ (get_or ps i d).region ∷ [] → map region_of rs ≡ regions_in (take i ps) → map region_of ss ≡ regions_in (take (i + 1) ps)
+  pub region_more : (rs ss : List CodeRegion) → ss ≡ rs ++ (get_or ps i d).region ∷ [] → map region_of rs ≡ regions_in (take i ps) → map region_of ss ≡ regions_in (take (i + 1) ps)
   region_more rs ss more so_far =
       ap (map region_of) more ∙ map-append region_of rs ((get_or ps i d).region ∷ []) ∙ ap (λ xs. xs ++ region_in (get_or ps i d) ∷ []) so_far
       ∙ sym (ap regions_in (take_more ps i d less) ∙ map-append region_in (take i ps) (get_or ps i d ∷ []))

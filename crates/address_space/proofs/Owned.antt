@@ -1,6 +1,5 @@
--- Lemmas on the frames that page tables name (`OwnsFrames`): the seat (an owner's capability at a frame store) holds them,
--- and a claim or a release changes one frame alone. `Recounts`: references come or go beside those of the space, and the
--- process stays in memory.
+-- Lemmas on the frames that page tables name (`OwnsFrames`): the seat holds them, and a claim or a release changes one frame
+-- alone. `Recounts`: references come or go beside those of the space, and the process stays in memory.
 use Rattle.std.proofs.Common.{◌≡◌, ℕ, ◌+◌, Some, refl, ap, sym, subst, ◌∙◌, inl, inr, arith, cond, ◌-◌, Bool, if◌then◌else◌}
 use Rattle.std.proofs.lemmas.Bool.{cases_eq, eq-eqb, ne_eqb}
 use Rattle.std.specs.FinMap.{get}

@@ -1,5 +1,5 @@
--- Lemmas on a page's leaf that is rewritten, over the frame that it named or over one without a name: what the seat (an
--- owner's capability at a frame store) owns then, and the process with the changed page is in memory (`turned_stands`).
+-- Lemmas on a page's leaf that is rewritten, over the frame that it named or over one without a name: what the seat owns
+-- then, and the process with the changed page is in memory (`turned_stands`).
 use Rattle.std.proofs.Common.{◌≡◌, ℕ, ◌+◌, Some, true, refl, ap, sym, subst, ◌∙◌, inl, inr, arith}
 use Rattle.std.proofs.lemmas.Bool.{cases_eq}
 use Rattle.std.proofs.lemmas.Option.{same_Some}

@@ -9,10 +9,10 @@ use Rattle.process_model.specs.Process.{heap_of, Process, regions}
 use Rattle.process_model.specs.RegionRows.{first_or_second, held, here_or_later, row_up, row_within}
 use Rattle.process_model.specs.Regions.{Region, region_at}
 use Rattle.address_space.specs.Layouts.{region_of}
-use Rattle.address_space.specs.declared.region.Region.{Region as Run}
+use Rattle.address_space.specs.declared.region.Region.{Region as CodeRegion}
 use Rattle.sv39_entry.specs.Schemes.{trapframe_page}
 
-pub no_regions : (rs : List Run) → (length rs == 0) ≡ true → map region_of rs ≡ []
+pub no_regions : (rs : List CodeRegion) → (length rs == 0) ≡ true → map region_of rs ≡ []
 no_regions [] none = refl
 no_regions (r ∷ rs) none = absurd (elim (eqb_tells (length (r ∷ rs)) 0) as (λ _. ⊥) [
   | inl t ↦ let is = t.1 in omega (arith, is)

@@ -12,7 +12,8 @@ use Rattle.process_model.specs.Process.{Page, Process, regions, without_pending}
 use Rattle.process_model.specs.Regions.{Region, copy_rule, is_guard_kind, lacks_right, right_rule}
 use Rattle.process_model.specs.Residence.{access_answer, can_complete, loaded, region_on, stored, with_page}
 use Rattle.process_model.specs.Service.{Answer, answered, AccessRequest, faulted, if_resident, if_settled, pending_of, unless_denied, user_access}
-use Rattle.process_model.specs.declared.step.Reply.TheVariants.{Stored, Value}
+use Rattle.process_model.specs.declared.reply.ScalarReply.TheVariants.{Stored, Value}
+use Rattle.process_model.specs.declared.reply.Reply.TheVariants.{Scalar}
 use Rattle.sv39_entry.specs.Address.{page_of}
 use Rattle.sv39_entry.specs.Causes.{misaligned_cause, page_fault_cause}
 use Rattle.sv39_entry.specs.Frame.{frame_at, ppn_of}
@@ -125,13 +126,13 @@ module _ (v : View) (root trapframe : ℕ) (l : Layout) (t : Tables) (p : Proces
     pub on_frame : (f : FrameNo) → frame_at (address / 4096) ≡ Some f → IsFrameOfPage t (page_of x.address) f.0
     on_frame f is = subst (λ (n : ℕ). IsFrameOfPage t (page_of x.address) n) (ap (λ (y : FrameNo). y.0) (same_Some _ _ (sym g.framed ∙ is))) g.on
 
-    pub answers_load : (x.access ≡ Fetch) ⊎ (x.access ≡ Load) → user_access p x ≡ record { reply = Value (loaded g.page (x.address % 4096) x.width); process = without_pending p }
+    pub answers_load : (x.access ≡ Fetch) ⊎ (x.access ≡ Load) → user_access p x ≡ record { reply = Scalar (Value (loaded g.page (x.address % 4096) x.width)); process = without_pending p }
     answers_load is = g.answers ∙ ap (answered p x) (loads is)
-        ∙ ap (λ m. record { reply = Value (loaded g.page (x.address % 4096) x.width); process = without_pending (record p { settled = m }) }) (put_back p.settled (page_of x.address) g.page g.can.settled) where
-          loads : (x.access ≡ Fetch) ⊎ (x.access ≡ Load) → access_answer x.access g.page (x.address % 4096) x.width x.value ≡ (Value (loaded g.page (x.address % 4096) x.width), g.page)
+        ∙ ap (λ m. record { reply = Scalar (Value (loaded g.page (x.address % 4096) x.width)); process = without_pending (record p { settled = m }) }) (put_back p.settled (page_of x.address) g.page g.can.settled) where
+          loads : (x.access ≡ Fetch) ⊎ (x.access ≡ Load) → access_answer x.access g.page (x.address % 4096) x.width x.value ≡ (Scalar (Value (loaded g.page (x.address % 4096) x.width)), g.page)
           loads (inl e) = ap (λ y. access_answer y g.page (x.address % 4096) x.width x.value) e
           loads (inr e) = ap (λ y. access_answer y g.page (x.address % 4096) x.width x.value) e
 
     pub answers_store : x.access ≡ Store
-        → user_access p x ≡ record { reply = Stored; process = without_pending (with_page p (page_of x.address) (stored g.page (x.address % 4096) (low_bytes x.value x.width))) }
+        → user_access p x ≡ record { reply = Scalar Stored; process = without_pending (with_page p (page_of x.address) (stored g.page (x.address % 4096) (low_bytes x.value x.width))) }
     answers_store is = g.answers ∙ ap (λ y. answered p x (access_answer y g.page (x.address % 4096) x.width x.value)) is

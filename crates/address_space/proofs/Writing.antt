@@ -1,6 +1,6 @@
--- Lemmas on a settled page (one in memory) whose frame or bytes change while the references of the seat (an owner's
--- capability at a frame store) stay: the frame of the page (`HasPage`), the process with the changed page in memory
--- (`page_stands`), and a write to a page whose frame the seat alone holds (`page_written`).
+-- Lemmas on a settled page (one in memory) whose frame or bytes change while the references of the seat stay: the frame of
+-- the page (`HasPage`), the process with the changed page in memory (`page_stands`), and a write to a page whose frame the
+-- seat alone holds (`page_written`).
 use Rattle.std.proofs.Common.{◌≡◌, ℕ, ◌<◌, ◌%◌, ◌&&◌, not, Bool, List, Option, Some, IsTrue, true, false, refl, ap, sym, subst, ◌∙◌, inl, inr, arith, []}
 use Rattle.std.specs.Prelude.{option_and_then, option_map}
 use Rattle.std.proofs.lemmas.Bool.{cases_eq, ne_eqb}

@@ -1,6 +1,6 @@
 -- Definitions about user accesses: a request in the model's form (`request_of`); the outcome of its walk (`IsWalkOf`), and
 -- whether that is a leaf (`gives_leaf`); and `IsGranted`: the regions grant the access, alignment aside, and its page is
--- resident (in memory and ready for it).
+-- resident.
 use Rattle.std.specs.Prelude.{◌≡◌, ℕ, Bool, true, false, None}
 use Rattle.process_model.specs.Process.{Process, regions}
 use Rattle.process_model.specs.Regions.{copy_rule}

@@ -1,7 +1,7 @@
--- The relation `IsSpace`: a space in memory is this process of the model (`IsAlive`: some process). Its parts: the references that the seat (an
--- owner's capability at a frame store) has; leaf, frame and bytes of each settled page (one in memory); which page tables
--- there are. Also what a seat holds before a build and after a teardown, record `Body` (a space as contracts see it), the
--- leaf of a region's page, and what a step keeps of the leaves; with two small laws.
+-- The relation `IsSpace`: a space in memory is this process of the model (`IsAlive`: some process). Its parts: the references
+-- that the seat has; leaf, frame and bytes of each settled page (one in memory); which page tables there are. Also what a
+-- seat holds before a build and after a teardown, record `Body` (a space as contracts see it), the leaf of a region's page,
+-- and what a step keeps of the leaves; with two small laws.
 use Rattle.std.specs.Prelude.{◌≡◌, ◌≢◌, ◌⊎◌, ℕ, Bool, true, false, not, ◌&&◌, ◌||◌, ◌^◌, ◌<◌, ◌+◌, ◌==◌, if◌then◌else◌, Some, All}
 use Rattle.std.proofs.Common.{ap, sym, ◌∙◌, arith}
 use Rattle.std.proofs.lemmas.Option.{same_Some}

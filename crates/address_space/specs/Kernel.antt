@@ -1,7 +1,7 @@
 -- Predicates of the kernel's page table (the xv6 book, "Kernel address space"; no device is mapped): to which frame and by
 -- which rights a page is mapped (frames at their own addresses, the trampoline, a stack for each slot of the process table);
--- the outcome of a kernel access; which tables this needs, and how many; what the seat (an owner's capability at a frame
--- store) holds; and the whole table, `IsKernelTable`. No leaf is for the user. With one law.
+-- the outcome of a kernel access; which tables this needs, and how many; what the seat holds; and the whole table,
+-- `IsKernelTable`. No leaf is for the user. With one law.
 use Rattle.std.specs.Prelude.{◌≡◌, ℕ, zero, suc, Bool, true, false, ◌+◌, ◌-◌, ◌*◌, ◌/◌, ◌%◌, ◌^◌, ◌<◌, ◌≤◌, ◌==◌, ◌&&◌, ◌||◌, nat_le}
 use Rattle.std.specs.Prelude.{nat_lt, if◌then◌else◌, Option, None, Some, option_map, is_some, List, [], ◌∷◌, length, slice_get}
 use Rattle.std.proofs.Common.{subst}

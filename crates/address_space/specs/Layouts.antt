@@ -9,7 +9,7 @@ use Rattle.sv39_entry.specs.declared.rule.Rule.{Rule}
 use Rattle.sv39_entry.specs.Rights.{reads, writes, executes}
 use Rattle.sv39_entry.specs.declared.scheme.Scheme.{Scheme}
 use Rattle.sv39_entry.specs.declared.scheme.Scheme.TheVariants.{Sv39, Sv48}
-use Rattle.address_space.specs.declared.region.Region.{Region as Run}
+use Rattle.address_space.specs.declared.region.Region.{Region as CodeRegion}
 use Rattle.address_space.specs.declared.region.RegionKind.{RegionKind as Kind}
 use Rattle.address_space.specs.declared.region.RegionKind.TheVariants as kind
 use Rattle.address_space.specs.declared.region.Source.{Source as From}
@@ -29,11 +29,11 @@ source_of from.Image = image
 source_of (from.File n offset) = file n offset
 
 -- filler for an unused place of a fixed-size list
-abbrev pub no_region : Run
+abbrev pub no_region : CodeRegion
 no_region = record { first = 0; pages = 0; rights = record { 0 = 1 }; kind = kind.Segment; source = from.Zeros }
 
 -- the model's region that a region of the code is
-abbrev pub region_of : Run → Region
+abbrev pub region_of : CodeRegion → Region
 region_of r = record {
   first = r.first;
   pages = r.pages;

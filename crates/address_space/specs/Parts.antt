@@ -1,7 +1,7 @@
--- Parts (regions with their first bytes) of which a space is built: their pages, the lists that may be built (`AreParts`)
--- and the process that they make (`process_of_parts`). Counts of frames: of a whole space (`build_need`), of one without its
+-- Parts (regions with their first bytes) of which a space is built: their pages, the lists that may be built (`AreParts`) and
+-- the process that they make (`process_of_parts`). Counts of frames: of a whole space (`build_need`), of one without its
 -- trapframe (`tree_need`), of some pages more (`pages_need`). Predicates before and after each step of a build; and
--- `OwnsAlone`: the seat (an owner's capability at a frame store) is the sole holder of the space's frames, but for frame 0.
+-- `OwnsAlone`: the seat is the sole holder of the space's frames, but for frame 0.
 use Rattle.std.specs.Prelude.{◌≡◌, ◌≢◌, ℕ, ◌+◌, ◌-◌, ◌*◌, ◌<◌, ◌≤◌, false, true, All, None, Some, List, [], ◌∷◌, flat_map, length, map}
 use Rattle.frame_store.specs.View.{View, hold_of, IsSole}
 use Rattle.process_model.specs.Frames.{tables_needed, tables_of}

@@ -1,6 +1,6 @@
 -- Laws of the leaves of a process in memory: each names a frame with a number below 2^16, and none has G. Laws of when a
--- page's leaf may be written to a table (`page_backed`): the seat (an owner's capability at a frame store) knows every word
--- of the leaf's frame, and is its sole holder if the leaf has W.
+-- page's leaf may be written to a table (`page_backed`): the seat knows every word of the leaf's frame, and is its sole
+-- holder if the leaf has W.
 use Rattle.std.proofs.Common.{◌≡◌, ℕ, ◌-◌, ◌+◌, ◌^◌, ◌<◌, ◌&&◌, nat_le, nat_lt, not, Bool, List, true, false, Some, refl, ap, sym, subst, ◌∙◌, inl, inr, arith}
 use Rattle.std.proofs.lemmas.Option.{same_Some}
 use Rattle.std.specs.Prelude.{is_some}

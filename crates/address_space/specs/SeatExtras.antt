@@ -1,6 +1,5 @@
--- Laws: a process in memory stays one, and its space one in a call, when the seat (an owner's capability at a frame store)
--- has extra references or credits (reserved frames). If the seat's frames and credits are the same, the space stays one
--- between calls.
+-- Laws: a process in memory stays one, and its space one in a call, when the seat has extra references or credits. If the
+-- seat's frames and credits are the same, the space stays one between calls.
 use Rattle.std.proofs.Common.{◌≡◌, ℕ, ◌+◌, IsTrue, ap, sym, subst, ◌∙◌, inl, inr, arith}
 use Rattle.std.specs.FinMap as finite
 use Rattle.frame_store.specs.Holds.{hold_of-frames}

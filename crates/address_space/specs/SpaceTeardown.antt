@@ -1,7 +1,6 @@
 -- Predicates for the steps that release pages and whole spaces: the leaves of a range are gone (`Drops`); before and after
 -- one leaf is removed with its frame's reference, the first of a range, or a run of pages (`DropsRun`); a space that may be
--- taken apart (`CanEnd`), one without pages, and what the seat (an owner's capability at a frame store) holds once the
--- tables are released.
+-- taken apart (`CanEnd`), one without pages, and what the seat holds once the tables are released.
 use Rattle.std.specs.Prelude.{◌≡◌, ◌≢◌, ◌⊎◌, ℕ, ◌^◌, ◌<◌, ◌≤◌, Bool, true, false, IsSome, Option, None, Some, []}
 use Rattle.std.specs.FinMap.{get}
 use Rattle.frame_store.specs.View.{View, hold_of}

@@ -1,7 +1,7 @@
--- `IsSpaceInCall`: a space holds this process while a call is in progress, when its seat (an owner's capability at a frame
--- store) may have credits (reserved frames) and further references; a law that a space between calls is such a one.
--- Predicates: a page of it is settled (in memory); `RewritesLeaves`, page-table leaves are rewritten, and what stays then
--- (frames named, tables, references, credits); and a copy-on-write mark is set (the next store takes the page over first).
+-- `IsSpaceInCall`: a space holds this process while a call is in progress, when its seat may have credits and further
+-- references; a law that a space between calls is such a one. Predicates: a page of it is settled; `RewritesLeaves`,
+-- page-table leaves are rewritten, and what stays then (frames named, tables, references, credits); and a copy-on-write mark
+-- is set (the next store takes the page over first).
 use Rattle.std.specs.Prelude.{◌≡◌, ℕ, Some}
 use Rattle.std.specs.FinMap.{get}
 use Rattle.frame_store.specs.View.{hold_of, references}

@@ -1,7 +1,7 @@
 -- Conditions and effects of the calls of `Space`, as predicates: settling a page (bringing it into memory), taking one over
 -- (copy-on-write), reads and writes, the dirty mark (D), the end of a space, a change of its regions. Also counts of frames
--- and credits (reserved frames): credits spent (`SpendsCredits`), frames claimed and reference counts read (`TakesFrames`),
--- a call that claimed none for want of free frames (`RunsDry`), and how many taking over needs.
+-- and credits: credits spent (`SpendsCredits`), frames claimed and reference counts read (`TakesFrames`), a call that claimed
+-- none for want of free frames (`RunsDry`), and how many taking over needs.
 use Rattle.std.specs.Prelude.{◌≡◌, ◌≢◌, ℕ, true, false, not, ◌==◌, ◌+◌, ◌-◌, ◌%◌, ◌<◌, None, Option, Some, List, [], option_to_list}
 use Rattle.std.specs.Prelude.{◌∷◌, ◌++◌}
 use Rattle.frame_store.specs.View.{hold_of, spent, taken, View, IsSole, references}

@@ -1,5 +1,5 @@
--- A law: a seat (an owner's capability at a frame store) that holds the trampoline's frame once, no other frame and no
--- credits (reserved frames), is still such a one after a reservation was refused.
+-- A law: a seat that holds the trampoline's frame once, no other frame and no credits, is still such a one after a
+-- reservation was refused.
 use Rattle.std.proofs.Common.{ℕ, ap, ◌∙◌}
 use Rattle.frame_store.specs.Holds.{hold_of-frames}
 use Rattle.frame_store.specs.Laws.{IsDry}

@@ -1,6 +1,6 @@
 // Struct `KernelTable`, the kernel's page table (the xv6 book, "Kernel address space"). `build` maps each frame at its own
-// address, the trampoline, and a stack for each slot (place in the process table); `translate` walks the table for an access
-// of the kernel. Also `leaf_for_kernel`, the leaf by which the table maps a frame.
+// address, the trampoline, and a stack for each slot; `translate` walks the table for an access of the kernel. Also
+// `leaf_for_kernel`, the leaf by which the table maps a frame.
 
 ghost use Rattle.std.specs.Prelude.{[], ◌≡◌, ◌+◌, ◌-◌, ◌<◌, ◌≤◌, ◌↔◌, true, false, if◌then◌else◌, IfErr, IfOk, is_ok, IsOk, length, List, ℕ};
 ghost use Rattle.address_space.specs.Agreement.{HoldsTrampoline};
@@ -32,9 +32,9 @@ pub struct KernelTable<S: FrameSeat> {
 }
 
 impl<S: FrameSeat> KernelTable<S> {
-    /// Builds the table of a memory of `frames` frames, 16 to 1,024, with a stack for each of `slots` slots, 1 to 64. The
-    /// seat must hold frame 0 once, no other frame, and no credits. All frames that the table takes are reserved before
-    /// anything is built: `kernel_frames` - 1, since frame 0 is held.
+    /// Builds the table of a memory of `frames` frames, `FEWEST_FRAMES` to `MOST_FRAMES`, with a stack for each of `slots`
+    /// slots, 1 to `MOST_SLOTS`. The seat must hold frame 0 once, no other frame, and no credits. All frames that the table
+    /// takes are reserved before anything is built: `kernel_frames` - 1, since frame 0 is held.
     ///
     /// # Errors
     /// `NoFrame`, with the seat, whose frames and credits are unchanged. If nobody else changes the store (`alone`):

@@ -1,6 +1,5 @@
 // A law for proofs of callers, as a function without effect: a user's walk of the page table finds a leaf that permits an
-// access if and only if the regions grant the access, alignment aside, and its page is resident (in memory and ready for the
-// access).
+// access if and only if the regions grant the access, alignment aside, and its page is resident.
 
 ghost use Rattle.std.specs.Prelude.{◌≡◌, ◌↔◌, ℕ, true};
 ghost use Rattle.address_space.specs.Accesses.{gives_leaf, IsGranted};

@@ -5,13 +5,13 @@
 
 ghost use Rattle.std.specs.Prelude.{[], ◌≡◌, ◌+◌, ◌*◌, ◌<◌, ◌≤◌, All, length, map, nat_le, not, option_map, option_to_list, ◌==◌, ℕ, Some};
 ghost use Rattle.std.specs.List.{prefix_len};
-ghost use Rattle.process_model.specs.Mappings.{most_mappings, with_instead, with_mapping};
+ghost use Rattle.process_model.specs.Mappings.{with_instead, with_mapping};
 ghost use Rattle.process_model.specs.Order.{HasOrder};
 ghost use Rattle.process_model.specs.Process.{heap_of, Process, regions};
 ghost use Rattle.process_model.specs.Regions as model;
 ghost use Rattle.address_space.specs.Layouts.{granted_unless, last_page, LaysOut, region_of};
 ghost use Rattle.address_space.specs.Parts.{regions_in};
-ghost use Rattle.address_space.specs.declared.region.Region.{Region as Run};
+ghost use Rattle.address_space.specs.declared.region.Region.{Region as CodeRegion};
 ghost use Rattle.sv39_entry.specs.Schemes.{trapframe_page};
 
 use crate::part::Part;
@@ -22,8 +22,8 @@ use process_model::{MOST_MAPPINGS, MOST_PARTS, MOST_REGIONS};
 use std::marker::Model;
 use sv39_entry::{Access, PAGE_SIZE, Rights, Rule, Scheme, Va};
 
-/// The scheme of translation and the regions of a process: its parts (segments, guard and stack), at most 18; its mappings,
-/// at most 16; and the addresses at which the heap begins and ends.
+/// The scheme of translation and the regions of a process: its parts (segments, guard and stack) and its mappings, each list
+/// in ascending order; and the addresses at which the heap begins and ends.
 #[derive(Drop)]
 pub struct Layout {
     scheme: Scheme,
@@ -52,7 +52,7 @@ impl Model for Layout {
 
 impl Layout {
     /// Returns the layout of a process that starts: these parts in this order, no mapping, and an empty heap at the end of
-    /// the last part (at address 0 if there are no parts). There are at most 18 parts, and each ends at TRAPFRAME or below.
+    /// the last part (at address 0 if there are no parts). There are at most `MOST_PARTS` parts, and each ends at TRAPFRAME or below.
     pub fn new(scheme: Scheme, parts: &[Part]) -> Layout
         requires few { length parts.now ≤ MOST_PARTS }
         requires low { All (λ p. p.region.first + p.region.pages ≤ trapframe_page scheme) parts.now }
@@ -90,7 +90,7 @@ impl Layout {
 
     /// Adds a mapping, in its place by address, to fewer than 16.
     pub(crate) fn add_mapping(&mut self, mapping: Region)
-        requires few { length self.old.mappings < most_mappings }
+        requires few { length self.old.mappings < MOST_MAPPINGS }
         ensures scheme { self.new.scheme ≡ self.old.scheme }
         ensures parts { self.new.parts ≡ self.old.parts }
         ensures mappings { self.new.mappings ≡ with_mapping (region_of mapping) self.old.mappings }
@@ -283,14 +283,14 @@ fn copy_regions<const CAP: usize>(copy: &mut ArrayVec<Region, CAP>, list: &Array
 
 /// Returns how many regions at the front of the list begin at page `first` or below.
 fn count_up_to(regions: &[Region], first: u64) -> usize
-    ensures { result ≡ prefix_len (λ (r : Run). nat_le r.first first) regions.now }
+    ensures { result ≡ prefix_len (λ (r : CodeRegion). nat_le r.first first) regions.now }
 {
     regions.iter().take_while(|r| r.first <= first).count()
 }
 
 /// Returns how many regions at the front of the list do not begin at page `first`.
 fn count_others(regions: &[Region], first: u64) -> usize
-    ensures { result ≡ prefix_len (λ (r : Run). not (r.first == first)) regions.now }
+    ensures { result ≡ prefix_len (λ (r : CodeRegion). not (r.first == first)) regions.now }
 {
     regions.iter().take_while(|r| r.first != first).count()
 }

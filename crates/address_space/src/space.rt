@@ -1,6 +1,6 @@
-// Struct `Space`, the address space of a process in memory: its seat (an owner's capability at a frame store), the frames of
-// its root table and trapframe, and its layout (the regions). Calls: `grant` checks an access by the regions; reads and
-// writes of settled pages (in memory), by width or whole; and changes of the layout: the size, mappings.
+// Struct `Space`, the address space of a process in memory: its seat, the frames of its root table and trapframe, and its
+// layout (the regions). Calls: `grant` checks an access by the regions; reads and writes of settled pages, by width or whole;
+// and changes of the layout: the size, mappings.
 
 ghost use Rattle.std.specs.Prelude.{[], ◌≡◌, ◌%◌, ◌<◌, ℕ, IsTrue, length, option_map};
 ghost use Rattle.address_space.specs.Agreement.{body_of, IsSpace, IsFrameOfPage};
@@ -10,7 +10,7 @@ ghost use Rattle.address_space.specs.SpacesInCalls.{HasSettledPage};
 ghost use Rattle.address_space.specs.Steps.{CanRead, CanWrite, HasReplacedLayout, HasStored, left_with, mapped_with, sized, stored_at, TakesFrames};
 ghost use Rattle.frame_store.specs.Laws.{IsSeatOf, KeepsSeats};
 ghost use Rattle.process_model.specs.Bytes.{is_width};
-ghost use Rattle.process_model.specs.Mappings.{most_mappings};
+ghost use Rattle.process_model.specs.declared.limits.TheConstants.{MOST_MAPPINGS};
 ghost use Rattle.process_model.specs.Process.{Page, Process, regions};
 ghost use Rattle.process_model.specs.Regions as model;
 ghost use Rattle.process_model.specs.Residence.{loaded};
@@ -175,11 +175,11 @@ impl<S: FrameSeat> Space<S> {
         self.layout.set_size(size);
     }
 
-    /// Adds a mapping, in its place by address. The space has fewer than 16 mappings before. Settles no page. The space is
-    /// then the process with this mapping, if its regions are in order and each settled page still has a region that makes
-    /// the leaf that it has (`CanReplaceLayout`).
+    /// Adds a mapping, in its place by address. The space has fewer than `MOST_MAPPINGS` mappings before. Settles no page.
+    /// The space is then the process with this mapping, if its regions are in order and each settled page still has a region
+    /// that makes the leaf that it has (`CanReplaceLayout`).
     pub fn add_mapping(&mut self, mapping: Region)
-        requires few { length (self.old.layout).mappings < most_mappings }
+        requires few { length (self.old.layout).mappings < MOST_MAPPINGS }
         ensures agrees { HasReplacedLayout (body_of S.view self.old) (body_of S.view self.new) (λ p. mapped_with p (region_of mapping)) }
         ensures seat { self.new.seat ≡ self.old.seat }
         ensures root { self.new.root ≡ self.old.root }

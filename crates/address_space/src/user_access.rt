@@ -1,6 +1,6 @@
 // Struct `AccessRequest`, a fetch, load or store of the user, and the calls of `Space` for it: `translate` walks the page
-// table (RISC-V Privileged Architecture 20211203, 4.3.2); `user_access` and `user_access_scalar` take the outcome of that
-// walk, and load, store or return a fault.
+// table (RISC-V Privileged Architecture 20211203, 4.3.2); `user_access` takes the outcome of that walk, and loads, stores or
+// returns a fault.
 
 ghost use Rattle.std.specs.Prelude.{[], ◌≡◌, ◌≢◌, ◌%◌, ℕ, IsTrue};
 ghost use Rattle.address_space.specs.Accesses.{request_of, IsWalkOf};
@@ -8,18 +8,17 @@ ghost use Rattle.address_space.specs.Agreement.{body_of, IsSpace, IsAlive};
 ghost use Rattle.address_space.specs.Kept.{KeepsPlace, OnlyReads};
 ghost use Rattle.address_space.specs.Steps.{TakesFrames};
 ghost use Rattle.frame_store.specs.Laws.{IsSeatOf, KeepsSeats};
-ghost use Rattle.process_model.specs.ScalarReplies.{reply_of_scalar};
 ghost use Rattle.process_model.specs.Bytes.{is_width};
 ghost use Rattle.process_model.specs.Process.{Process};
 ghost use Rattle.process_model.specs.Service as service;
-ghost use Rattle.process_model.specs.declared.scalar_reply.ScalarReply.TheVariants as ScalarReply;
-ghost use Rattle.process_model.specs.declared.step.Reply.TheVariants as Reply;
+ghost use Rattle.process_model.specs.declared.reply.ScalarReply.TheVariants as ScalarReply;
+ghost use Rattle.process_model.specs.declared.reply.Reply.TheVariants.{Scalar};
 ghost use Rattle.table_walk.specs.Leaves.{walk_answer};
 ghost use Rattle.table_walk.specs.Tables.{Tables};
 
 use crate::space::Space;
 use frame_store::{FrameAccess, FrameSeat};
-use process_model::{Reply, ScalarReply};
+use process_model::ScalarReply;
 use sv39_entry::{Access, FrameNo, Mode, PAGE_SIZE, Va};
 use table_walk::{Walk, translate_held};
 
@@ -86,7 +85,7 @@ impl<S: FrameSeat> Space<S> {
     /// `Fault`: with the misaligned cause if the address is no multiple of the width, otherwise with the page-fault cause.
     /// Reads no reference count and takes no frame. Unless the reply is `Stored`, the seat's view and the store are
     /// unchanged.
-    pub fn user_access_scalar<F: FrameAccess<Seat = S>>(
+    pub fn user_access<F: FrameAccess<Seat = S>>(
         &mut self,
         store: &mut F,
         walk: Walk,
@@ -96,7 +95,7 @@ impl<S: FrameSeat> Space<S> {
         requires ready { (t : Tables) × (p : Process) × IsSpace (body_of S.view self.old) t p × IsWalkOf p.scheme t request walk }
         requires width { IsTrue (is_width request.width) }
         ensures reply { (t : Tables) (p : Process) → IsSpace (body_of S.view self.old) t p → IsWalkOf p.scheme t request walk →
-            reply_of_scalar result ≡ (service.user_access p (request_of request)).reply }
+            Scalar result ≡ (service.user_access p (request_of request)).reply }
         ensures after { (t : Tables) (p : Process) → IsSpace (body_of S.view self.old) t p → IsWalkOf p.scheme t request walk →
             IsSpace (body_of S.view self.new) t (service.user_access p (request_of request)).process }
         ensures place { KeepsPlace self.old self.new }
@@ -126,32 +125,5 @@ impl<S: FrameSeat> Space<S> {
                 ScalarReply::Value(self.read_at(store, frame, request.va, request.width))
             }
         }
-    }
-
-    /// Makes a user access as `user_access_scalar` does, and returns the reply as a `Reply`, a type that has room for bytes
-    /// too: `Value`, `Stored` or `Fault`. `walk` must be what `translate` returns for the access in user mode on the space
-    /// as it is; `width` is 1, 2, 4 or 8.
-    pub fn user_access<F: FrameAccess<Seat = S>>(
-        &mut self,
-        store: &mut F,
-        walk: Walk,
-        request: AccessRequest,
-    ) -> Reply
-        requires fits { IsSeatOf F.rule store.old self.old.seat }
-        requires ready { (t : Tables) × (p : Process) × IsSpace (body_of S.view self.old) t p × IsWalkOf p.scheme t request walk }
-        requires width { IsTrue (is_width request.width) }
-        ensures reply { (t : Tables) (p : Process) → IsSpace (body_of S.view self.old) t p → IsWalkOf p.scheme t request walk →
-            result ≡ (service.user_access p (request_of request)).reply }
-        ensures after { (t : Tables) (p : Process) → IsSpace (body_of S.view self.old) t p → IsWalkOf p.scheme t request walk →
-            IsSpace (body_of S.view self.new) t (service.user_access p (request_of request)).process }
-        ensures place { KeepsPlace self.old self.new }
-        ensures view { result ≢ Reply.Stored → S.view self.new.seat ≡ S.view self.old.seat }
-        ensures same { result ≢ Reply.Stored → store.new ≡ store.old }
-        ensures tallies { TakesFrames (S.view self.old.seat) (S.view self.new.seat) 0 [] }
-        ensures keeps { KeepsSeats F.rule store.old self.old.seat store.new self.new.seat }
-        ensures free { F.alone → F.free store.new ≡ F.free store.old }
-        ensures counts { F.alone → (f : ℕ) → F.count store.new f ≡ F.count store.old f }
-    {
-        self.user_access_scalar(store, walk, request).reply()
     }
 }

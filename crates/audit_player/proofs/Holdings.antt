@@ -1,6 +1,5 @@
 -- Lemmas: the kernel's seat (its capability at the frame store) takes its frames one by one: it begins with frame 0 and
--- credits (reserved frames), holds one frame more for each credit claimed (`HoldsOnce`), and after lending frame 0 holds as
--- many.
+-- credits, holds one frame more for each credit claimed (`HoldsOnce`), and after lending frame 0 holds as many.
 use Rattle.std.proofs.Common.{◌≡◌, inl, inr, ℕ, zero, suc, ◌+◌, ◌-◌, ◌*◌, ◌<◌, ◌≤◌, refl, sym, ap, subst, ◌∙◌, arith}
 use Rattle.std.proofs.lemmas.Bool.Decides.{eqb_tells}
 use Rattle.frame_store.specs.Laws.{IsDry}

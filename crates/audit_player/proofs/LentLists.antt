@@ -7,7 +7,7 @@ use Rattle.std.proofs.lemmas.Bool.Decides.{eqb_tells}
 use Rattle.std.proofs.lemmas.List.{take_more}
 use Rattle.std.proofs.lemmas.List.Elements.{All-get_or, All-head, All-tail, All-weaker}
 use Rattle.hart_calls.specs.Track.{NamesList}
-use Rattle.script_language.specs.ThreadScript.{calls_of, most_lists}
+use Rattle.script_language.specs.ThreadScript.{calls_of}
 use Rattle.process_model.specs.declared.call.Call.{Call}
 use Rattle.process_model.specs.declared.call.Call.TheVariants as call
 use Rattle.script_language.specs.declared.declarations.CallList.{CallList}
@@ -24,16 +24,17 @@ use Rattle.process_model.specs.declared.image.Image.{Image}
 use Rattle.audit_player.proofs.Lending.{named}
 use Rattle.audit_player.specs.ThreadLists.{AreCallsOf, AreFew, AreStartsOf, IsCallOf, IsStartOf, lines_of}
 use Rattle.sv39_entry.specs.declared.scheme.Scheme.{Scheme}
+use Rattle.script_language.specs.declared.limits.TheConstants.{MOST_LISTS}
 
 -- a list that is there has a number that a list may have
-pub has_below : (lists : List CallList) (k : ℕ) → AreFew lists → HasList lists k → k < most_lists
+pub has_below : (lists : List CallList) (k : ℕ) → AreFew lists → HasList lists k → k < MOST_LISTS
 has_below [] k few h = absurd (let no : false ≡ true = h in cc)
-has_below (l ∷ ls) k few h = elim (eqb_tells l.number k) as (λ _. k < most_lists) [
-  | inl t ↦ subst (λ (n : ℕ). n < most_lists) t.1 (All-head (λ (m : CallList). m.number < most_lists) l ls few)
-  | inr t ↦ has_below ls k (All-tail (λ (m : CallList). m.number < most_lists) l ls few) (sym (ap (λ (b : Bool). b || list_any (λ (m : CallList). m.number == k) ls) t.0) ∙ h)
+has_below (l ∷ ls) k few h = elim (eqb_tells l.number k) as (λ _. k < MOST_LISTS) [
+  | inl t ↦ subst (λ (n : ℕ). n < MOST_LISTS) t.1 (All-head (λ (m : CallList). m.number < MOST_LISTS) l ls few)
+  | inr t ↦ has_below ls k (All-tail (λ (m : CallList). m.number < MOST_LISTS) l ls few) (sym (ap (λ (b : Bool). b || list_any (λ (m : CallList). m.number == k) ls) t.0) ∙ h)
 ]
 
-call_there : (lists : List CallList) (c : Call) → AreFew lists → IsDeclaredCall lists c → NamesList most_lists c
+call_there : (lists : List CallList) (c : Call) → AreFew lists → IsDeclaredCall lists c → NamesList MOST_LISTS c
 call_there lists (call.Fork k) few h = has_below lists k few h
 call_there lists (call.Fetch address) few h = tt
 call_there lists (call.Load address width) few h = tt
@@ -47,7 +48,7 @@ call_there lists (call.CopyOut address bytes) few h = tt
 call_there lists (call.Exit status) few h = tt
 
 -- a call that borrows nothing
-pub one_there : (images : List OwnedImage) (line : ListedCall) (c : Call) → line ≡ listed.One c → (lists : List CallList) × IsDeclaredLine images lists line × AreFew lists → NamesList most_lists c
+pub one_there : (images : List OwnedImage) (line : ListedCall) (c : Call) → line ≡ listed.One c → (lists : List CallList) × IsDeclaredLine images lists line × AreFew lists → NamesList MOST_LISTS c
 one_there images line c is (lists, declared, few) = call_there lists c few (subst (IsDeclaredLine images lists) is declared)
 
 abbrev or_no_calls : Option (List ListedCall) → List ListedCall
@@ -64,10 +65,10 @@ calls_declared images lists (l ∷ ls) k calls each is = elim (eqb_tells l.numbe
 
 -- the numbers of lists that are there are those that a list may have
 pub few_lists : (images : List OwnedImage) (lists all : List CallList) → All (IsList images lists) all → AreFew all
-few_lists images lists all each = All-weaker (IsList images lists) (λ (l : CallList). l.number < most_lists) (λ l is. is.number) all each
+few_lists images lists all each = All-weaker (IsList images lists) (λ (l : CallList). l.number < MOST_LISTS) (λ l is. is.number) all each
 
 -- a start begins a list that there may be
-pub start_below : (images : List OwnedImage) (lists : List CallList) (starts : List ListedStart) (i : ℕ) (d : ListedStart) → All (IsList images lists) lists → All (IsStart images lists) starts → i < length starts → (get_or starts i d).list < most_lists
+pub start_below : (images : List OwnedImage) (lists : List CallList) (starts : List ListedStart) (i : ℕ) (d : ListedStart) → All (IsList images lists) lists → All (IsStart images lists) starts → i < length starts → (get_or starts i d).list < MOST_LISTS
 start_below images lists starts i d each all lt = has_below lists (get_or starts i d).list (few_lists images lists lists each) (All-get_or (IsStart images lists) starts i d lt all).1
 
 -- what is lent is what the lines declare

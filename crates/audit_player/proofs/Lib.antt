@@ -3,7 +3,7 @@ pub mod Fixing
 pub mod Holdings
 pub mod Lending
 pub mod LentLists
-pub mod Paged
+pub mod Blocks
 pub mod Parts
 pub mod Played
 pub mod PlayedLists

@@ -6,7 +6,7 @@ use Rattle.std.specs.Io.KnownBytes.{Appends, Consumes}
 use Rattle.std.proofs.lemmas.List.{append-nil, length-take-le, take-append-drop}
 use Rattle.std.specs.Prelude.{nat_lt}
 use Rattle.std.proofs.lemmas.Bool.{ltb-false}
-use Rattle.script_language.specs.Script.{longest_script}
+use Rattle.script_language.specs.declared.limits.TheConstants.{LONGEST_SCRIPT}
 use Rattle.script_reader.specs.Reading.{HasRead, PieceReader}
 use Rattle.audit_player.specs.InputOutput.{WroteUpTo}
 
@@ -36,8 +36,8 @@ wrote_all old new text rest e w =
     subst (Appends old new) whole w.2
 
 -- each piece brings a script nearer to its end
-pub nearer : (bytes piece : List ℕ) (r s : PieceReader) → HasRead bytes r → HasRead (bytes ++ piece) s → 0 < length piece → nat_lt longest_script r.length ≡ false → longest_script + 1 - s.length < longest_script + 1 - r.length
-nearer bytes piece r s h k some short = omega (arith, h.long, k.long, length-append bytes piece, some, ltb-false longest_script r.length short)
+pub nearer : (bytes piece : List ℕ) (r s : PieceReader) → HasRead bytes r → HasRead (bytes ++ piece) s → 0 < length piece → nat_lt LONGEST_SCRIPT r.length ≡ false → LONGEST_SCRIPT + 1 - s.length < LONGEST_SCRIPT + 1 - r.length
+nearer bytes piece r s h k some short = omega (arith, h.long, k.long, length-append bytes piece, some, ltb-false LONGEST_SCRIPT r.length short)
 
 pub consumed_more : (old mid new : Option (List ℕ)) (a b : List ℕ) → Consumes old mid a → Consumes mid new b → Consumes old new (a ++ b)
 consumed_more None mid new a b p q = tt

@@ -2,7 +2,7 @@
 -- script (`IsInput`, `HasReadAll`); a prefix of a text was written (`WroteSome`; `WroteUpTo` names the rest).
 use Rattle.std.specs.Prelude.{◌≡◌, ℕ, ◌<◌, ◌⊎◌, List, ◌++◌, length, Option, None, Some}
 use Rattle.std.specs.Io.KnownBytes.{Appends}
-use Rattle.script_language.specs.Script.{longest_script}
+use Rattle.script_language.specs.declared.limits.TheConstants.{LONGEST_SCRIPT}
 use Rattle.script_reader.specs.Reading.{HasRead, PieceReader}
 
 -- all of the known bytes, or a prefix of them that is longer than the limit; if they are not known, any bytes
@@ -12,7 +12,7 @@ IsInput limit (Some xs) bytes = (bytes ≡ xs) ⊎ ((limit < length bytes) × ((
 
 -- the piece reader has read such bytes of a script
 abbrev pub HasReadAll : Option (List ℕ) → PieceReader → Type 0
-HasReadAll remaining r = (bytes : List ℕ) × IsInput longest_script remaining bytes × HasRead bytes r
+HasReadAll remaining r = (bytes : List ℕ) × IsInput LONGEST_SCRIPT remaining bytes × HasRead bytes r
 
 -- a prefix of a text was written, and `rest` is left of it
 abbrev pub WroteUpTo : Option (List ℕ) → Option (List ℕ) → List ℕ → List ℕ → Type 0

@@ -1,6 +1,6 @@
 pub mod ErrorText
 pub mod KernelFrames
-pub mod Pages
+pub mod Blocks
 pub mod PlayResult
 pub mod ThreadRunResult
 pub mod InputOutput

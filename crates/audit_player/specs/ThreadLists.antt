@@ -4,7 +4,7 @@ use Rattle.std.specs.Prelude.{◌≡◌, ℕ, ◌<◌, List, [], ◌∷◌, All,
 use Rattle.hart_calls.specs.Replay.{list_at}
 use Rattle.process_model.specs.Images.{image_loads}
 use Rattle.script_language.specs.Text.{image_at}
-use Rattle.script_language.specs.ThreadScript.{calls_of, most_lists}
+use Rattle.script_language.specs.ThreadScript.{calls_of}
 use Rattle.process_model.specs.declared.call.Call.{Call}
 use Rattle.process_model.specs.declared.call.Call.TheVariants as call
 use Rattle.script_language.specs.declared.declarations.CallList.{CallList}
@@ -14,10 +14,11 @@ use Rattle.script_language.specs.declared.declarations.ListedStart.{ListedStart}
 use Rattle.process_model.specs.declared.call.Start.{Start}
 use Rattle.script_language.specs.declared.declarations.OwnedImage.{OwnedImage}
 use Rattle.sv39_entry.specs.declared.scheme.Scheme.{Scheme}
+use Rattle.script_language.specs.declared.limits.TheConstants.{MOST_LISTS}
 
--- each list has a number below `most_lists`
+-- each list has a number below `MOST_LISTS`
 abbrev pub AreFew : List CallList → Type 0
-AreFew lists = All (λ (l : CallList). l.number < most_lists) lists
+AreFew lists = All (λ (l : CallList). l.number < MOST_LISTS) lists
 
 -- d is the call that a line declares; its image loads, under each scheme, as the one that the line names,
 -- and its bytes are the line's
@@ -42,7 +43,7 @@ lines_of lists k = or_no_lines (calls_of lists k)
 
 -- list k of a run has the calls that the file's list k declares, for each number k that a list may have
 abbrev pub AreListsOf : List OwnedImage → List CallList → List (List Call) → Type 0
-AreListsOf images declared lists = (k : ℕ) → k < most_lists → AreCallsOf images (lines_of declared k) (list_at lists k)
+AreListsOf images declared lists = (k : ℕ) → k < MOST_LISTS → AreCallsOf images (lines_of declared k) (list_at lists k)
 
 -- s is the start that a line declares: its list is that of the line, and its image loads, under each scheme, as
 -- the one that the line names

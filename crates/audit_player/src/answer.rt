@@ -5,7 +5,6 @@ ghost use Rattle.std.specs.Prelude.{◌≡◌, ◌≤◌, ◌+◌, ◌++◌, cod
 ghost use Rattle.std.specs.Prelude.{length as list_length};
 ghost use Rattle.std.specs.Fmt.{decimal};
 ghost use Rattle.hart_machine.specs.BufferEntries.{IsInWorld};
-ghost use Rattle.process_model.specs.Copies.{longest_copy};
 ghost use Rattle.process_model.specs.Files.{bytes_of};
 ghost use Rattle.script_language.specs.Text.{show_text};
 ghost use Rattle.script_language.specs.Words.{bytes_text};
@@ -31,10 +30,10 @@ fn put_file(text: &mut Vec<u8>, length: usize, shown: &[u8])
 }
 
 /// Appends the answer of `show`: the length of the file with index `file`, in bytes, and its bytes from `offset` on, at most
-/// `count`. A file that does not exist has no bytes. `count` must be at most 256, and `text` must have room for
+/// `count`. A file that does not exist has no bytes. `count` must be at most `LONGEST_COPY`, and `text` must have room for
 /// `LONGEST_TEXT` bytes more.
 pub fn put_shown(text: &mut Vec<u8>, files: &Cabinet, file: usize, offset: u64, count: usize)
-    requires short { count ≤ longest_copy }
+    requires short { count ≤ LONGEST_COPY }
     requires room { vec_len text.old + LONGEST_TEXT ≤ vec_capacity text.old }
     ensures text { text.new.items ≡ text.old.items ++ show_text (bytes_of (slice_get files.now file)) offset count }
     ensures len { vec_len text.new ≤ vec_len text.old + LONGEST_TEXT }

@@ -4,14 +4,15 @@
 
 ghost use Rattle.std.specs.Prelude.{◌≡◌, ◌∷◌, ◌≤◌, ◌+◌, List, true, vec_len, vec_capacity};
 ghost use Rattle.hart_machine.specs.BufferEntries.{IsInWorld};
-ghost use Rattle.process_model.specs.ScalarReplies.{is_scalar, reply_of_scalar};
+ghost use Rattle.process_model.specs.ScalarReplies.{is_scalar};
 ghost use Rattle.process_model.specs.Images.{image_loads};
 ghost use Rattle.sv39_entry.specs.declared.scheme.Scheme.{Scheme};
 ghost use Rattle.process_model.specs.Steps as model;
 ghost use Rattle.script_language.specs.Text as words;
 ghost use Rattle.process_model.specs.World.{World};
 ghost use Rattle.process_model.specs.declared.file.FileText.{FileText};
-ghost use Rattle.process_model.specs.declared.step.Reply.TheVariants.{Done};
+ghost use Rattle.process_model.specs.declared.reply.ScalarReply.TheVariants.{Done};
+ghost use Rattle.process_model.specs.declared.reply.Reply.TheVariants.{Scalar};
 ghost use Rattle.process_model.specs.declared.step.Step.TheVariants as steps;
 ghost use Rattle.script_reader.specs.PackedLines.{shown};
 ghost use Rattle.script_reader.specs.Playable.{IsDeclared};
@@ -37,7 +38,7 @@ pub fn lend(image: &OwnedImage) -> Image<'_>
 fn start(machine: &mut Machine, image: &OwnedImage) -> ScalarReply
     requires world { (w : World) × IsInWorld machine.old w }
     ensures made { (w : World) → IsInWorld machine.old w
-        → GivesOutcome machine.new (reply_of_scalar result) (model.step w (steps.Start (words.lent image.now))) }
+        → GivesOutcome machine.new (Scalar result) (model.step w (steps.Start (words.lent image.now))) }
 {
     machine.step_scalar(Step::Start(lend(image)))
 }
@@ -46,7 +47,7 @@ fn start(machine: &mut Machine, image: &OwnedImage) -> ScalarReply
 fn exec(machine: &mut Machine, hart: usize, image: &OwnedImage) -> ScalarReply
     requires world { (w : World) × IsInWorld machine.old w }
     ensures made { (w : World) → IsInWorld machine.old w
-        → GivesOutcome machine.new (reply_of_scalar result) (model.step w (steps.Exec hart (words.lent image.now))) }
+        → GivesOutcome machine.new (Scalar result) (model.step w (steps.Exec hart (words.lent image.now))) }
 {
     let image = lend(image);
     machine.step_scalar(Step::Exec { hart, image })
@@ -56,7 +57,7 @@ fn exec(machine: &mut Machine, hart: usize, image: &OwnedImage) -> ScalarReply
 fn copy_out(machine: &mut Machine, hart: usize, address: u64, bytes: &[u8]) -> ScalarReply
     requires world { (w : World) × IsInWorld machine.old w }
     ensures made { (w : World) → IsInWorld machine.old w
-        → GivesOutcome machine.new (reply_of_scalar result) (model.step w (steps.CopyOut hart address (record { ref_ptr = (0, 0); now = bytes.now }))) }
+        → GivesOutcome machine.new (Scalar result) (model.step w (steps.CopyOut hart address (record { ref_ptr = (0, 0); now = bytes.now }))) }
 {
     machine.step_scalar(Step::CopyOut {
         hart,
@@ -70,7 +71,7 @@ fn copy_out(machine: &mut Machine, hart: usize, address: u64, bytes: &[u8]) -> S
 fn three_next(machine: &mut Machine, hart: usize, reply: ScalarReply) -> ScalarReply
     requires world { (w : World) × IsInWorld machine.old w }
     ensures made { (w : World) → IsInWorld machine.old w
-        → GivesOutcome machine.new (reply_of_scalar result) (words.series_of w (words.three_next hart) (reply_of_scalar reply)) }
+        → GivesOutcome machine.new (Scalar result) (words.series_of w (words.three_next hart) (Scalar reply)) }
 {
     'instructions: for _ in 0..3usize {
         let said = machine.step_scalar(Step::Next { hart });
@@ -88,7 +89,7 @@ fn go_through(machine: &mut Machine, hart: usize, step: Step<'_>) -> ScalarReply
     requires world { (w : World) × IsInWorld machine.old w }
     requires scalar { is_scalar step ≡ true }
     ensures made { (w : World) → IsInWorld machine.old w
-        → GivesOutcome machine.new (reply_of_scalar result) (words.series_of w (step.entry ∷ words.three_next hart) Done) }
+        → GivesOutcome machine.new (Scalar result) (words.series_of w (step.entry ∷ words.three_next hart) (Scalar Done)) }
 {
     let first = machine.step_scalar(step);
     if let ScalarReply::Refused(_) = first {
@@ -101,7 +102,7 @@ fn go_through(machine: &mut Machine, hart: usize, step: Step<'_>) -> ScalarReply
 fn put_on(machine: &mut Machine, hart: usize, slot: usize) -> ScalarReply
     requires world { (w : World) × IsInWorld machine.old w }
     ensures made { (w : World) → IsInWorld machine.old w
-        → GivesOutcome machine.new (reply_of_scalar result) (words.series_of w (words.on_steps hart slot) Done) }
+        → GivesOutcome machine.new (Scalar result) (words.series_of w (words.on_steps hart slot) (Scalar Done)) }
 {
     let slot = Some(slot);
     go_through(machine, hart, Step::Switch { hart, slot })
@@ -110,7 +111,7 @@ fn put_on(machine: &mut Machine, hart: usize, slot: usize) -> ScalarReply
 /// Traps, and enters the kernel (`enter`).
 fn enter(machine: &mut Machine, hart: usize) -> ScalarReply
     requires world { (w : World) × IsInWorld machine.old w }
-    ensures made { (w : World) → IsInWorld machine.old w → GivesOutcome machine.new (reply_of_scalar result) (words.series_of w (words.enter_steps hart) Done) }
+    ensures made { (w : World) → IsInWorld machine.old w → GivesOutcome machine.new (Scalar result) (words.series_of w (words.enter_steps hart) (Scalar Done)) }
 {
     go_through(machine, hart, Step::Trap { hart })
 }
@@ -118,7 +119,7 @@ fn enter(machine: &mut Machine, hart: usize) -> ScalarReply
 /// Enters the kernel after a fault, serves the fault and, if the reply is `Ready`, returns to user mode (`fix`).
 fn fix(machine: &mut Machine, hart: usize) -> ScalarReply
     requires world { (w : World) × IsInWorld machine.old w }
-    ensures made { (w : World) → IsInWorld machine.old w → GivesOutcome machine.new (reply_of_scalar result) (words.fixed w hart) }
+    ensures made { (w : World) → IsInWorld machine.old w → GivesOutcome machine.new (Scalar result) (words.fixed w hart) }
 {
     let entered = three_next(machine, hart, ScalarReply::Done);
     if let ScalarReply::Refused(_) = entered {
@@ -172,36 +173,8 @@ fn put_step(machine: &mut Machine, step: Step<'_>, text: &mut Vec<u8>)
     ensures capacity { vec_capacity text.old ≤ vec_capacity text.new }
 {
     match step {
-        Step::Load {
-            hart,
-            address,
-            width,
-            via,
-        } => {
-            let reply = machine.step_scalar(Step::Load {
-                hart,
-                address,
-                width,
-                via,
-            });
-            put_scalar_reply(text, reply);
-        }
-        Step::Store {
-            hart,
-            address,
-            width,
-            value,
-            via,
-        } => {
-            let reply = machine.step_scalar(Step::Store {
-                hart,
-                address,
-                width,
-                value,
-                via,
-            });
-            put_scalar_reply(text, reply);
-        }
+        Step::Load { .. } => put_scalar_reply(text, machine.step_scalar(step)),
+        Step::Store { .. } => put_scalar_reply(text, machine.step_scalar(step)),
         Step::CopyIn { .. } => put_whole(machine, step, text),
         _ => put_other(machine, step, text),
     }

@@ -10,8 +10,8 @@ ghost use Rattle.audit_player.specs.PlayResult.{PlaysScript};
 
 use crate::commands::put_line;
 use crate::fault::PlayError;
-use crate::page::PAGE;
 use crate::sink::Sink;
+use crate::text_block::BLOCK;
 use crate::transfer::write_all;
 use file_cabinet::Cabinet;
 use hart_machine::{BootError, Machine};
@@ -35,17 +35,17 @@ pub fn boot(alloc: Global, config: Config, files: Cabinet) -> Result<Machine, Al
     }
 }
 
-/// Takes all the memory of a run: the machine of a script, booted, and an empty page for its text.
+/// Takes all the memory of a run: the machine of a script, booted, and an empty block for its text.
 fn prepare(alloc: Global, script: &Script) -> Result<(Machine, Vec<u8>), AllocError>
     requires playable { IsPlayable script.now }
     ensures machine { IfOk result (λ made. IsInWorld made.0 (booted script.now.config (map file_of script.now.files))) }
-    ensures page { IfOk result (λ made. made.1.items ≡ []) }
-    ensures room { IfOk result (λ made. PAGE + LONGEST_TEXT + 1 ≤ vec_capacity made.1) }
+    ensures block { IfOk result (λ made. made.1.items ≡ []) }
+    ensures room { IfOk result (λ made. BLOCK + LONGEST_TEXT + 1 ≤ vec_capacity made.1) }
 {
     let files = Cabinet::new(alloc, script.files())?;
     let machine = boot(alloc, script.config(), files)?;
-    let page = Vec::with_capacity(alloc, PAGE + LONGEST_TEXT + 1)?;
-    Ok((machine, page))
+    let block = Vec::with_capacity(alloc, BLOCK + LONGEST_TEXT + 1)?;
+    Ok((machine, block))
 }
 
 /// Plays a parsed script, and writes its answers: a line for `boot`, and one for each line after it. The script must be
@@ -59,24 +59,24 @@ pub fn run<W: Sink>(alloc: Global, script: &Script, writer: &mut W) -> Result<()
     ensures plays { PlaysScript (W.contents writer.old) (W.contents writer.new) result (Ok script.now) }
     ensures io { W.broken writer.old ≡ false → (IsErrOf result PlayError.Io ↔ IsTrue (W.broken writer.new)) }
 {
-    let Ok((mut machine, mut page)) = prepare(alloc, script) else {
+    let Ok((mut machine, mut block)) = prepare(alloc, script) else {
         return Err(PlayError::Memory);
     };
     let images = script.images();
     let commands = script.commands();
-    put(&mut page, b"ok\n");
+    put(&mut block, b"ok\n");
     'lines: for number in 0..commands.len() {
-        put_line(&mut machine, images, commands.get(number), &mut page);
-        page.push_reserved(b'\n');
-        if page.len() < PAGE {
+        put_line(&mut machine, images, commands.get(number), &mut block);
+        block.push_reserved(b'\n');
+        if block.len() < BLOCK {
             continue;
         }
-        if !write_all(writer, page.as_slice()) {
+        if !write_all(writer, block.as_slice()) {
             return Err(PlayError::Io);
         }
-        page.clear();
+        block.clear();
     }
-    if write_all(writer, page.as_slice()) {
+    if write_all(writer, block.as_slice()) {
         Ok(())
     } else {
         Err(PlayError::Io)

@@ -3,7 +3,6 @@
 
 ghost use Rattle.std.specs.Prelude.{◌≡◌, ◌<◌, All, IfOk, List, length};
 ghost use Rattle.hart_calls.specs.Track.{NameLists, NamesList};
-ghost use Rattle.script_language.specs.ThreadScript.{most_lists};
 ghost use Rattle.script_language.specs.declared.declarations.CallList.{CallList};
 ghost use Rattle.script_reader.specs.ThreadsPlayable.{IsDeclaredLine, IsThreadPlayable};
 ghost use Rattle.audit_player.specs.ThreadLists.{AreCallsOf, AreFew, AreListsOf, AreStartsOf, IsCallOf, lines_of};
@@ -17,7 +16,7 @@ use std::alloc::{AllocError, Global};
 /// The call that a line declares, with the image or the bytes borrowed.
 fn lend_call<'a>(images: &'a [OwnedImage], call: &'a ListedCall) -> Call<'a>
     requires declared { (lists : List CallList) × IsDeclaredLine images.now lists call.now × AreFew lists }
-    ensures there { NamesList most_lists result }
+    ensures there { NamesList MOST_LISTS result }
     ensures is { IsCallOf images.now call.now result }
 {
     match call {
@@ -39,7 +38,7 @@ fn lend_list<'a>(
     calls: &'a [ListedCall],
 ) -> Result<Sequence<Call<'a>>, AllocError>
     requires declared { (lists : List CallList) × All (IsDeclaredLine images.now lists) calls.now × AreFew lists }
-    ensures there { IfOk result (λ list. All (NamesList most_lists) list) }
+    ensures there { IfOk result (λ list. All (NamesList MOST_LISTS) list) }
     ensures are { IfOk result (λ list. AreCallsOf images.now calls.now list) }
 {
     let mut list = Vec::with_capacity(alloc, calls.len())?;
@@ -71,7 +70,7 @@ pub fn lend_lists<'a>(
     script: &'a ThreadScript,
 ) -> Result<Vec<Sequence<Call<'a>>>, AllocError>
     requires playable { IsThreadPlayable script.now }
-    ensures all { IfOk result (λ lists. length lists.items ≡ most_lists) }
+    ensures all { IfOk result (λ lists. length lists.items ≡ MOST_LISTS) }
     ensures there { IfOk result (λ lists. NameLists lists.items) }
     ensures are { IfOk result (λ lists. AreListsOf script.now.images script.now.lists lists.items) }
 {
@@ -94,7 +93,7 @@ pub fn lend_starts<'a>(
 ) -> Result<Vec<Start<'a>>, AllocError>
     requires playable { IsThreadPlayable script.now }
     ensures all { IfOk result (λ starts. length starts.items ≡ length script.now.starts) }
-    ensures there { IfOk result (λ starts. All (λ start. start.list < most_lists) starts.items) }
+    ensures there { IfOk result (λ starts. All (λ start. start.list < MOST_LISTS) starts.items) }
     ensures are { IfOk result (λ starts. AreStartsOf script.now.images script.now.starts starts.items) }
 {
     let images = script.images();

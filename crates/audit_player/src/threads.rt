@@ -7,16 +7,16 @@ ghost use Rattle.hart_calls.specs.Track.{NameLists};
 ghost use Rattle.hart_threads.specs.RosterState.{ComesBack};
 ghost use Rattle.hart_threads.specs.StartFrames.{ArePoolStarts};
 ghost use Rattle.process_model.specs.Files.{file_of};
-ghost use Rattle.script_language.specs.ThreadScript.{most_lists};
+ghost use Rattle.script_language.specs.declared.limits.TheConstants.{MOST_LISTS};
 ghost use Rattle.script_reader.specs.ThreadsPlayable.{IsThreadPlayable};
 ghost use Rattle.audit_player.specs.ThreadRunResult.{LeavesFree, PlaysLists, PlaysThreads, user_frames};
 
 use crate::fault::PlayError;
 use crate::kernel::{reserve_user_frames, take_kernel_frames};
-use crate::page::TextPage;
 use crate::player::play_error_of;
 use crate::sink::Sink;
 use crate::source::Source;
+use crate::text_block::TextBlock;
 use crate::thread_lists::{lend_lists, lend_starts};
 use crate::thread_text::{sort_by_name, write_text};
 use crate::transfer::{ReadError, read_bytes};
@@ -58,9 +58,9 @@ pub fn run_pool<'a, T: Threads + Wait + Sync, G: Gate + Sync>(
     gate: &G,
 ) -> Result<(Vec<Finished<'a>>, usize), AllocError>
     requires playable { IsThreadPlayable script.now }
-    requires all { length lists.now ≡ most_lists }
+    requires all { length lists.now ≡ MOST_LISTS }
     requires there { NameLists lists.now }
-    requires starts { All (λ start. start.list < most_lists) starts.now }
+    requires starts { All (λ start. start.list < MOST_LISTS) starts.now }
     requires some { 1 ≤ harts }
     requires few { harts ≤ MOST_HARTS }
     ensures ended { IfOk result (λ r. (table : TableId) × ComesBack table (map file_of script.now.files) lists.entry.now starts.now r.0.items) }
@@ -85,9 +85,9 @@ fn run_files<'a, W: RunFiles + Send + Sync, T: Threads + Wait + Sync, G: Gate + 
     requires playable { IsThreadPlayable script.now }
     requires first { shelf.first ≡ W.files }
     requires of_files { W.files ≡ map file_of script.now.files }
-    requires all { length lists.now ≡ most_lists }
+    requires all { length lists.now ≡ MOST_LISTS }
     requires there { NameLists lists.now }
-    requires starts { All (λ start. start.list < most_lists) starts.now }
+    requires starts { All (λ start. start.list < MOST_LISTS) starts.now }
     requires some { 1 ≤ harts }
     requires few { harts ≤ MOST_HARTS }
     ensures ended { IfOk result (λ r. (table : TableId) × ComesBack table (map file_of script.now.files) lists.entry.now starts.now r.0.items) }
@@ -128,7 +128,7 @@ fn run_threads<T: Threads + Wait + Sync, W: Sink, G: Gate + Sync>(
     ensures plays { PlaysLists (W.contents writer.old) (W.contents writer.new) result (Ok script.now) }
     ensures io { W.broken writer.old ≡ false → (IsErrOf result PlayError.Io ↔ IsTrue (W.broken writer.new)) }
 {
-    let Ok(page) = TextPage::new(alloc) else {
+    let Ok(block) = TextBlock::new(alloc) else {
         return Err(PlayError::Memory);
     };
     let Ok(lists) = lend_lists(alloc, script) else {
@@ -151,7 +151,7 @@ fn run_threads<T: Threads + Wait + Sync, W: Sink, G: Gate + Sync>(
     sort_by_name(&mut ended);
     let pool = script.pool();
     let frames = pool.frames - kernel_frames(Scheme::Sv39, pool.frames, pool.slots);
-    if write_text(writer, page, ended.as_slice(), free as u64, frames as u64) {
+    if write_text(writer, block, ended.as_slice(), free as u64, frames as u64) {
         Ok(())
     } else {
         Err(PlayError::Io)

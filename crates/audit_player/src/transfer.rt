@@ -4,7 +4,6 @@
 
 ghost use Rattle.std.specs.Prelude.{◌≡◌, ◌↔◌, false, true, not, IsTrue, IfOk, IsErrOf};
 ghost use Rattle.std.specs.Io.KnownBytes.{Appends};
-ghost use Rattle.script_language.specs.Script.{longest_script};
 ghost use Rattle.audit_player.specs.InputOutput.{HasReadAll, IsInput, WroteSome};
 ghost use Rattle.audit_player.specs.declared.transfer.ReadError.TheVariants as errors;
 
@@ -77,7 +76,7 @@ pub fn read_all<S: Source>(alloc: Global, source: &mut S) -> Result<PieceReader,
 /// `Io`: exactly when the source fails in this call, if it had not failed before. `Memory`: host memory was refused.
 pub fn read_bytes<S: Source>(alloc: Global, source: &mut S) -> Result<Vec<u8>, ReadError>
     ensures io { S.broken source.old ≡ false → (IsErrOf result ReadError.Io ↔ IsTrue (S.broken source.new)) }
-    ensures bytes { IfOk result (λ bytes. IsInput longest_script (S.remaining source.old) bytes.items) }
+    ensures bytes { IfOk result (λ bytes. IsInput LONGEST_SCRIPT (S.remaining source.old) bytes.items) }
 {
     let mut bytes = Vec::new(alloc);
     let mut piece = [0u8; 32768];

@@ -1,6 +1,5 @@
--- Lemmas for the end of a fork: the parent's seat (an owner's capability at a frame store) can be split, both seats hold
--- frame 0 if they hold any, the child's tables are those of its pages, and parent and child are forked as `Forks` says
--- (`divides`).
+-- Lemmas for the end of a fork: the parent's seat can be split, both seats hold frame 0 if they hold any, the child's tables
+-- are those of its pages, and parent and child are forked as `Forks` says (`divides`).
 use Rattle.std.proofs.Common.{◌≡◌, ◌⊎◌, ℕ, ◌+◌, ◌-◌, ◌<◌, ◌≤◌, cond, true, false, IsTrue, refl, ap, sym, subst, ◌∙◌, inl, inr, Some, List, [], ◌∷◌, arith}
 use Rattle.std.specs.Prelude.{All, Contains, is_some}
 use Rattle.std.proofs.lemmas.List.Elements.{All-contains_itself}

@@ -1,5 +1,5 @@
 -- Lemmas: frame 0 and the frames of the settled pages (those in memory) are exactly the frames that a fork shares, each
--- listed once (`going_settled`), page by page; the parent's seat (an owner's capability at a frame store) holds each.
+-- listed once (`going_settled`), page by page; the parent's seat holds each.
 use Rattle.std.proofs.Common.{◌≡◌, ℕ, ◌+◌, ◌<◌, ◌≤◌, ap, sym, subst, ◌∙◌, inl, inr, List, [], ◌∷◌, ◌++◌, length, Some, None, arith}
 use Rattle.std.proofs.lemmas.Bool.{cases_eq, cases_lt}
 use Rattle.std.proofs.lemmas.List.{append_assoc, append-nil}

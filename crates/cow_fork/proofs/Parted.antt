@@ -1,5 +1,5 @@
--- Lemmas: after the parent's seat (an owner's capability at a frame store) was split, parent and child each are a process in
--- memory by their own seats (`parent_after`, `child_after`).
+-- Lemmas: after the parent's seat was split, parent and child each are a process in memory by their own seats
+-- (`parent_after`, `child_after`).
 use Rattle.std.proofs.Common.{◌≡◌, ◌⊎◌, ℕ, ◌<◌, Bool, true, false, IsTrue, not, ◌&&◌, ◌||◌, None, Some, List, refl, ap, sym, subst, ◌∙◌, inl, inr, arith}
 use Rattle.std.specs.Prelude.{All}
 use Rattle.std.specs.FinMap as finite

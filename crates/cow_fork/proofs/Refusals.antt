@@ -1,7 +1,6 @@
--- Lemmas for a refused fork: if references and credits (reserved frames) are what they were, so is the process; what a
--- refused reservation or a full count says (`runs_dry`, `takes_counted`). And what lets one begin: the seat (an owner's
--- capability at a frame store) holds the frames to be shared, and after the reservation the child can be made
--- (`can_divide`).
+-- Lemmas for a refused fork: if references and credits are what they were, so is the process; what a refused reservation or a
+-- full count says (`runs_dry`, `takes_counted`). And what lets one begin: the seat holds the frames to be shared, and after
+-- the reservation the child can be made (`can_divide`).
 use Rattle.std.proofs.Common.{◌≡◌, ◌⊎◌, ℕ, ◌<◌, ◌≤◌, ap, refl, sym, subst, ◌∙◌, inl, inr, arith, Result, Ok, Err, List, [], ◌∷◌, length, ◌++◌, ◌+◌}
 use Rattle.std.proofs.lemmas.List.{append-nil, length-map}
 use Rattle.frame_store.specs.Laws.{IsAnchored, IsDry}

@@ -1,5 +1,5 @@
 -- Lemmas for `release_all`: dropping one more reference of a list, and all of them: the holds are then what they were before
--- these references were taken, and credits (reserved frames), tallies and size stay.
+-- these references were taken, and credits, tallies and size stay.
 use Rattle.std.proofs.Common.{◌≡◌, ℕ, ◌+◌, ◌-◌, ◌<◌, ◌≤◌, get_or, cond, refl, ap, sym, subst, ◌∙◌, inl, inr, List, [], ◌∷◌, drop, length, map, arith}
 use Rattle.std.proofs.lemmas.Bool.{cases_eq, eq-eqb, ne_eqb}
 use Rattle.std.proofs.lemmas.List.{at_drop_all, at_drop_more}

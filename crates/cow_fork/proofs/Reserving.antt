@@ -1,5 +1,5 @@
--- Lemmas for the stage `prepare` of a fork: credits (reserved frames) that are reserved before references are taken
--- (`prepared`), and given back if a count is full (`back_again`).
+-- Lemmas for the stage `prepare` of a fork: credits that are reserved before references are taken (`prepared`), and given
+-- back if a count is full (`back_again`).
 use Rattle.std.proofs.Common.{◌≡◌, ℕ, ◌<◌, ap, refl, sym, subst, ◌∙◌, arith, List, [], ◌∷◌}
 use Rattle.frame_store.specs.Holds.{hold_of-frames}
 use Rattle.frame_store.specs.Laws.{IsAnchored}

@@ -1,6 +1,5 @@
--- Lemmas on `split_off`: what each of the two seats (an owner's capability at a frame store) has of a frame that is listed
--- once, or not at all, after one reference to each listed frame went to the second; credits and tallies; and when it can be
--- done (`can_split`).
+-- Lemmas on `split_off`: what each of the two seats has of a frame that is listed once, or not at all, after one reference to
+-- each listed frame went to the second; credits and tallies; and when it can be done (`can_split`).
 use Rattle.std.proofs.Common.{◌≡◌, ℕ, ◌+◌, ◌-◌, ◌<◌, ◌≤◌, cond, true, false, refl, ap, sym, subst, ◌∙◌, inl, inr, List, [], ◌∷◌, arith}
 use Rattle.std.specs.Prelude.{◌==◌}
 use Rattle.std.proofs.lemmas.Bool.{cases_eq}

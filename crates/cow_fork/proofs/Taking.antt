@@ -1,5 +1,5 @@
--- Lemmas for `share_frames`: the seat (an owner's capability at a frame store) with one more reference taken (`more_next`),
--- and its counts; a refused one takes none (`looked_more`).
+-- Lemmas for `share_frames`: the seat with one more reference taken (`more_next`), and its counts; a refused one takes none
+-- (`looked_more`).
 use Rattle.std.proofs.Common.{◌≡◌, ℕ, ◌+◌, ◌<◌, ◌≤◌, refl, ap, sym, subst, ◌∙◌, inl, inr, List, [], ◌∷◌, ◌++◌, arith}
 use Rattle.std.proofs.lemmas.Bool.{cases_eq}
 use Rattle.frame_store.specs.Holds.{hold_of-frames, hold_of-with_hold_other, hold_of-with_hold_same}

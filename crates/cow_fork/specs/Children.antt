@@ -1,6 +1,6 @@
--- The child's page tables while a fork builds them on the parent's seat (an owner's capability at a frame store): when it
--- can begin (`CanOpen`, `CanCopy`), the leaf of a settled page, one in memory (`HasChildLeaf`), and tables, leaves and
--- credits (reserved frames) after some of these pages (`CopiesPages`) and after all (`CopiesTree`).
+-- The child's page tables while a fork builds them on the parent's seat: when it can begin (`CanOpen`, `CanCopy`), the leaf
+-- of a settled page, one in memory (`HasChildLeaf`), and tables, leaves and credits after some of these pages (`CopiesPages`)
+-- and after all (`CopiesTree`).
 use Rattle.std.specs.Prelude.{◌≡◌, ◌≢◌, ℕ, ◌-◌, ◌<◌, ◌≤◌, Contains, List, Some, ◌+◌, true}
 use Rattle.std.specs.FinMap.{get}
 use Rattle.frame_store.specs.View.{AllKnown, hold_of, IsHeld, references, spent, View}

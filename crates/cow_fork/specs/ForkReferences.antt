@@ -1,6 +1,6 @@
--- The references that a fork takes for the child: the frames of a list of settled pages, those in memory (`frames_of`);
--- which frames are to be shared (`IsToShare`, `AreToShare`); and that a seat (an owner's capability at a frame store) has
--- one more reference to each frame of a list (`HasMore`).
+-- The references that a fork takes for the child: the frames of a list of settled pages, those in memory (`frames_of`); which
+-- frames are to be shared (`IsToShare`, `AreToShare`); and that a seat has one more reference to each frame of a list
+-- (`HasMore`).
 use Rattle.std.specs.Prelude.{◌≡◌, ◌⊎◌, ℕ, ◌+◌, ◌<◌, map, Some, List}
 use Rattle.frame_store.specs.Laws.{IsAnchored}
 use Rattle.frame_store.specs.View.{Hold, hold_of, IsHeld, View}

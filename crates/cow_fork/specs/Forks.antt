@@ -8,8 +8,9 @@ use Rattle.process_model.specs.Frames.{fork_need}
 use Rattle.process_model.specs.PageMap as pages
 use Rattle.process_model.specs.Process.{Page, Process}
 use Rattle.process_model.specs.Residence.{child_of, marked}
-use Rattle.process_model.specs.declared.step.Refusal.{Refusal}
-use Rattle.process_model.specs.declared.step.Refusal.TheVariants as refusal
+use Rattle.process_model.specs.declared.reply.Refusal.{Refusal}
+use Rattle.process_model.specs.declared.reply.Refusal.TheVariants as refusal
+use Rattle.process_model.specs.declared.limits.TheConstants.{MOST_REFERENCES}
 use Rattle.sv39_entry.specs.Schemes.{trampoline_page, trapframe_page}
 use Rattle.table_walk.specs.TableCounts.{AreTablesOf}
 use Rattle.table_walk.specs.Tables.{HasTables, Tables}
@@ -48,7 +49,7 @@ pub record Prepares (v w : View) (need : ℕ) (frames shared : List ℕ) : Type 
 pub record IsGivenBack (v w : View) : Type 0 where
   pub holds : (f : ℕ) → hold_of w f ≡ hold_of v f
   pub credits : w.credits ≡ v.credits
-  pub tallies : w.tallies ≡ counted (65535 ∷ []) v.tallies
+  pub tallies : w.tallies ≡ counted (MOST_REFERENCES ∷ []) v.tallies
 
 -- the space was process p with the view v; since then its seat got the credits of the fork, and one reference more of each
 -- frame that will be shared, listed in `frames`. So the child can be made

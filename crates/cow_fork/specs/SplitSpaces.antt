@@ -1,6 +1,6 @@
--- How the parent's seat (an owner's capability at a frame store) is split in a fork (`IsSplit`): the child's gets one
--- reference to each frame that the child's tables name, the parent's keeps the rest. Also that tables do not name a frame
--- (`IsUnnamed`), and the references taken for the child (`AreForChild`).
+-- How the parent's seat is split in a fork (`IsSplit`): the child's gets one reference to each frame that the child's tables
+-- name, the parent's keeps the rest. Also that tables do not name a frame (`IsUnnamed`), and the references taken for the
+-- child (`AreForChild`).
 use Rattle.std.specs.Prelude.{◌≡◌, ◌⊎◌, ℕ, ◌-◌, ◌<◌}
 use Rattle.frame_store.specs.View.{hold_of, IsSole, references, View}
 use Rattle.table_walk.specs.Tables.{Tables}

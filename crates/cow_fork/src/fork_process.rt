@@ -1,7 +1,7 @@
 // The calls `fork`, `fork_with` and `fork_listed` by copy-on-write (MIT 6.1810, copy-on-write lab); the enum `ForkError`, why
 // one is refused; and the struct `Child`, what the last two make. A fork reserves frames, takes references to those to be
 // shared, builds the child's page tables, sets the parent's copy-on-write marks (the next store takes the page over), and
-// splits the child's seat (an owner's capability at a frame store) off the parent's.
+// splits the child's seat off the parent's.
 
 ghost use Rattle.std.specs.Prelude.{[], ◌∷◌, ◌≡◌, ◌-◌, ◌↔◌, ◌<◌, ◌≤◌, if◌then◌else◌, IfErr, IfOk, is_ok, length, List, map, ℕ};
 ghost use Rattle.address_space.specs.Agreement.{body, body_of, IsSpace, IsAlive};
@@ -15,6 +15,7 @@ ghost use Rattle.frame_store.specs.Laws.{IsSeatOf, IsAnchored, IsDry, KeepsSeats
 ghost use Rattle.frame_store.specs.View.{IsHeld, View};
 ghost use Rattle.process_model.specs.Frames as model;
 ghost use Rattle.process_model.specs.Process.{Process};
+ghost use Rattle.process_model.specs.declared.limits.TheConstants.{MOST_REFERENCES};
 ghost use Rattle.sv39_entry.specs.Schemes.{trapframe_page};
 ghost use Rattle.table_walk.specs.Tables.{Tables};
 
@@ -23,7 +24,7 @@ use crate::pages::PageList;
 use crate::share::{release_all, share_frames};
 use crate::tables::list_tables;
 use crate::tree::{copy_tree, mark_pages};
-use address_space::{SettledPage, Space};
+use address_space::{Layout, SettledPage, Space};
 use arrayvec::ArrayVec;
 use frame_bytes::fill_frame;
 use frame_store::{FrameSeat, FrameSupply, NoFrame, SharersFull};
@@ -35,7 +36,7 @@ use sv39_entry::FrameNo;
 pub enum ForkError {
     /// Too few frames are free for the child's trapframe and page tables.
     NoFrame,
-    /// The count of references to a frame was read as 65,535, the highest: the frame cannot be shared once more.
+    /// The count of references to a frame was read as `MOST_REFERENCES`: the frame cannot be shared once more.
     SharersFull,
 }
 
@@ -82,12 +83,11 @@ impl From<ForkError> for Refusal {
 /// settled pages, TRAMPOLINE and TRAPFRAME. Makes no fence: the caller must, since leaves of the parent lose W.
 ///
 /// # Errors
-/// The space then is the process that it was, by the same page tables.
-/// `NoFrame`: if nobody else changes the store (`alone`), exactly when fewer than `fork_need` frames are free; over
-/// shared frames, only after the free count was read as 0 while fewer than `fork_need` credits (reserved frames) were
-/// reserved.
-/// `SharersFull`: only after a reference count was read as 65,535, the highest; if `alone`, the parent's seat holds a
-/// frame whose count is not below that. The contract does not say the reverse, that such a frame makes every fork fail.
+/// The space then is the process that it was, by the same page tables. `NoFrame`: if nobody else changes the store (`alone`),
+/// exactly when fewer than `fork_need` frames are free; over shared frames, only after the free count was read as 0 while
+/// fewer than `fork_need` credits were reserved. `SharersFull`: only after a reference count was read as `MOST_REFERENCES`;
+/// if `alone`, the parent's seat holds a frame whose count is not below that. The contract does not say the reverse, that
+/// such a frame makes every fork fail.
 pub fn fork<S: FrameSeat, F: FrameSupply<Seat = S>>(
     space: &mut Space<S>,
     store: &mut F,
@@ -98,10 +98,10 @@ pub fn fork<S: FrameSeat, F: FrameSupply<Seat = S>>(
     ensures whole { IfErr result (λ _. (t : Tables) (p : Process) → IsSpace (body_of S.view space.old) t p → IsSpace (body_of S.view space.new) t p) }
     ensures dry { IsNoFrameError result → (t : Tables) (p : Process) → IsSpace (body_of S.view space.old) t p
         → RunsDry (S.view space.old.seat) (S.view space.new.seat) (model.fork_need p) [] }
-    ensures full { IsSharersFullError result → TakesFrames (S.view space.old.seat) (S.view space.new.seat) 0 (65535 ∷ []) }
+    ensures full { IsSharersFullError result → TakesFrames (S.view space.old.seat) (S.view space.new.seat) 0 (MOST_REFERENCES ∷ []) }
     ensures short { F.alone → (t : Tables) (p : Process) → IsSpace (body_of S.view space.old) t p
         → IsNoFrameError result ↔ (F.free store.old < model.fork_need p) }
-    ensures sharers { F.alone → IsSharersFullError result → (f : ℕ) × IsHeld (S.view space.old.seat) f × (F.count store.old f < 65535 → ⊥) }
+    ensures sharers { F.alone → IsSharersFullError result → (f : ℕ) × IsHeld (S.view space.old.seat) f × (F.count store.old f < MOST_REFERENCES → ⊥) }
     ensures free { F.alone → (t : Tables) (p : Process) → IsSpace (body_of S.view space.old) t p → (IsSharersFullError result → ⊥) →
         F.free store.new ≡ F.free store.old - (if is_ok result then model.fork_need p else 0) }
     ensures place { KeepsPlace space.old space.new }
@@ -111,12 +111,7 @@ pub fn fork<S: FrameSeat, F: FrameSupply<Seat = S>>(
 {
     let mut list = PageList::new();
     match fork_with(space, store, &mut list) {
-        Ok(child) => Ok(Space {
-            seat: child.seat,
-            root: child.root,
-            trapframe: child.trapframe,
-            layout: space.layout.copied(),
-        }),
+        Ok(child) => Ok(child.space(space.layout.copied())),
         Err(error) => Err(error),
     }
 }
@@ -130,6 +125,21 @@ pub struct Child<S> {
     pub root: FrameNo,
     /// The frame that TRAPFRAME maps.
     pub trapframe: FrameNo,
+}
+
+impl<S: FrameSeat> Child<S> {
+    /// Returns the child's space with this layout, which should be a copy of the parent's.
+    #[inline(always)]
+    pub fn space(self, layout: Layout) -> Space<S>
+        ensures { result ≡ record { seat = self.seat; root = self.root; trapframe = self.trapframe; layout = layout } }
+    {
+        Space {
+            seat: self.seat,
+            root: self.root,
+            trapframe: self.trapframe,
+            layout,
+        }
+    }
 }
 
 /// `fork`, for a caller that puts the child's space together. It lists the settled pages in `list`, so that a caller that
@@ -149,10 +159,10 @@ pub fn fork_with<S: FrameSeat, F: FrameSupply<Seat = S>>(
     ensures whole { IfErr result (λ _. (t : Tables) (p : Process) → IsSpace (body_of S.view space.old) t p → IsSpace (body_of S.view space.new) t p) }
     ensures dry { IsNoFrameError result → (t : Tables) (p : Process) → IsSpace (body_of S.view space.old) t p
         → RunsDry (S.view space.old.seat) (S.view space.new.seat) (model.fork_need p) [] }
-    ensures full { IsSharersFullError result → TakesFrames (S.view space.old.seat) (S.view space.new.seat) 0 (65535 ∷ []) }
+    ensures full { IsSharersFullError result → TakesFrames (S.view space.old.seat) (S.view space.new.seat) 0 (MOST_REFERENCES ∷ []) }
     ensures short { F.alone → (t : Tables) (p : Process) → IsSpace (body_of S.view space.old) t p
         → IsNoFrameError result ↔ (F.free store.old < model.fork_need p) }
-    ensures sharers { F.alone → IsSharersFullError result → (f : ℕ) × IsHeld (S.view space.old.seat) f × (F.count store.old f < 65535 → ⊥) }
+    ensures sharers { F.alone → IsSharersFullError result → (f : ℕ) × IsHeld (S.view space.old.seat) f × (F.count store.old f < MOST_REFERENCES → ⊥) }
     ensures free { F.alone → (t : Tables) (p : Process) → IsSpace (body_of S.view space.old) t p → (IsSharersFullError result → ⊥) →
         F.free store.new ≡ F.free store.old - (if is_ok result then model.fork_need p else 0) }
     ensures place { KeepsPlace space.old space.new }
@@ -183,10 +193,10 @@ pub fn fork_listed<S: FrameSeat, F: FrameSupply<Seat = S>>(
     ensures whole { IfErr result (λ _. (t : Tables) (p : Process) → IsSpace (body_of S.view space.old) t p → IsSpace (body_of S.view space.new) t p) }
     ensures dry { IsNoFrameError result → (t : Tables) (p : Process) → IsSpace (body_of S.view space.old) t p
         → RunsDry (S.view space.old.seat) (S.view space.new.seat) (model.fork_need p) [] }
-    ensures full { IsSharersFullError result → TakesFrames (S.view space.old.seat) (S.view space.new.seat) 0 (65535 ∷ []) }
+    ensures full { IsSharersFullError result → TakesFrames (S.view space.old.seat) (S.view space.new.seat) 0 (MOST_REFERENCES ∷ []) }
     ensures short { F.alone → (t : Tables) (p : Process) → IsSpace (body_of S.view space.old) t p
         → IsNoFrameError result ↔ (F.free store.old < model.fork_need p) }
-    ensures sharers { F.alone → IsSharersFullError result → (f : ℕ) × IsHeld (S.view space.old.seat) f × (F.count store.old f < 65535 → ⊥) }
+    ensures sharers { F.alone → IsSharersFullError result → (f : ℕ) × IsHeld (S.view space.old.seat) f × (F.count store.old f < MOST_REFERENCES → ⊥) }
     ensures free { F.alone → (t : Tables) (p : Process) → IsSpace (body_of S.view space.old) t p → (IsSharersFullError result → ⊥) →
         F.free store.new ≡ F.free store.old - (if is_ok result then model.fork_need p else 0) }
     ensures place { KeepsPlace space.old space.new }
@@ -207,8 +217,8 @@ pub fn fork_listed<S: FrameSeat, F: FrameSupply<Seat = S>>(
 /// these frames in `frames`.
 ///
 /// # Errors
-/// `NoFrame`: the reservation was refused. `SharersFull`: a count was read as 65,535. The seat's references and credits are
-/// then what they were.
+/// `NoFrame`: the reservation was refused. `SharersFull`: a count was read as `MOST_REFERENCES`. The seat's references and
+/// credits are then what they were.
 fn prepare<S: FrameSeat, F: FrameSupply<Seat = S>>(
     space: &mut Space<S>,
     store: &mut F,
@@ -228,7 +238,7 @@ fn prepare<S: FrameSeat, F: FrameSupply<Seat = S>>(
     ensures dry { IsNoFrameError result → IsDry need (S.view space.old.seat) (S.view space.new.seat) }
     ensures back { IsSharersFullError result → IsGivenBack (S.view space.old.seat) (S.view space.new.seat) }
     ensures short { F.alone → IsNoFrameError result ↔ (F.free store.old < need) }
-    ensures sharers { F.alone → IsSharersFullError result → (f : ℕ) × (0 < times f (0 ∷ frames_of settled.now)) × (F.count store.old f < 65535 → ⊥) }
+    ensures sharers { F.alone → IsSharersFullError result → (f : ℕ) × (0 < times f (0 ∷ frames_of settled.now)) × (F.count store.old f < MOST_REFERENCES → ⊥) }
     ensures free { F.alone → (IsSharersFullError result → ⊥) → F.free store.new ≡ F.free store.old - (if is_ok result then need else 0) }
     ensures place { KeepsPlace space.old space.new }
     ensures keeps { KeepsSeats F.rule store.old space.old.seat store.new space.new.seat }

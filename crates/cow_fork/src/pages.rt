@@ -1,5 +1,5 @@
-// `PageList`, a struct: a list with room for 1,024 pages, used again and again. `settled_pages` collects in it the settled
-// pages (those in memory) of a process, in ascending order.
+// `PageList`, a struct: a list with room for `MOST_FRAMES` pages, used again and again. `settled_pages` collects in it the
+// settled pages (those in memory) of a process, in ascending order.
 
 ghost use Rattle.std.specs.Prelude.{[], ◌≡◌};
 ghost use Rattle.address_space.specs.Agreement.{body_of, IsSpace, IsAlive};
@@ -30,7 +30,7 @@ impl Model for PageList {
 }
 
 impl PageList {
-    /// An empty list with room for 1,024 pages: a store has at most as many frames.
+    /// An empty list with room for `MOST_FRAMES` pages: a store has at most as many frames.
     pub fn new() -> PageList {
         PageList {
             pages: ArrayVec::new(),
@@ -57,8 +57,8 @@ impl PageList {
     }
 }
 
-/// Adds the settled pages to an empty list in ascending order, found by their leaves. There are fewer than 1,024 of them: a
-/// store has at most 1,024 frames, and one is the trampoline's.
+/// Adds the settled pages to an empty list in ascending order, found by their leaves. There are fewer than `MOST_FRAMES` of
+/// them: a store has at most `MOST_FRAMES` frames, and one is the trampoline's.
 fn list_settled<S: FrameSeat, F: FrameAccess<Seat = S>>(
     space: &mut Space<S>,
     store: &mut F,

@@ -8,6 +8,7 @@ ghost use Rattle.cow_fork.specs.Occurrences.{times};
 ghost use Rattle.cow_fork.specs.ForkReferences.{frames_of, HasMore};
 ghost use Rattle.frame_store.specs.Laws.{CountBecomes, IsSeatOf, IsAnchored, KeepsSeats};
 ghost use Rattle.frame_store.specs.View.{counted, hold_of, IsHeld, read_full, shared, View};
+ghost use Rattle.process_model.specs.declared.limits.TheConstants.{MOST_REFERENCES};
 
 use address_space::{SettledPage, Space, TRAMPOLINE_FRAME};
 use arrayvec::ArrayVec;
@@ -18,8 +19,8 @@ use sv39_entry::FrameNo;
 /// Takes one more reference of frame 0 and of the frame of each settled page, and lists these frames in `frames`.
 ///
 /// # Errors
-/// `SharersFull`: a count was read as 65,535; if `alone`, one of these frames has at least that count. `frames` then
-/// lists the references taken before, which the seat still has.
+/// `SharersFull`: a count was read as `MOST_REFERENCES`; if `alone`, one of these frames has at least that count. `frames`
+/// then lists the references taken before, which the seat still has.
 pub(crate) fn share_frames<S: FrameSeat, F: FrameSupply<Seat = S>>(
     space: &mut Space<S>,
     store: &mut F,
@@ -37,8 +38,8 @@ pub(crate) fn share_frames<S: FrameSeat, F: FrameSupply<Seat = S>>(
     ensures credits { (S.view space.new.seat).credits ≡ (S.view space.old.seat).credits }
     ensures size { (S.view space.new.seat).size ≡ (S.view space.old.seat).size }
     ensures tallies { IfOk result (λ _. (S.view space.new.seat).tallies ≡ (S.view space.old.seat).tallies) }
-    ensures looked { IfErr result (λ _. (S.view space.new.seat).tallies ≡ counted (65535 ∷ []) (S.view space.old.seat).tallies) }
-    ensures full { F.alone → IfErr result (λ _. (f : ℕ) × (0 < times f (0 ∷ frames_of settled.now)) × (F.count store.old f < 65535 → ⊥)) }
+    ensures looked { IfErr result (λ _. (S.view space.new.seat).tallies ≡ counted (MOST_REFERENCES ∷ []) (S.view space.old.seat).tallies) }
+    ensures full { F.alone → IfErr result (λ _. (f : ℕ) × (0 < times f (0 ∷ frames_of settled.now)) × (F.count store.old f < MOST_REFERENCES → ⊥)) }
     ensures place { KeepsPlace space.old space.new }
     ensures keeps { KeepsSeats F.rule store.old space.old.seat store.new space.new.seat }
     ensures free { F.alone → F.free store.new ≡ F.free store.old }
@@ -53,7 +54,8 @@ pub(crate) fn share_frames<S: FrameSeat, F: FrameSupply<Seat = S>>(
 /// Takes one more reference of `frame` and adds it to `frames`.
 ///
 /// # Errors
-/// `SharersFull`: its count was read as 65,535 (if `alone`: exactly when it is at least that). Nothing is taken or added then.
+/// `SharersFull`: its count was read as `MOST_REFERENCES` (if `alone`: exactly when it is at least that). Nothing is taken or
+/// added then.
 fn share_frame<S: FrameSeat, F: FrameSupply<Seat = S>>(
     space: &mut Space<S>,
     store: &mut F,
@@ -67,7 +69,7 @@ fn share_frame<S: FrameSeat, F: FrameSupply<Seat = S>>(
     ensures listed { IfOk result (λ _. frames.new.items ≡ frames.old.items ++ frame ∷ []) }
     ensures full { IfErr result (λ _. S.view space.new.seat ≡ read_full (S.view space.old.seat)) }
     ensures stays { IfErr result (λ _. frames.new.items ≡ frames.old.items) }
-    ensures exact { F.alone → IsOk result ↔ (F.count store.old frame.0 < 65535) }
+    ensures exact { F.alone → IsOk result ↔ (F.count store.old frame.0 < MOST_REFERENCES) }
     ensures place { KeepsPlace space.old space.new }
     ensures keeps { KeepsSeats F.rule store.old space.old.seat store.new space.new.seat }
     ensures free { F.alone → F.free store.new ≡ F.free store.old }

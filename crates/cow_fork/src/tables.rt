@@ -1,5 +1,5 @@
 // `list_tables`: lists the frames of all page tables below a root, level by level. A fork lists the child's, to give them to
-// the child's seat (an owner's capability at a frame store).
+// the child's seat.
 
 ghost use Rattle.std.specs.Prelude.{◌≡◌, ◌≤◌, ◌+◌, ◌-◌, ◌^◌, List, map, ℕ, suc};
 ghost use Rattle.cow_fork.specs.TableList.{CanList, IsEdged, IsFirstPage, IsLed, IsListing, ListsTables};

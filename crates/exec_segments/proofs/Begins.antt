@@ -14,7 +14,7 @@ use Rattle.process_model.specs.Images.{LoadSegment, end_of_loads, end_page}
 use Rattle.process_model.specs.ImageProcess.{guard_at, image_pages, load_pages, numbered, page_run, parts_of, process_of, segment_region, stack_at}
 use Rattle.process_model.specs.PageMap.{from_list, numbers}
 use Rattle.process_model.specs.Process.{Process}
-use Rattle.process_model.specs.Regions.{Region, end_of, guard_pages, makes_leaf, stack_pages}
+use Rattle.process_model.specs.Regions.{Region, end_of, makes_leaf}
 use Rattle.sv39_entry.specs.Address.{page_of}
 use Rattle.sv39_entry.specs.Schemes.{trapframe_page, of_scheme}
 use Rattle.sv39_entry.specs.declared.scheme.Scheme.{Scheme}
@@ -25,6 +25,7 @@ use Rattle.address_space.specs.declared.region.RegionKind.TheVariants as RegionK
 use Rattle.exec_segments.specs.Loads.{AreInOrder, AreLoads, IsLoad, load_of, zeros_region}
 use Rattle.exec_segments.specs.declared.load.Load.{Load}
 use Rattle.exec_segments.proofs.Judged.{last_behind}
+use Rattle.process_model.specs.declared.limits.TheConstants.{GUARD_PAGES, STACK_PAGES}
 
 -- a part is that of a segment
 pub record IsPartOf (p : Part) (l : LoadSegment) : Type 0 where
@@ -82,12 +83,12 @@ abbrev IsWithoutFile : Part → Type 0
 IsWithoutFile p = is_file (region_in p).source ≡ false
 
 -- the guard and the stack have room below the trapframe
-some_room : (z : Scheme) → guard_pages + stack_pages ≤ trapframe_page z
+some_room : (z : Scheme) → GUARD_PAGES + STACK_PAGES ≤ trapframe_page z
 some_room z = omega (arith, of_scheme z)
 
 -- below the trapframe there is room for two pages more
-ends_low : (z : Scheme) (end : ℕ) (ls : List LoadSegment) → AreInOrder z end ls → end + (guard_pages + stack_pages) ≤ trapframe_page z
-    → end_of_loads end ls + (guard_pages + stack_pages) ≤ trapframe_page z
+ends_low : (z : Scheme) (end : ℕ) (ls : List LoadSegment) → AreInOrder z end ls → end + (GUARD_PAGES + STACK_PAGES) ≤ trapframe_page z
+    → end_of_loads end ls + (GUARD_PAGES + STACK_PAGES) ≤ trapframe_page z
 ends_low z end [] ordered low = low
 ends_low z end (l ∷ ls) ordered low = ends_low z (end_page l) ls ordered.1 (ordered.0).high
 
@@ -169,22 +170,22 @@ placed z ls loads = record { row = in_row z 0 ls loads.in_order; below = ends_lo
 
 -- the parts of an image: those of its segments, the guard and the stack
 module _ (z : Scheme) (ps : List Part) (ls : List LoadSegment) (g s : Part) (are : ArePartsOf ps ls) (loads : AreLoads z ls)
-    (guard_is : region_in g ≡ guard_at (end_of_loads 0 ls)) (stack_is : region_in s ≡ stack_at (end_of_loads 0 ls + guard_pages)) (no_bytes : g.bytes.now ≡ []) (none : s.bytes.now ≡ []) where
+    (guard_is : region_in g ≡ guard_at (end_of_loads 0 ls)) (stack_is : region_in s ≡ stack_at (end_of_loads 0 ls + GUARD_PAGES)) (no_bytes : g.bytes.now ≡ []) (none : s.bytes.now ≡ []) where
   all_regions : regions_in (whole g s ps) ≡ parts_of ls
   all_regions = map-append region_in ps (g ∷ s ∷ []) ∙ ap (λ rs. rs ++ region_in g ∷ region_in s ∷ []) (regions_are g s ps ls are)
       ∙ ap (λ r. map segment_region ls ++ r ∷ region_in s ∷ []) guard_is ∙ ap (λ r. map segment_region ls ++ guard_at (end_of_loads 0 ls) ∷ r ∷ []) stack_is
 
-  last_pages : flat_map part_pages (g ∷ s ∷ []) ≡ page_run (end_of_loads 0 ls) [] (guard_pages + stack_pages)
+  last_pages : flat_map part_pages (g ∷ s ∷ []) ≡ page_run (end_of_loads 0 ls) [] (GUARD_PAGES + STACK_PAGES)
   last_pages =
-      let guard_has = pages_are g (end_of_loads 0 ls) guard_pages [] (ap (λ (r : Region). r.first) guard_is) (ap (λ (r : Region). r.pages) guard_is) no_bytes in
-      let stack_has = pages_are s (end_of_loads 0 ls + guard_pages) stack_pages [] (ap (λ (r : Region). r.first) stack_is) (ap (λ (r : Region). r.pages) stack_is) none in
+      let guard_has = pages_are g (end_of_loads 0 ls) GUARD_PAGES [] (ap (λ (r : Region). r.first) guard_is) (ap (λ (r : Region). r.pages) guard_is) no_bytes in
+      let stack_has = pages_are s (end_of_loads 0 ls + GUARD_PAGES) STACK_PAGES [] (ap (λ (r : Region). r.first) stack_is) (ap (λ (r : Region). r.pages) stack_is) none in
       rw (guard_has, stack_has) (ap (λ bs. (end_of_loads 0 ls, padded 4096 []) ∷ page_run (end_of_loads 0 ls + 1) bs 1) (sym (drop-nil 4096)))
 
   all_pages : pages_of (whole g s ps) ≡ image_pages ls
   all_pages = flat_map-append part_pages ps (g ∷ s ∷ []) ∙ ap (λ es. es ++ flat_map part_pages (g ∷ s ∷ [])) (all_pages_are g s ps ls are)
       ∙ ap (λ es. flat_map load_pages ls ++ es) last_pages
 
-  last_page_is : last_page 0 (regions_in (whole g s ps)) ≡ end_of_loads 0 ls + (guard_pages + stack_pages)
+  last_page_is : last_page 0 (regions_in (whole g s ps)) ≡ end_of_loads 0 ls + (GUARD_PAGES + STACK_PAGES)
   last_page_is = last_is g s 0 ps ∙ ap end_of stack_is ∙ omega arith
 
   pub begins : (fresh : ℕ) → process_of_parts z fresh (whole g s ps) ≡ process_of z fresh ls
@@ -231,7 +232,7 @@ module _ (loads : List Load) (i : ℕ) (e : Load) (low : i < length loads) where
   end_forward = ap (end_of_loads 0) next ∙ last_behind 0 (map load_of (take i loads)) (load_of (get_or loads i e))
 
 -- each segment ends below the trapframe
-load_low : (z : Scheme) (end : ℕ) (loads : List Load) (i : ℕ) (e : Load) → AreInOrder z end (map load_of loads) → i < length loads → end_page (load_of (get_or loads i e)) + (guard_pages + stack_pages) ≤ trapframe_page z
+load_low : (z : Scheme) (end : ℕ) (loads : List Load) (i : ℕ) (e : Load) → AreInOrder z end (map load_of loads) → i < length loads → end_page (load_of (get_or loads i e)) + (GUARD_PAGES + STACK_PAGES) ≤ trapframe_page z
 load_low z end [] i e ordered low = absurd (omega arith)
 load_low z end (l ∷ loads) zero e ordered low = (ordered.0).high
 load_low z end (l ∷ loads) (suc i) e ordered low = load_low z (end_page (load_of l)) loads i e ordered.1 (omega arith)
@@ -249,7 +250,7 @@ room z loads i ps are low parts =
     let few = are.few in
     omega (arith, same, mapped, taken, all, few, low)
 
-pub end_fits : (z : Scheme) (loads : List Load) (end : ℕ) → AreLoads z (map load_of loads) → end ≡ end_of_loads 0 (map load_of loads) → end + (guard_pages + stack_pages) ≤ trapframe_page z
+pub end_fits : (z : Scheme) (loads : List Load) (end : ℕ) → AreLoads z (map load_of loads) → end ≡ end_of_loads 0 (map load_of loads) → end + (GUARD_PAGES + STACK_PAGES) ≤ trapframe_page z
 end_fits z loads end are is = let high = ends_low z 0 (map load_of loads) are.in_order (some_room z) in omega (arith, high, is)
 
 -- all of them
@@ -263,10 +264,10 @@ all_end loads i end over is = is ∙ ap (λ ls. end_of_loads 0 (map load_of ls))
 pub two_behind : (ps first second : List Part) (g s : Part) → first ≡ ps ++ g ∷ [] → second ≡ first ++ s ∷ [] → second ≡ ps ++ g ∷ s ∷ []
 two_behind ps first second g s one two = two ∙ ap (λ qs. qs ++ s ∷ []) one ∙ append_assoc ps (g ∷ []) (s ∷ [])
 
-pub guard_is : (g : Part) (end rights : ℕ) → region_in g ≡ zeros_region end guard_pages RegionKind.Guard rights → rights ≡ 0 → region_in g ≡ guard_at end
+pub guard_is : (g : Part) (end rights : ℕ) → region_in g ≡ zeros_region end GUARD_PAGES RegionKind.Guard rights → rights ≡ 0 → region_in g ≡ guard_at end
 guard_is g end rights is none = is ∙ rw none refl
 
-pub stack_is : (s : Part) (end rights : ℕ) → region_in s ≡ zeros_region (end + guard_pages) stack_pages RegionKind.Stack rights → rights ≡ 3 → region_in s ≡ stack_at (end + guard_pages)
+pub stack_is : (s : Part) (end rights : ℕ) → region_in s ≡ zeros_region (end + GUARD_PAGES) STACK_PAGES RegionKind.Stack rights → rights ≡ 3 → region_in s ≡ stack_at (end + GUARD_PAGES)
 stack_is s end rights is three = is ∙ rw three refl
 
 -- what holds of a success

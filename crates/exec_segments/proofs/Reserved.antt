@@ -1,6 +1,6 @@
--- Lemmas for `exec`'s credits (reserved frames), reserved before the old process is released: what is then taken of them
--- (`takes_reserved`), and a refused reservation (`runs_dry`). Also what a result says, by whether it is an error; and that a
--- refused promise of the files is never reported as `NoFrame`.
+-- Lemmas for `exec`'s credits, reserved before the old process is released: what is then taken of them (`takes_reserved`),
+-- and a refused reservation (`runs_dry`). Also what a result says, by whether it is an error; and that a refused promise of
+-- the files is never reported as `NoFrame`.
 use Rattle.std.proofs.Common.{◌≡◌, ℕ, true, false, ap, sym, ◌∙◌, arith, [], Result, Ok, Err}
 use Rattle.std.specs.Prelude.{IfErr, IfOk, is_err}
 use Rattle.std.proofs.lemmas.List.{append-nil}
@@ -10,7 +10,7 @@ use Rattle.file_cabinet.specs.declared.promise.PromiseError.{PromiseError}
 use Rattle.file_cabinet.specs.declared.promise.PromiseError.TheVariants as error
 use Rattle.frame_store.specs.Laws.{IsDry}
 use Rattle.frame_store.specs.View.{taken, Tallies, View, with_credits}
-use Rattle.process_model.specs.declared.step.Refusal.TheVariants as refusal
+use Rattle.process_model.specs.declared.reply.Refusal.TheVariants as refusal
 
 -- what a result is, by whether it is a refusal
 

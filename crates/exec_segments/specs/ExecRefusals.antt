@@ -3,8 +3,8 @@
 use Rattle.std.specs.Prelude.{◌≡◌, ◌⊎◌}
 use Rattle.file_cabinet.specs.Promises.{refusal_of}
 use Rattle.file_cabinet.specs.declared.promise.PromiseError.{PromiseError}
-use Rattle.process_model.specs.declared.step.Refusal.{Refusal}
-use Rattle.process_model.specs.declared.step.Refusal.TheVariants.{NoFrame}
+use Rattle.process_model.specs.declared.reply.Refusal.{Refusal}
+use Rattle.process_model.specs.declared.reply.Refusal.TheVariants.{NoFrame}
 
 -- the files refused the promise for the write-back, as they may, or too few frames are free
 abbrev pub IsExecRefusal : (PromiseError → Type 0) → Refusal → Type 0

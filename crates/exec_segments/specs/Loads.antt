@@ -7,14 +7,14 @@ use Rattle.std.specs.Coded.{Coded, code_by, coded×, coded_ℕ, coded_bool, code
 use Rattle.process_model.specs.Images.{LoadSegment, end_of_loads, end_page}
 use Rattle.sv39_entry.specs.Address.{page_of}
 use Rattle.process_model.specs.declared.image.Segment.{Segment}
-use Rattle.process_model.specs.Regions.{guard_pages, Region, stack_pages, zeros}
+use Rattle.process_model.specs.Regions.{Region, zeros}
 use Rattle.sv39_entry.specs.Rights.{executes, reads, writes}
 use Rattle.sv39_entry.specs.Schemes.{trapframe_page}
 use Rattle.sv39_entry.specs.declared.scheme.Scheme.{Scheme}
 use Rattle.address_space.specs.Layouts.{region_kind}
 use Rattle.address_space.specs.declared.region.RegionKind.{RegionKind}
 use Rattle.exec_segments.specs.declared.load.Load.{Load}
-use Rattle.process_model.specs.declared.limits.TheConstants.{MOST_SEGMENTS}
+use Rattle.process_model.specs.declared.limits.TheConstants.{GUARD_PAGES, MOST_SEGMENTS, STACK_PAGES}
 
 -- the model's segment for one of the code
 abbrev pub load_of : Load → LoadSegment
@@ -49,7 +49,7 @@ pub record IsLoad (z : Scheme) (end : ℕ) (l : LoadSegment) : Type 0 where
   pub some : 0 < l.memory_size
   pub sizes : length l.bytes ≤ l.memory_size
   pub aligned : l.address % 4096 ≡ 0
-  pub high : end_page l + (guard_pages + stack_pages) ≤ trapframe_page z
+  pub high : end_page l + (GUARD_PAGES + STACK_PAGES) ≤ trapframe_page z
   pub in_order : end ≤ page_of l.address
 
 -- each segment is an `IsLoad`, the first after page `end`, each other after the page where the one before it ends: they

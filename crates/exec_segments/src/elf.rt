@@ -11,11 +11,8 @@ use crate::fields::{u16_at, u32_at, u64_at};
 use crate::image::Image;
 use crate::image_builder::ImageBuilder;
 use crate::load::Load;
-use process_model::BadImage;
+use process_model::{BadImage, LONGEST_IMAGE};
 use sv39_entry::Scheme;
-
-/// Maximum length of a file, in bytes: 1 MiB.
-pub const LONGEST_IMAGE: usize = 1 << 20;
 
 /// Length of the file header, in bytes.
 pub const FILE_HEADER: usize = 64;
@@ -53,10 +50,10 @@ pub(crate) enum Header<'a> {
 /// segment may be read.
 ///
 /// # Errors
-/// The first check that fails (`elf_loads`; `BadImage` says what each means). Of the file: `TooLong` (more than 1,048,576
-/// bytes), `Header` (fewer than 64), `Magic`. Then of each program header in turn: `ProgramHeader` (its 56 bytes do not
-/// all lie inside the file), and if its type is PT_LOAD, the checks of its segment: `Sizes`, `Wraps`, `Align`, and if it
-/// has bytes in memory, `Contents`, `TooHigh`, `Order`, `TooMany`. At the end: `NoLoad` (no segment has pages).
+/// The first check that fails (`elf_loads`; `BadImage` says what each means). Of the file: `TooLong` (more than
+/// `LONGEST_IMAGE` bytes), `Header` (fewer than 64), `Magic`. Then of each program header in turn: `ProgramHeader` (its 56
+/// bytes do not all lie inside the file), and if its type is PT_LOAD, the checks of its segment: `Sizes`, `Wraps`, `Align`,
+/// and if it has bytes in memory, `Contents`, `TooHigh`, `Order`, `TooMany`. At the end: `NoLoad` (no segment has pages).
 pub fn read_image(scheme: Scheme, bytes: &[u8]) -> Result<Image<'_>, BadImage>
     ensures loads { loads_in result ≡ model.elf_loads scheme bytes.now }
     ensures scheme { IfOk result (λ i. i.scheme ≡ scheme) }
@@ -85,7 +82,7 @@ pub fn read_image(scheme: Scheme, bytes: &[u8]) -> Result<Image<'_>, BadImage>
 
 /// The program header with number `index`, from 0, of those that begin at offset `table` of the file.
 pub(crate) fn header_at(bytes: &[u8], table: u64, index: u16) -> Header<'_>
-    requires { length bytes.now ≤ model.longest_image }
+    requires { length bytes.now ≤ LONGEST_IMAGE }
     ensures header { header_of result ≡ model.header_at bytes.now (table + 56 * index) }
     ensures fits { HasAtMostFileSize result }
 {
@@ -100,7 +97,7 @@ pub(crate) fn header_at(bytes: &[u8], table: u64, index: u16) -> Header<'_>
 
 /// The offset in the file of that program header; `None` if its 56 bytes do not all lie inside the file.
 pub(crate) fn place(bytes: &[u8], table: u64, index: u16) -> Option<usize>
-    requires { length bytes.now ≤ model.longest_image }
+    requires { length bytes.now ≤ LONGEST_IMAGE }
     ensures { IsHeaderPlace bytes.now (table + 56 * index) result }
 {
     let at = table.checked_add(PROGRAM_HEADER * u64::from(index))?;
@@ -115,7 +112,7 @@ pub(crate) fn place(bytes: &[u8], table: u64, index: u16) -> Option<usize>
 /// of the segment's bytes at 8, its address at 16, its size in the file at 32, and its size in memory at 40.
 fn load_at(bytes: &[u8], at: usize) -> Load<'_>
     requires inside { at + 56 ≤ length bytes.now }
-    requires few { length bytes.now ≤ model.longest_image }
+    requires few { length bytes.now ≤ LONGEST_IMAGE }
     ensures load { load_of result ≡ model.load_at bytes.now at }
     ensures fits { length result.bytes.now ≤ result.file_size }
 {

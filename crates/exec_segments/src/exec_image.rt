@@ -14,7 +14,7 @@ ghost use Rattle.process_model.specs.ImageProcess as model;
 ghost use Rattle.process_model.specs.Mappings.{all_written_back};
 ghost use Rattle.process_model.specs.PageMoves.{all_moves};
 ghost use Rattle.process_model.specs.Process.{Process};
-ghost use Rattle.process_model.specs.declared.step.Refusal.TheVariants.{NoFrame};
+ghost use Rattle.process_model.specs.declared.reply.Refusal.TheVariants.{NoFrame};
 ghost use Rattle.table_walk.specs.Tables as tables;
 
 use crate::image::Image;
@@ -33,12 +33,11 @@ use process_model::Refusal;
 /// must, since TLBs may hold leaves of the old process.
 ///
 /// # Errors
-/// The space then is the process that it was, and the files keep their contents.
-/// `Memory`, `JournalFull`: `files` refused the promise for the write-back (that writing these pages cannot fail). Seat
-/// and store are then unchanged.
-/// `NoFrame`: too few frames are free; the promise was made. If nobody else changes the store (`alone`): unless the
-/// promise is refused, exactly when fewer than `exec_need` are free. Over shared frames: only after the free count was
-/// read as 0 while fewer than `exec_need` credits (reserved frames) were reserved.
+/// The space then is the process that it was, and the files keep their contents. `Memory`, `JournalFull`: `files` refused the
+/// promise for the write-back (that writing these pages cannot fail). Seat and store are then unchanged. `NoFrame`: too few
+/// frames are free; the promise was made. If nobody else changes the store (`alone`): unless the promise is refused, exactly
+/// when fewer than `exec_need` are free. Over shared frames: only after the free count was read as 0 while fewer than
+/// `exec_need` credits were reserved.
 pub fn exec<S: FrameSeat, F: FrameSupply<Seat = S>, C: Files>(
     space: &mut Space<S>,
     store: &mut F,

@@ -5,12 +5,12 @@ ghost use Rattle.std.specs.Prelude.{◌≡◌, ◌≤◌, length, map, Err, IfSo
 ghost use Rattle.process_model.specs.Images as model;
 ghost use Rattle.exec_segments.specs.FirstFaults.{IsFirstFaulty, headers_in};
 
-use crate::elf::{FILE_HEADER, Header, LONGEST_IMAGE, MAGIC, header_at, place};
+use crate::elf::{FILE_HEADER, Header, MAGIC, header_at, place};
 use crate::fields::{u16_at, u32_at, u64_at};
 use crate::image::Image as JudgedImage;
 use crate::image_builder::ImageBuilder;
 use crate::load::Load;
-use process_model::{BadImage, Image, Segment};
+use process_model::{BadImage, Image, LONGEST_IMAGE, Segment};
 use sv39_entry::{PAGE_SIZE, Scheme};
 
 /// The first segment of an image that fails a check, by the numbers of its program header (System V ABI, "Program header") or of
@@ -76,7 +76,7 @@ impl FaultySegment {
 
 /// The offset of the bytes of a segment in the file, which the program header with this number has at byte 8.
 fn offset_of(bytes: &[u8], table: u64, index: u16) -> u64
-    requires { length bytes.now ≤ model.longest_image }
+    requires { length bytes.now ≤ LONGEST_IMAGE }
 {
     match place(bytes, table, index) {
         Some(at) => u64_at(bytes, at + 8),

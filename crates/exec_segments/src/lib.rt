@@ -12,9 +12,8 @@ mod image_faults;
 mod load;
 mod start_process;
 
-pub use elf::{FILE_HEADER, LONGEST_IMAGE, PROGRAM_HEADER, read_image};
+pub use elf::{FILE_HEADER, PROGRAM_HEADER, read_image};
 pub use exec_image::exec;
 pub use image::Image;
 pub use image_faults::{FaultySegment, ImageFault, image_fault};
-pub use load::{GUARD_PAGES, STACK_PAGES};
 pub use start_process::{start, start_frames};

@@ -1,19 +1,13 @@
 // `Load`, a struct: one segment to load as an image states it (address, sizes, rights, bytes); `Load::fault`, the checks
-// that exec makes of it, in order; and how many pages guard and stack have.
+// that exec makes of it, in order.
 
 ghost use Rattle.std.specs.Prelude.{◌≡◌, ◌<◌, ◌≤◌, ◌+◌, ◌^◌, length, List};
 ghost use Rattle.exec_segments.specs.Loads.{load_of, segment_load};
 ghost use Rattle.process_model.specs.Images as model;
 ghost use Rattle.process_model.specs.Images.{LoadSegment};
 
-use process_model::{BadImage, MOST_SEGMENTS, Segment};
+use process_model::{BadImage, GUARD_PAGES, MOST_SEGMENTS, STACK_PAGES, Segment};
 use sv39_entry::{PAGE_SIZE, Scheme};
-
-/// Number of pages of the guard, which follows the last segment (the xv6 book, "Code: exec").
-pub const GUARD_PAGES: u64 = 1;
-
-/// Number of pages of the stack, which follows the guard.
-pub const STACK_PAGES: u64 = 1;
 
 /// A segment to load, as the image describes it.
 #[derive(Clone, Copy)]

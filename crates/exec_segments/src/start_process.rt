@@ -14,19 +14,18 @@ ghost use Rattle.process_model.specs.ImageProcess as model;
 ghost use Rattle.table_walk.specs.Tables as tables;
 
 use crate::image::Image;
-use crate::load::{GUARD_PAGES, Load, STACK_PAGES};
+use crate::load::Load;
 use address_space::{Part, Region, RegionKind, Source, Space, frames_needed};
 use arrayvec::ArrayVec;
 use bitflags::Flags;
 use frame_store::{FrameSeat, FrameSupply, NoFrame};
-use process_model::MOST_PARTS;
+use process_model::{GUARD_PAGES, MOST_PARTS, STACK_PAGES};
 use sv39_entry::{PAGE_SIZE, Rights};
 
-/// Builds the address space of a new process of `image`, with the scheme of the image, and returns it. `seat`, which
-/// becomes the space's, must hold one reference of frame 0, the trampoline's, and nothing else, and have no credits
-/// (reserved frames). All pages are settled (in memory), on frames of which the seat is the sole holder. Takes
-/// `start_need` frames, reserved together before anything is built: the trapframe, the pages, guard and stack too, and
-/// their tables.
+/// Builds the address space of a new process of `image`, with the scheme of the image, and returns it. `seat`, which becomes
+/// the space's, must hold one reference of frame 0, the trampoline's, and nothing else, and have no credits. All pages are
+/// settled, on frames of which the seat is the sole holder. Takes `start_need` frames, reserved together before anything is
+/// built: the trapframe, the pages, guard and stack too, and their tables.
 ///
 /// # Errors
 /// `NoFrame`, with the seat, whose references and credits are what they were. If nobody else changes the store (`alone`):

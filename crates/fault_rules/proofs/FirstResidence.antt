@@ -5,7 +5,7 @@ use Rattle.std.proofs.Common.{◌≡◌, ℕ, Bool, false, true, ◌-◌, ◌*�
 use Rattle.std.specs.Prelude.{is_some, option_to_list}
 use Rattle.address_space.specs.Agreement.{Body, IsSpace}
 use Rattle.address_space.specs.Layouts.{region_of}
-use Rattle.address_space.specs.declared.region.Region.{Region as Run}
+use Rattle.address_space.specs.declared.region.Region.{Region as CodeRegion}
 use Rattle.address_space.specs.declared.region.Source.TheVariants as from
 use Rattle.address_space.specs.Steps.{CanSettle, RunsDry, TakesFrames}
 use Rattle.fault_rules.specs.MadeResident.{CanMakeResident, gets_frame, is_counted, is_shared_by, IsOnItsFrame, moves_for, moves_from, resident_reads, MakesResident}
@@ -55,7 +55,7 @@ module _ {x : Body} {t : Tables} {p : Process} {a : Access} {page : ℕ} (can : 
       ∙ ap (λ (x : Region). moves_from files x.source (4096 * (page - x.first))) is
       ∙ sym (ap (λ o. moves_for files (region_on p page) o page) unsettled ∙ ap (λ o. moves_for files o None page) can.in_region)
 
-  pub first_moves_none : (files : List File) (r : Run) → region_of r ≡ can.region → ((n offset : ℕ) → r.source ≡ from.File n offset → ⊥) → [] ≡ resident_reads files p page
+  pub first_moves_none : (files : List File) (r : CodeRegion) → region_of r ≡ can.region → ((n offset : ℕ) → r.source ≡ from.File n offset → ⊥) → [] ≡ resident_reads files p page
   first_moves_none files r is none = sym (no_file_moves files r.source (4096 * (page - r.first)) none) ∙ first_moves files (region_of r) page is refl
 
   abbrev anew : ℕ → List ℕ → Bool → Process

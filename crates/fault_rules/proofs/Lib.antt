@@ -3,6 +3,7 @@ pub mod FirstResidence
 pub mod Pages
 pub mod Results
 pub mod Rules
+pub mod Services
 pub mod Sources
 pub mod StillResident
 pub mod TakenOver

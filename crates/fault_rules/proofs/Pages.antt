@@ -1,6 +1,6 @@
--- Lemmas on a settled page (one in memory) of a space: if it has no copy-on-write mark and its region grants writing, the seat
--- (an owner's capability at a frame store) is the sole holder of its frame (`page_sole`); and the space is also the process
--- with another copy number of the page (which copy of it this is), `recopied`.
+-- Lemmas on a settled page (one in memory) of a space: if it has no copy-on-write mark and its region grants writing, the
+-- seat is the sole holder of its frame (`page_sole`); and the space is also the process with another copy number of the page
+-- (which copy of it this is), `recopied`.
 use Rattle.std.proofs.Common.{◌≡◌, ℕ, not, ◌&&◌, true, false, inl, inr, ap, sym, ◌∙◌, Some}
 use Rattle.std.proofs.lemmas.Bool.{cases_eq}
 use Rattle.std.proofs.lemmas.Option.{same_Some}

@@ -1,8 +1,6 @@
 -- Lemmas on results and numbers: a clause about a result is weakened; what an error says of the frames needed, free and
 -- taken; and a relation is carried over to equal things.
 use Rattle.std.proofs.lemmas.Bool.{cases_lt}
-use Rattle.fault_rules.specs.MadeResident.{taken_of}
-use Rattle.fault_rules.specs.declared.residence.ResidenceError.{ResidenceError}
 use Rattle.std.proofs.Common.{◌≡◌, ℕ, false, true, inl, inr, subst, ◌<◌, ◌≤◌, ◌-◌, ◌↔◌, Result, Ok, Err}
 use Rattle.std.specs.Prelude.{if◌then◌else◌, IfErr, IfOk, is_ok, IsErr, IsOk}
 
@@ -35,10 +33,6 @@ too_few need free few = elim (cases_lt free need) [
 pub few_if_err : {A E : Type 0} (r : Result A E) (need free : ℕ) → IsOk r ↔ (need ≤ free) → IfErr r (λ _. free < need)
 few_if_err (Ok a) need free exact = tt
 few_if_err (Err e) need free exact = too_few need free exact.1
-
-pub none_gone : (r : Result (Unit {0}) ResidenceError) (need a b : ℕ) → IsErr r → a ≡ b - 0 → a ≡ b - taken_of r need
-none_gone (Ok x) need a b err is = absurd (cc)
-none_gone (Err e) need a b err is = is
 
 -- what is told of some things is told of those that are the same
 pub carried : {A B C D : Type 0} (P : A → B → C → D → Type 0) {x y : A} {s r : B} {a b : C} {m n : D} → x ≡ y → s ≡ r → a ≡ b → m ≡ n → P x s a m → P y r b n

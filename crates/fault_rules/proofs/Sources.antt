@@ -5,7 +5,7 @@ use Rattle.std.proofs.lemmas.Grind.{common_steps}
 use Rattle.std.proofs.lemmas.List.{append-nil, take_all}
 use Rattle.std.proofs.lemmas.Option.{same_Some}
 use Rattle.address_space.specs.Layouts.{region_of, source_of}
-use Rattle.address_space.specs.declared.region.Region.{Region as Run}
+use Rattle.address_space.specs.declared.region.Region.{Region as CodeRegion}
 use Rattle.address_space.specs.declared.region.Source.{Source as From}
 use Rattle.address_space.specs.declared.region.Source.TheVariants as from
 use Rattle.fault_rules.specs.MadeResident.{moves_from}
@@ -88,12 +88,12 @@ region_of_page p n r order is =
     record { from = inside.0; to = inside.1; reach = in_reach p n r order is }
 
 -- the region that was found
-pub found_region : (o : Option Run) (r : Run) (rs : List Region) (n m : ℕ) (x : Region) → o ≡ Some r → option_map region_of o ≡ region_at rs m → m ≡ n → region_at rs n ≡ Some x
+pub found_region : (o : Option CodeRegion) (r : CodeRegion) (rs : List Region) (n m : ℕ) (x : Region) → o ≡ Some r → option_map region_of o ≡ region_at rs m → m ≡ n → region_at rs n ≡ Some x
     → region_of r ≡ x
 found_region o r rs n m x is found same at = same_Some (region_of r) x (sym (ap (option_map region_of) is) ∙ found ∙ ap (region_at rs) same ∙ at)
 
 -- and what it says of the page, by either of its equal numbers
-pub found_holds : (o : Option Run) (r : Run) (p : Process) (n m k : ℕ) (x : Region) → o ≡ Some r → option_map region_of o ≡ region_at (regions p) m → m ≡ n → k ≡ n → HasOrder 0 p
+pub found_holds : (o : Option CodeRegion) (r : CodeRegion) (p : Process) (n m k : ℕ) (x : Region) → o ≡ Some r → option_map region_of o ≡ region_at (regions p) m → m ≡ n → k ≡ n → HasOrder 0 p
     → region_at (regions p) n ≡ Some x → HoldsPage (region_of r) k
 found_holds o r p n m k x is found same again order at =
     subst (λ y. HoldsPage y k) (sym (found_region o r (regions p) n m x is found same at)) (region_of_page p k x order (ap (region_at (regions p)) again ∙ at))

@@ -1,5 +1,5 @@
--- Laws: if no rule of the regions denies an access, its page can be made resident (in memory and ready for it),
--- `can_reside`; and the rule that denies an access is never NoFrame, `denied_otherwise`.
+-- Laws: if no rule of the regions denies an access, its page can be made resident, `can_reside`; and the rule that denies an
+-- access is never NoFrame, `denied_otherwise`.
 use Rattle.std.proofs.Common.{◌≡◌, ℕ, Bool, true, false, refl, subst, List, [], ◌∷◌, Option, None, Some}
 use Rattle.std.specs.Prelude.{if◌then◌else◌}
 use Rattle.std.proofs.lemmas.Option.{same_Some}

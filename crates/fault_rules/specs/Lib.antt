@@ -1,5 +1,6 @@
 pub mod Allowed
 pub mod MadeResident
+pub mod PageService
 pub mod Serves
 pub mod SettlePage
 pub mod TakeOver

@@ -1,7 +1,7 @@
--- Predicates about `make_resident`, which makes a page resident (in memory and ready for an access): what it asks for
--- (`CanMakeResident`), what it does if it is not refused (`MakesResident`: process, frame of the page, frames claimed,
--- reference count read), how it lacks frames (`LacksFrames`), and the page of a file that it reads (`resident_reads`).
-use Rattle.std.specs.Prelude.{◌≡◌, ℕ, Bool, true, false, not, ◌+◌, ◌-◌, ◌*◌, ◌==◌, is_some, Option, None, Some, option_to_list, Result, Ok, Err, List, [], ◌∷◌}
+-- Predicates about `make_resident`, which makes a page resident: what it asks for (`CanMakeResident`), what it does if it is
+-- not refused (`MakesResident`: process, frame of the page, frames claimed, reference count read), how it lacks frames
+-- (`LacksFrames`), and the page of a file that it reads (`resident_reads`).
+use Rattle.std.specs.Prelude.{◌≡◌, ℕ, Bool, true, false, not, ◌+◌, ◌-◌, ◌*◌, ◌==◌, is_some, Option, None, Some, option_to_list, List, [], ◌∷◌}
 use Rattle.address_space.specs.Agreement.{Body, IsFrameOfPage, IsSpace, KeepsOtherLeaves}
 use Rattle.address_space.specs.Steps.{RunsDry, TakesFrames}
 use Rattle.frame_store.specs.View.{IsSole, references, View}
@@ -15,8 +15,6 @@ use Rattle.process_model.specs.Residence.{made_resident, parts_from, region_on}
 use Rattle.sv39_entry.specs.declared.access.Access.{Access}
 use Rattle.sv39_entry.specs.declared.access.Access.TheVariants.{Store}
 use Rattle.table_walk.specs.Tables.{Tables}
-use Rattle.fault_rules.specs.declared.residence.ResidenceError.{ResidenceError}
-use Rattle.fault_rules.specs.declared.residence.ResidenceError.TheVariants as residence_error
 
 -- the space x is the process p, and `page` is in a region that grants the access
 pub record CanMakeResident (x : Body) (t : Tables) (p : Process) (access : Access) (page : ℕ) : Type 0 where
@@ -75,17 +73,6 @@ LacksFrames x y access page = (t : Tables) (p : Process) → CanMakeResident x t
 abbrev pub WhenMadeResident : Body → Access → ℕ → (ℕ → ℕ) → (ℕ → Type 0) → Type 0
 WhenMadeResident x access page count P = (t : Tables) (p : Process) (shared : Bool) → CanMakeResident x t p access page
     → ((f : ℕ) → IsFrameOfPage t page f → shared ≡ not (count f == 1)) → P (resident_need shared p access page)
-
--- frames by the result
-
--- the result is a refusal for lack of frames
-abbrev pub IsNoFrameError : Result (Unit {0}) ResidenceError → Type 0
-IsNoFrameError r = r ≡ Err residence_error.NoFrame
-
--- how many frames are taken: those that are needed, none after an error
-abbrev pub taken_of : Result (Unit {0}) ResidenceError → ℕ → ℕ
-taken_of (Ok x) need = need
-taken_of (Err e) need = 0
 
 -- the page of a file that is read, for an unsettled page of a mapping to begin with
 

@@ -1,15 +1,13 @@
-// `make_resident`: makes a page resident for an access (in memory and ready for it). An unsettled page (not in memory) gets
-// its first frame, with zeros or bytes of its file; a settled page is taken over for a store (copy-on-write). Enum
-// `ResidenceError`: too few frames, or the files refused the promise (reservation) of a page read.
+// `make_resident`: makes a page resident for an access. An unsettled page (not in memory) gets its first frame, with zeros or
+// bytes of its file; a settled page is taken over for a store (copy-on-write). Enum `ResidenceError`: too few frames, or the
+// files refused the promise (reservation) of a page read.
 
-ghost use Rattle.std.specs.Prelude.{[], ◌≡◌, ◌≢◌, ◌+◌, ◌-◌, ◌*◌, ◌^◌, ◌<◌, ◌≤◌, ◌↔◌, ℕ, Err, if◌then◌else◌, IfErr, IfOk, is_ok, false, IsOk};
-ghost use Rattle.std.specs.Prelude.{length, List, None, Some};
+ghost use Rattle.std.specs.Prelude.{◌≡◌, ◌+◌, ◌-◌, ◌*◌, ◌^◌, ◌<◌, ◌≤◌, ℕ, false, if◌then◌else◌, IfErr, IfOk, is_ok, IsOk, length, List, None, Some};
 ghost use Rattle.address_space.specs.Agreement.{body_of, IsSpace};
-ghost use Rattle.address_space.specs.Kept.{IsUntouched, KeepsPlace};
+ghost use Rattle.address_space.specs.Kept.{KeepsPlace};
 ghost use Rattle.address_space.specs.Layouts.{region_of};
-ghost use Rattle.fault_rules.specs.MadeResident.{CanMakeResident, HasMadeResident, IsNoFrameError, resident_reads, LacksFrames, taken_of, WhenMadeResident};
-ghost use Rattle.fault_rules.specs.declared.residence.ResidenceError.TheVariants.{Unpromised};
-ghost use Rattle.file_cabinet.specs.declared.promise.PromiseError.{PromiseError};
+ghost use Rattle.fault_rules.specs.MadeResident.{CanMakeResident, HasMadeResident, LacksFrames, WhenMadeResident};
+ghost use Rattle.fault_rules.specs.PageService.{moment, served_as, ServesPage, store_model};
 ghost use Rattle.frame_store.specs.Laws.{IsSeatOf, KeepsSeats};
 ghost use Rattle.process_model.specs.Bytes.{padded};
 ghost use Rattle.process_model.specs.Files.{File};
@@ -18,7 +16,6 @@ ghost use Rattle.process_model.specs.Process.{Process, regions};
 ghost use Rattle.process_model.specs.Regions as model;
 ghost use Rattle.process_model.specs.Regions.{lacks_right, region_at};
 ghost use Rattle.process_model.specs.Residence.{leaves_mark, source_page};
-ghost use Rattle.sv39_entry.specs.declared.access.Access.TheVariants.{Store};
 ghost use Rattle.table_walk.specs.Tables.{Tables};
 
 use crate::settle::settle_as;
@@ -81,24 +78,8 @@ pub fn make_resident<S: FrameSeat, F: FrameSupply<Seat = S>, C: Files>(
 ) -> Result<(), ResidenceError>
     requires fits { IsSeatOf F.rule store.old space.old.seat }
     requires ready { (t : Tables) × (p : Process) × CanMakeResident (body_of S.view space.old) t p access page }
-    ensures resident { IfOk result (λ _.
-        HasMadeResident (body_of S.view space.old) (body_of S.view space.new) (C.files files.old) access page (λ f c. F.alone → c ≡ F.count store.old f)) }
-    ensures dry { IsNoFrameError result → LacksFrames (body_of S.view space.old) (body_of S.view space.new) access page }
-    ensures whole { IsNoFrameError result → (t : Tables) (p : Process) → IsSpace (body_of S.view space.old) t p → IsSpace (body_of S.view space.new) t p }
-    ensures unpromised { (e : PromiseError) → result ≡ Err (Unpromised e) → C.can_refuse files.old 1 e }
-    ensures of_file { (e : PromiseError) → result ≡ Err (Unpromised e) → (t : Tables) (p : Process)
-        → CanMakeResident (body_of S.view space.old) t p access page → 0 < length (resident_reads (C.files files.old) p page) }
-    ensures stays { (e : PromiseError) → result ≡ Err (Unpromised e) → IsUntouched S.view space.old space.new store.old store.new }
-    ensures files_stay { (e : PromiseError) → result ≡ Err (Unpromised e) → C.becomes files.old [] files.new }
-    ensures moves { ((e : PromiseError) → result ≢ Err (Unpromised e)) → (t : Tables) (p : Process)
-        → CanMakeResident (body_of S.view space.old) t p access page → C.becomes files.old (resident_reads (C.files files.old) p page) files.new }
-    ensures enough { F.alone → WhenMadeResident (body_of S.view space.old) access page (F.count store.old) (λ need. IsOk result → need ≤ F.free store.old) }
-    ensures short { F.alone → WhenMadeResident (body_of S.view space.old) access page (F.count store.old) (λ need. IsNoFrameError result
-        → F.free store.old < need) }
-    ensures free { F.alone → WhenMadeResident (body_of S.view space.old) access page (F.count store.old) (λ need.
-        F.free store.new ≡ F.free store.old - taken_of result need) }
-    ensures place { KeepsPlace space.old space.new }
-    ensures keeps { KeepsSeats F.rule store.old space.old.seat store.new space.new.seat }
+    ensures served { ServesPage (store_model S.view F.rule F.alone F.free F.count C.files C.becomes C.can_refuse) (moment space.old store.old files.old)
+        (moment space.new store.new files.new) access page (λ _. None) (served_as result) }
 {
     let Some(settled) = space.settled_page(store, page) else {
         return settle_initial(space, store, files, page, access);
@@ -121,24 +102,8 @@ fn settle_initial<S: FrameSeat, F: FrameSupply<Seat = S>, C: Files>(
     requires fits { IsSeatOf F.rule store.old space.old.seat }
     requires ready { (t : Tables) × (p : Process) × CanMakeResident (body_of S.view space.old) t p access page }
     requires unsettled { (t : Tables) (p : Process) → IsSpace (body_of S.view space.old) t p → get p.settled page ≡ None }
-    ensures resident { IfOk result (λ _.
-        HasMadeResident (body_of S.view space.old) (body_of S.view space.new) (C.files files.old) access page (λ f c. F.alone → c ≡ F.count store.old f)) }
-    ensures dry { IsNoFrameError result → LacksFrames (body_of S.view space.old) (body_of S.view space.new) access page }
-    ensures whole { IsNoFrameError result → (t : Tables) (p : Process) → IsSpace (body_of S.view space.old) t p → IsSpace (body_of S.view space.new) t p }
-    ensures unpromised { (e : PromiseError) → result ≡ Err (Unpromised e) → C.can_refuse files.old 1 e }
-    ensures of_file { (e : PromiseError) → result ≡ Err (Unpromised e) → (t : Tables) (p : Process)
-        → CanMakeResident (body_of S.view space.old) t p access page → 0 < length (resident_reads (C.files files.old) p page) }
-    ensures stays { (e : PromiseError) → result ≡ Err (Unpromised e) → IsUntouched S.view space.old space.new store.old store.new }
-    ensures files_stay { (e : PromiseError) → result ≡ Err (Unpromised e) → C.becomes files.old [] files.new }
-    ensures moves { ((e : PromiseError) → result ≢ Err (Unpromised e)) → (t : Tables) (p : Process)
-        → CanMakeResident (body_of S.view space.old) t p access page → C.becomes files.old (resident_reads (C.files files.old) p page) files.new }
-    ensures enough { F.alone → WhenMadeResident (body_of S.view space.old) access page (F.count store.old) (λ need. IsOk result → need ≤ F.free store.old) }
-    ensures short { F.alone → WhenMadeResident (body_of S.view space.old) access page (F.count store.old) (λ need. IsNoFrameError result
-        → F.free store.old < need) }
-    ensures free { F.alone → WhenMadeResident (body_of S.view space.old) access page (F.count store.old) (λ need.
-        F.free store.new ≡ F.free store.old - taken_of result need) }
-    ensures place { KeepsPlace space.old space.new }
-    ensures keeps { KeepsSeats F.rule store.old space.old.seat store.new space.new.seat }
+    ensures served { ServesPage (store_model S.view F.rule F.alone F.free F.count C.files C.becomes C.can_refuse) (moment space.old store.old files.old)
+        (moment space.new store.new files.new) access page (λ _. None) (served_as result) }
 {
     let Some(region) = space.layout.region_at(page.number()) else {
         unreachable!()
@@ -177,24 +142,8 @@ fn settle_from_file<S: FrameSeat, F: FrameSupply<Seat = S>, C: Files>(
     requires unsettled { (t : Tables) (p : Process) → IsSpace (body_of S.view space.old) t p → get p.settled page ≡ None }
     requires region { (t : Tables) (p : Process) → IsSpace (body_of S.view space.old) t p → region_at (regions p) page ≡ Some (region_of region.now) }
     requires source { (offset : ℕ) × ((region_of region.now).source ≡ model.file file offset) × (at ≡ offset + 4096 * (page - region.now.first)) }
-    ensures resident { IfOk result (λ _.
-        HasMadeResident (body_of S.view space.old) (body_of S.view space.new) (C.files files.old) access page (λ f c. F.alone → c ≡ F.count store.old f)) }
-    ensures dry { IsNoFrameError result → LacksFrames (body_of S.view space.old) (body_of S.view space.new) access page }
-    ensures whole { IsNoFrameError result → (t : Tables) (p : Process) → IsSpace (body_of S.view space.old) t p → IsSpace (body_of S.view space.new) t p }
-    ensures unpromised { (e : PromiseError) → result ≡ Err (Unpromised e) → C.can_refuse files.old 1 e }
-    ensures of_file { (e : PromiseError) → result ≡ Err (Unpromised e) → (t : Tables) (p : Process)
-        → CanMakeResident (body_of S.view space.old) t p access page → 0 < length (resident_reads (C.files files.old) p page) }
-    ensures stays { (e : PromiseError) → result ≡ Err (Unpromised e) → IsUntouched S.view space.old space.new store.old store.new }
-    ensures files_stay { (e : PromiseError) → result ≡ Err (Unpromised e) → C.becomes files.old [] files.new }
-    ensures moves { ((e : PromiseError) → result ≢ Err (Unpromised e)) → (t : Tables) (p : Process)
-        → CanMakeResident (body_of S.view space.old) t p access page → C.becomes files.old (resident_reads (C.files files.old) p page) files.new }
-    ensures enough { F.alone → WhenMadeResident (body_of S.view space.old) access page (F.count store.old) (λ need. IsOk result → need ≤ F.free store.old) }
-    ensures short { F.alone → WhenMadeResident (body_of S.view space.old) access page (F.count store.old) (λ need. IsNoFrameError result
-        → F.free store.old < need) }
-    ensures free { F.alone → WhenMadeResident (body_of S.view space.old) access page (F.count store.old) (λ need.
-        F.free store.new ≡ F.free store.old - taken_of result need) }
-    ensures place { KeepsPlace space.old space.new }
-    ensures keeps { KeepsSeats F.rule store.old space.old.seat store.new space.new.seat }
+    ensures served { ServesPage (store_model S.view F.rule F.alone F.free F.count C.files C.becomes C.can_refuse) (moment space.old store.old files.old)
+        (moment space.new store.new files.new) access page (λ _. None) (served_as result) }
 {
     files.promise(1)?;
     if let Some(bytes) = files.lent_page(file, at) {

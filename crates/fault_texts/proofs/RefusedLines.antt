@@ -4,7 +4,7 @@ use Rattle.std.specs.Prelude.{nat_le, if◌then◌else◌}
 use Rattle.std.specs.List.{list_all}
 use Rattle.script_language.specs.Fields.{Row, command_table, row_among}
 use Rattle.script_language.specs.Lines.{fields_of}
-use Rattle.script_language.specs.ReadLines.{◌>>=◌, test, row_named, in_limits, is_ascii, is_comment, longest_line, some_item, fields_by}
+use Rattle.script_language.specs.ReadLines.{◌>>=◌, test, row_named, in_limits, is_ascii, is_comment, some_item, fields_by}
 use Rattle.script_language.specs.Script.{Draft, item_of, item_line, line_of}
 use Rattle.script_language.specs.declared.script.Cause.{Cause}
 use Rattle.script_language.specs.declared.script.Cause.TheVariants as cause
@@ -16,9 +16,10 @@ use Rattle.fault_texts.specs.Causes.{AfterWord}
 use Rattle.fault_texts.specs.Refused.{after_word}
 use Rattle.fault_texts.proofs.Refusals.{Wrong, order, field, limits, room, bind_err, test_err, what_is_wrong}
 use Rattle.fault_texts.proofs.Rows.{found_passes}
+use Rattle.script_language.specs.declared.limits.TheConstants.{LONGEST_LINE}
 
 pub data WrongLine (d : Draft) (line : List ℕ) (c : Cause) : Type 0 where
-  long : nat_le (length line) longest_line ≡ false → cause.TooLong ≡ c → WrongLine d line c
+  long : nat_le (length line) LONGEST_LINE ≡ false → cause.TooLong ≡ c → WrongLine d line c
   foreign : is_ascii line ≡ false → cause.NotAscii ≡ c → WrongLine d line c
   unknown : (text : List ℕ) (fields : List (List ℕ)) → fields_of line ≡ text ∷ fields → row_among command_table text ≡ None → cause.Word ≡ c → WrongLine d line c
   known : (text : List ℕ) (fields : List (List ℕ)) (r : Row) → fields_of line ≡ text ∷ fields → row_among command_table text ≡ Some r → after_word d r fields ≡ Err c → WrongLine d line c
@@ -54,8 +55,8 @@ fields_wrong d line (text ∷ fields) c split e = comment_or (is_comment text) e
 pub line_wrong : (d : Draft) (line : List ℕ) (c : Cause) → line_of d line ≡ Err c → WrongLine d line c
 unfolding line_of
 line_wrong d line c e =
-    elim (bind_err (test (nat_le (length line) longest_line) cause.TooLong) (λ u. test (is_ascii line) cause.NotAscii >>= (λ v. fields_by (item_line d) (fields_of line))) c e) [
-      | inl out ↦ let x = test_err (nat_le (length line) longest_line) cause.TooLong c out in long x.0 x.1
+    elim (bind_err (test (nat_le (length line) LONGEST_LINE) cause.TooLong) (λ u. test (is_ascii line) cause.NotAscii >>= (λ v. fields_by (item_line d) (fields_of line))) c e) [
+      | inl out ↦ let x = test_err (nat_le (length line) LONGEST_LINE) cause.TooLong c out in long x.0 x.1
       | inr short ↦ elim (bind_err (test (is_ascii line) cause.NotAscii) (λ v. fields_by (item_line d) (fields_of line)) c short.2) [
         | inl out ↦ let x = test_err (is_ascii line) cause.NotAscii c out in foreign x.0 x.1
         | inr ascii ↦ fields_wrong d line (fields_of line) c refl ascii.2
@@ -133,7 +134,7 @@ known_foreign d r fields (room vs i e f g c) = cc
 
 -- by cause
 
-pub too_long : (d : Draft) (line : List ℕ) → WrongLine d line cause.TooLong → nat_le (length line) longest_line ≡ false
+pub too_long : (d : Draft) (line : List ℕ) → WrongLine d line cause.TooLong → nat_le (length line) LONGEST_LINE ≡ false
 too_long d line (long e c) = e
 too_long d line (foreign e c) = absurd cc
 too_long d line (unknown text fields e f c) = absurd cc

@@ -5,7 +5,7 @@ ghost use Rattle.std.specs.Prelude.{◌≡◌, ◌∷◌, Err, IfOk, IfSome, IsS
 ghost use Rattle.script_language.specs.Fields as words_of;
 ghost use Rattle.script_language.specs.Fields.{command_table, row_among};
 ghost use Rattle.script_language.specs.Lines.{fields_of};
-ghost use Rattle.script_language.specs.ReadLines.{is_ascii, longest_line};
+ghost use Rattle.script_language.specs.ReadLines.{is_ascii};
 ghost use Rattle.script_language.specs.Script as words;
 ghost use Rattle.fault_texts.specs.Causes.{AfterWord};
 ghost use Rattle.fault_texts.specs.Mistakes.{IsOfLine};
@@ -24,7 +24,7 @@ use std::alloc::{AllocError, Global};
 
 /// What is wrong with a line that is too long.
 fn too_long(alloc: Global, line: &[u8]) -> Result<Option<Mistake>, AllocError>
-    ensures found { IfOk result (λ m. is_none m ≡ nat_le (length line.now) longest_line) }
+    ensures found { IfOk result (λ m. is_none m ≡ nat_le (length line.now) LONGEST_LINE) }
     ensures column { IfOk result (λ m. IfSome m (λ m. IsOfLine line.now m)) }
 {
     let length = line.len();

@@ -5,11 +5,8 @@
 ghost use Rattle.std.specs.Prelude.{◌≡◌, IfOk, is_err, is_some};
 ghost use Rattle.process_model.specs.Images.{image_loads};
 
-use exec_segments::{
-    FILE_HEADER, FaultySegment, GUARD_PAGES, LONGEST_IMAGE, PROGRAM_HEADER, STACK_PAGES,
-    image_fault,
-};
-use process_model::{BadImage, Image, MOST_SEGMENTS};
+use exec_segments::{FILE_HEADER, FaultySegment, PROGRAM_HEADER, image_fault};
+use process_model::{BadImage, GUARD_PAGES, Image, LONGEST_IMAGE, MOST_SEGMENTS, STACK_PAGES};
 use std::alloc::{AllocError, Global};
 use sv39_entry::{PAGE_SIZE, Scheme};
 

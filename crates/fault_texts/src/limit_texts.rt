@@ -2,7 +2,6 @@
 
 ghost use Rattle.std.specs.Prelude.{◌≡◌, ◌≤◌, ◌&&◌, Err, IfOk, IfSome, IsSome, List, None, Ok, is_none, length, nat_le, nat_lt};
 ghost use Rattle.process_model.specs.Bytes.{is_width};
-ghost use Rattle.process_model.specs.Copies.{longest_copy};
 ghost use Rattle.process_model.specs.Frames.{kernel_frames};
 ghost use Rattle.script_language.specs.Fields.{values_of};
 ghost use Rattle.script_language.specs.Lines.{fields_of};
@@ -179,7 +178,7 @@ fn width_limits(alloc: Global, values: &[FieldValue]) -> Result<Option<Outside>,
 
 /// The limits of COUNT, in `copyin HART ADDRESS COUNT` and `show FILE OFFSET COUNT`.
 fn count_limits(alloc: Global, values: &[FieldValue]) -> Result<Option<Outside>, AllocError>
-    ensures { IfOk result (λ found. is_none found ≡ nat_le (words.number_at values.now 2) longest_copy) }
+    ensures { IfOk result (λ found. is_none found ≡ nat_le (words.number_at values.now 2) LONGEST_COPY) }
 {
     let count = index_at(values, 2);
     if count <= LONGEST_COPY {
@@ -191,7 +190,7 @@ fn count_limits(alloc: Global, values: &[FieldValue]) -> Result<Option<Outside>,
 
 /// The limits of `copyout HART ADDRESS HEX`.
 fn copied_limits(alloc: Global, values: &[FieldValue]) -> Result<Option<Outside>, AllocError>
-    ensures { IfOk result (λ found. is_none found ≡ nat_le (length (words.bytes_at values.now 2)) longest_copy) }
+    ensures { IfOk result (λ found. is_none found ≡ nat_le (length (words.bytes_at values.now 2)) LONGEST_COPY) }
 {
     let count = byte_count(values, 2);
     if count <= LONGEST_COPY {
@@ -221,7 +220,7 @@ fn show_limits(
     values: &[FieldValue],
 ) -> Result<Option<Outside>, AllocError>
     ensures { IfOk result (λ found. is_none found ≡ (words.has_file draft.now (words.number_at values.now 0)
-        && nat_le (words.number_at values.now 2) longest_copy)) }
+        && nat_le (words.number_at values.now 2) LONGEST_COPY)) }
 {
     let file = index_at(values, 0);
     if !draft.has_file(file) {
@@ -336,7 +335,7 @@ fn images_full(alloc: Global, draft: &Draft) -> Result<Option<String>, AllocErro
 }
 
 fn lines_full(alloc: Global, draft: &Draft) -> Result<Option<String>, AllocError>
-    ensures { IfOk result (λ full. is_none full ≡ nat_lt (length (draft.now).commands) words.most_commands) }
+    ensures { IfOk result (λ full. is_none full ≡ nat_lt (length (draft.now).commands) MOST_COMMANDS) }
 {
     if draft.has_room(&Item::Command(Command::Audit)) {
         return Ok(None);

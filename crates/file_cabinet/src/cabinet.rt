@@ -3,7 +3,8 @@
 // is never refused.
 
 ghost use Rattle.std.specs.Prelude.{◌≡◌, ◌≤◌, All, IfOk, IsTrue, length, map, option_copied, option_map, slice_get};
-ghost use Rattle.process_model.specs.Files.{file_of, fits_file, most_files};
+ghost use Rattle.process_model.specs.Files.{file_of, fits_file};
+ghost use Rattle.process_model.specs.declared.limits.TheConstants.{MOST_FILES};
 
 use crate::files::Files;
 use crate::held_file::HeldFile;
@@ -29,13 +30,13 @@ impl Model for Cabinet {
 
 impl Cabinet {
     /// Makes the declared files, in the order of their numbers: each has the bytes that were declared, then zeros up to its
-    /// length. There are at most 16, each with a length of at most 65,536 bytes and no more declared bytes than that length
-    /// (`fits_file`).
+    /// length. There are at most `MOST_FILES`, each with a length of at most `LONGEST_FILE` bytes and no more declared bytes
+    /// than that length (`fits_file`).
     ///
     /// # Errors
     /// `AllocError`: the host is out of memory.
     pub fn new(alloc: Global, files: &[FileText]) -> Result<Cabinet, AllocError>
-        requires few { length files.now ≤ most_files }
+        requires few { length files.now ≤ MOST_FILES }
         requires fit { All (λ f. IsTrue (fits_file f)) files.now }
         ensures { IfOk result (λ cabinet. cabinet ≡ map file_of files.now) }
     {

@@ -1,19 +1,14 @@
--- A shelf's history (its page reads and writes of files, in order): the model's move for an entry (`use_of`), the most
--- entries (`most_uses`), and predicates: an entry is right (`IsRightUse`: a read has the bytes that the files have), and
--- a history replays from some files (`HistoryReplays`).
+-- A shelf's history (its page reads and writes of files, in order): the model's move for an entry (`use_of`),
+-- and predicates: an entry is right (`IsRightUse`: a read has the bytes that the files have), and a history replays from
+-- some files (`HistoryReplays`).
 use Rattle.std.specs.Prelude.{◌≡◌, ℕ, Bool, true, false, List, [], ◌∷◌}
 use Rattle.process_model.specs.Files.{File, file_page}
 use Rattle.process_model.specs.PageMoves.{moved, page_read, page_write, PageMove}
-use Rattle.file_shelf.specs.declared.shelf.TheConstants.{MOST_USES}
 
 -- the model's move for an entry: a page write if the flag is true, otherwise a page read
 abbrev pub use_of : Bool → ℕ → ℕ → List ℕ → PageMove
 use_of false file offset bytes = page_read file offset bytes
 use_of true file offset bytes = page_write file offset bytes
-
--- the most entries that a history can have (own choice)
-abbrev pub most_uses : ℕ
-most_uses = MOST_USES
 
 -- a page read has the bytes that the files have there; of a page write nothing is asked
 abbrev pub IsRightUse : List File → PageMove → Type 0

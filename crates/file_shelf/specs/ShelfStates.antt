@@ -6,7 +6,7 @@ use Rattle.std.specs.Prelude.{◌≡◌, ℕ, ◌+◌, ◌<◌, ◌≤◌, List,
 use Rattle.std.proofs.lemmas.List.{append-nil, append_assoc}
 use Rattle.file_cabinet.specs.declared.promise.PromiseError.{PromiseError}
 use Rattle.file_cabinet.specs.declared.promise.PromiseError.TheVariants as error
-use Rattle.file_shelf.specs.Histories.{most_uses}
+use Rattle.file_shelf.specs.declared.shelf.TheConstants.{MOST_USES}
 use Rattle.process_model.specs.Files.{File}
 use Rattle.process_model.specs.PageMoves.{files_after, files_after-append, PageMove}
 
@@ -28,8 +28,8 @@ pub record HasMoves (a : ShelfState) (moves : List PageMove) (b : ShelfState) : 
 -- With which error a promise of n pages may be refused: with none if n is 0; with JournalFull only if n more entries would
 -- be more than a history can have, and with Memory only if they would not
 abbrev pub CanRefuse : ShelfState → ℕ → PromiseError → Type 0
-CanRefuse s n error.Memory = (0 < n) × (length s.history + n ≤ most_uses)
-CanRefuse s n error.JournalFull = (0 < n) × (most_uses < length s.history + n)
+CanRefuse s n error.Memory = (0 < n) × (length s.history + n ≤ MOST_USES)
+CanRefuse s n error.JournalFull = (0 < n) × (MOST_USES < length s.history + n)
 
 pub asks : (s : ShelfState) (n : ℕ) (e : PromiseError) → CanRefuse s n e → 0 < n
 asks s n error.Memory can = can.0

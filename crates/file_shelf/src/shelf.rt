@@ -17,8 +17,8 @@ use std::snapshot::Snapshot;
 pub const MOST_USES: usize = 65536;
 
 /// A cabinet with the history of its page reads and writes and, for contracts alone, the files that it began with. Type
-/// invariant: the history has at most 65,536 entries and replays from those files, and the files are those that its writes
-/// leave.
+/// invariant: the history has at most `MOST_USES` entries and replays from those files, and the files are those that its
+/// writes leave.
 #[derive(Drop)]
 pub struct Shelf {
     cabinet: Cabinet,
@@ -28,7 +28,8 @@ pub struct Shelf {
 
 impl Model for Shelf {
     ghost use Rattle.std.specs.Prelude.{◌≡◌, ◌≤◌, ◌-◌, min, length, vec_capacity};
-    ghost use Rattle.file_shelf.specs.Histories.{most_uses, HistoryReplays};
+    ghost use Rattle.file_shelf.specs.Histories.{HistoryReplays};
+    ghost use Rattle.file_shelf.specs.declared.shelf.TheConstants.{MOST_USES};
     ghost use Rattle.file_shelf.specs.ShelfStates.{ShelfState};
     ghost use Rattle.process_model.specs.PageMoves.{files_after};
 
@@ -38,10 +39,10 @@ impl Model for Shelf {
       first = s.first.value;
       files = s.cabinet;
       history = s.history.items;
-      room = min (vec_capacity s.history) most_uses - length s.history.items;
+      room = min (vec_capacity s.history) MOST_USES - length s.history.items;
     } };
 
-    ghost invariant = { λ s. (length s.history.items ≤ most_uses) × HistoryReplays s.first.value s.history.items
+    ghost invariant = { λ s. (length s.history.items ≤ MOST_USES) × HistoryReplays s.first.value s.history.items
         × (s.cabinet ≡ files_after s.first.value s.history.items) };
 }
 
@@ -106,7 +107,7 @@ impl Files for Shelf {
     /// many more history entries.
     ///
     /// # Errors
-    /// `JournalFull`: exactly when the history would have more than 65,536 entries. `Memory`: the host is out of memory,
+    /// `JournalFull`: exactly when the history would have more than `MOST_USES` entries. `Memory`: the host is out of memory,
     /// and the history would not have more.
     fn promise(&mut self, pages: usize) -> Result<(), PromiseError> {
         if pages > MOST_USES - self.history.len() {

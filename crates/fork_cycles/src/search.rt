@@ -1,7 +1,6 @@
 // `fork_cycle`: looks from each start along the forks, depth first, for a list that is on its own path.
 
 ghost use Rattle.std.specs.Prelude.{◌≡◌, ◌<◌, ◌∷◌, ◌++◌, ℕ, List, [], All, IfOk, IfSome, None};
-ghost use Rattle.script_language.specs.ThreadScript.{most_lists};
 ghost use Rattle.script_language.specs.declared.declarations.CallList.{CallList};
 ghost use Rattle.script_reader.specs.ThreadsPlayable.{IsThreadPlayable};
 ghost use Rattle.fork_cycles.specs.Forks.{Ends, IsCycleFrom, IsForkCycle};
@@ -88,7 +87,7 @@ fn first_cycle(
     lists: &[CallList],
     starts: &[ListedStart],
 ) -> Result<Option<Vec<usize>>, AllocError>
-    requires { All (λ l. l.number < most_lists) lists.now }
+    requires { All (λ l. l.number < MOST_LISTS) lists.now }
     ensures cycle { IfOk result (λ found. IfSome found (λ cycle. IsCycleFrom lists.now starts.now cycle.items)) }
     ensures ends { IfOk result (λ found. found ≡ None → All (λ s. Ends lists.now s.list) starts.now) }
 {

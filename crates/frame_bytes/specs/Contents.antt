@@ -1,6 +1,6 @@
--- Predicates: a seat (an owner's capability at a frame store) knows the 4,096 bytes of a frame (`HasBytes`), or its first
--- n words as those of some bytes (`HasWords`); and two views (what a seat holds and knows) differ at most in the known
--- words of one frame (`ChangesWords`, by `with_words`).
+-- Predicates: a seat knows the 4,096 bytes of a frame (`HasBytes`), or its first n words as those of some bytes (`HasWords`);
+-- and two views (what a seat holds and knows) differ at most in the known words of one frame (`ChangesWords`, by
+-- `with_words`).
 use Rattle.std.specs.Prelude.{◌≡◌, ℕ, ◌*◌, ◌^◌, ◌<◌, Some, List, length, slice_index, drop}
 use Rattle.std.specs.Ordering.{nat_cmp}
 use Rattle.std.specs.FinMap.{FinMap}

@@ -1,5 +1,5 @@
--- Lemmas: a reservation of credits (reserved frames) changes no hold of a view (what a seat has and knows of a frame),
--- and a refused one leaves frame 0 held.
+-- Lemmas: a reservation of credits changes no hold of a view (what a seat has and knows of a frame), and a refused one leaves
+-- frame 0 held.
 use Rattle.std.proofs.Common.{◌≡◌, ℕ, ◌<◌, refl, ap, sym, subst, ◌∙◌}
 use Rattle.frame_store.specs.View.{View, Hold, hold_of, IsHeld, with_credits}
 use Rattle.frame_store.specs.Laws.{IsDry}

@@ -1,5 +1,5 @@
-// Two example functions over any frame store: `filled_frame` allocates a frame for a seat (an owner's capability at the
-// store) and fills it with 512 words, or fails with `NoFrame`; `read_word` reads one word of a held frame.
+// Two example functions over any frame store: `filled_frame` allocates a frame for a seat and fills it with 512 words, or
+// fails with `NoFrame`; `read_word` reads one word of a held frame.
 
 ghost use Rattle.std.specs.Prelude.{◌≡◌, ◌+◌, ◌-◌, ◌<◌, ◌≤◌, ◌↔◌, ℕ, if◌then◌else◌, IfErr, IfOk, is_ok, IsOk, IsSome, Some};
 ghost use Rattle.frame_clients.specs.FilledFrames.{filled, page_hold};

@@ -1,6 +1,6 @@
-// `Pool`, an example struct: owns one `PlainFrames` store and a list of places, each empty or with a seat (an owner's
-// capability at the store). Calls: `new`, `open` (a seat in an empty place), `fill` (a new frame, with words), `read`
-// (one word), and `close` (joins a seat to that of another place).
+// `Pool`, an example struct: owns one `PlainFrames` store and a list of places, each empty or with a seat. Calls: `new`,
+// `open` (a seat in an empty place), `fill` (a new frame, with words), `read` (one word), and `close` (joins a seat to that
+// of another place).
 
 ghost use Rattle.std.specs.Prelude.{◌≡◌, ◌≢◌, ◌-◌, ◌<◌, ◌≤◌, ◌↔◌, ◌∷◌, if◌then◌else◌, IfErr, IfOk, is_ok, IsOk, IsSome, None, replicate, slice_set, Some};
 ghost use Rattle.frame_clients.specs.FilledFrames.{filled};
@@ -37,8 +37,8 @@ impl Model for Pool {
 }
 
 impl Pool {
-    /// Makes a pool of `frames` frames, 1 to 1,024, and `places` places, at least 1. Place 0 has the first seat, the sole
-    /// holder of frame 0; the other places are empty, and the other frames are free.
+    /// Makes a pool of `frames` frames, 1 to `MOST_FRAMES`, and `places` places, at least 1. Place 0 has the first seat, the
+    /// sole holder of frame 0; the other places are empty, and the other frames are free.
     ///
     /// # Errors
     /// `AllocError`: the host is out of memory.
@@ -63,8 +63,8 @@ impl Pool {
     /// sole holder. The free count stays.
     ///
     /// # Errors
-    /// `SharersFull`: the count of frame 0 was read as 65,535. Only the tallies of the seat in `from` change: they record
-    /// this count.
+    /// `SharersFull`: the count of frame 0 was read as `MOST_REFERENCES`. Only the tallies of the seat in `from` change: they
+    /// record this count.
     pub fn open(&mut self, from: usize, place: usize) -> Result<(), SharersFull>
         requires seated { IsSeated self.old.seats from }
         requires empty { IsEmpty self.old.seats place }

@@ -1,7 +1,6 @@
--- Lemmas: the invariant of plain frames (`PlainRule`: words, counts and the views of all seats agree) holds of a new
--- store and is kept as one seat stores a word or a run of words, looks at a count, shares, claims or releases a frame, or
--- changes only its credits (reserved frames) or tallies. Also: a held frame lies in the store, and a word that a seat
--- knows is the word there.
+-- Lemmas: the invariant of plain frames (`PlainRule`: words, counts and the views of all seats agree) holds of a new store
+-- and is kept as one seat stores a word or a run of words, looks at a count, shares, claims or releases a frame, or changes
+-- only its credits or tallies. Also: a held frame lies in the store, and a word that a seat knows is the word there.
 use Rattle.std.proofs.Common.{◌≡◌, ◌⊎◌, ℕ, ◌+◌, ◌-◌, ◌*◌, ◌<◌, ◌≤◌, ◌==◌, true, cond, refl, ap, sym, subst, ◌∙◌, Some, List, [], ◌∷◌, inl, inr, length, slice_index, arith, lit<}
 use Rattle.std.specs.Prelude.{slice_set, count_by, IsTrue, replicate}
 use Rattle.std.proofs.lemmas.List.Folds.{sum_by-replicate}

@@ -1,6 +1,6 @@
--- Predicates for the results of a store's searches of a frame: `IsNextWord` for `next_word` (the next word that is not 0)
--- and `IsNextBusyWord` for `next_busy_word` (which may also pass over words that name, as a PTE, a frame of zeros), as
--- far as the seat (an owner's capability at the store) knows the words.
+-- Predicates for the results of a store's searches of a frame: `IsNextWord` for `next_word` (the next word that is not 0) and
+-- `IsNextBusyWord` for `next_busy_word` (which may also pass over words that name, as a PTE, a frame of zeros), as far as the
+-- seat knows the words.
 use Rattle.std.specs.Prelude.{◌≡◌, ◌≢◌, ◌⊎◌, ℕ, ◌<◌, ◌≤◌, Option, None, Some}
 use Rattle.frame_store.specs.View.{known_word, View}
 use Rattle.sv39_entry.specs.Frame.{frame_at}

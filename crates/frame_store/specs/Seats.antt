@@ -1,7 +1,7 @@
--- Laws for an owner of one frame store and a list of places, each empty or with a seat (an owner's capability). If a
--- store's seats may be in any order (`ComesFront`, `GoesBack`), its invariant for all seats that are `present` is kept as
--- the seat of one place makes a call (`place_step`), is split into an empty place (`place_split`), or joins that of
--- another place (`place_join`). Also laws of writes to a list.
+-- Laws for an owner of one frame store and a list of places, each empty or with a seat. If a store's seats may be in any
+-- order (`ComesFront`, `GoesBack`), its invariant for all seats that are `present` is kept as the seat of one place makes a
+-- call (`place_step`), is split into an empty place (`place_split`), or joins that of another place (`place_join`). Also laws
+-- of writes to a list.
 use Rattle.std.proofs.Common.{◌≡◌, ℕ, zero, suc, ◌<◌, List, [], ◌∷◌, ◌++◌, Option, None, Some, length, take, drop, map, refl, ap, sym, subst, ◌∙◌, arith}
 use Rattle.std.specs.Prelude.{slice_get, slice_set}
 use Rattle.std.proofs.lemmas.List.{set_split, set-set, map-append}

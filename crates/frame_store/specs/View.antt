@@ -7,6 +7,7 @@ use Rattle.std.specs.Prelude.{refl, Option, None, Some, IsTrue}
 use Rattle.std.specs.Ordering.{nat_cmp}
 use Rattle.std.specs.Coded.{Coded, code_by, coded×, coded_ℕ, coded_bool, coded_list}
 use Rattle.std.specs.FinMap as map
+use Rattle.process_model.specs.declared.limits.TheConstants.{MOST_REFERENCES}
 
 -- what a seat has and knows of one frame
 pub record Hold : Type 0 where
@@ -159,7 +160,7 @@ looked f c v = with_hold f (record (hold_of v f) { sole = cond (c == 1) true (ho
 
 -- a count was read as 65,535, the most there can be, by a share that was refused
 abbrev pub read_full : View → View
-read_full v = record v { tallies = counted (65535 ∷ []) v.tallies }
+read_full v = record v { tallies = counted (MOST_REFERENCES ∷ []) v.tallies }
 
 -- a reference to frame f is dropped; with the seat's last one, all that it knew of the frame
 abbrev pub released : ℕ → View → View

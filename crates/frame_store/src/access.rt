@@ -221,7 +221,7 @@ pub trait FrameAccess {
     /// Law: a seat may be moved from the front of the list to any place in it.
     ghost goes_back: { (s : Self) (xs : List Self.Seat) (a : Self.Seat) (ys : List Self.Seat) → rule s (a ∷ xs ++ ys) → rule s (xs ++ a ∷ ys) };
 
-    /// Law: the store has at most 1,024 frames (`size` in each view), and a held frame is one of them.
+    /// Law: the store has at most `MOST_FRAMES` frames (`size` in each view), and a held frame is one of them.
     ghost within: { (s : Self) (a : Self.Seat) (ys : List Self.Seat) → rule s (a ∷ ys)
         → ((Self.Seat.view a).size ≤ MOST_FRAMES) × ((f : ℕ) → IsHeld (Self.Seat.view a) f → f < (Self.Seat.view a).size) };
 }

@@ -39,7 +39,7 @@ impl Model for Memory {
 }
 
 impl Memory {
-    /// Returns `frames` frames, at most 1,024, whose words are all 0.
+    /// Returns `frames` frames, at most `MOST_FRAMES`, whose words are all 0.
     ///
     /// # Errors
     /// `AllocError`: the host is out of memory.

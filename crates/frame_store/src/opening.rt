@@ -1,10 +1,11 @@
-// `opened_seat`, a function over any frame store: makes a seat (an owner's capability at the store) for another owner,
-// with one reference to frame 0, by a share and a split of the caller's seat; it may fail with `SharersFull`.
+// `opened_seat`, a function over any frame store: makes a seat for another owner, with one reference to frame 0, by a share
+// and a split of the caller's seat; it may fail with `SharersFull`.
 
 ghost use Rattle.std.specs.Prelude.{◌≡◌, ◌+◌, ◌<◌, ◌↔◌, ◌∷◌, ℕ, if◌then◌else◌, IfErr, IfOk, is_ok, IsOk, List};
 ghost use Rattle.frame_store.specs.SeatOpening.{opened, opener};
 ghost use Rattle.frame_store.specs.Laws.{CountBecomes, IsSeatOf, KeepsSeats};
 ghost use Rattle.frame_store.specs.View.{IsHeld, read_full};
+ghost use Rattle.process_model.specs.declared.limits.TheConstants.{MOST_REFERENCES};
 
 use crate::access::{FrameAccess, FrameSeat};
 use crate::refusal::SharersFull;
@@ -17,9 +18,9 @@ use sv39_entry::FrameNo;
 /// by 1 and the free count stays.
 ///
 /// # Errors
-/// `SharersFull`: the count of frame 0 was read as 65,535, which the tallies of `seat` record; nothing else of its view
-/// changes. If nobody else changes the store (`alone`): exactly when that count is not below 65,535, and then no count
-/// changes.
+/// `SharersFull`: the count of frame 0 was read as `MOST_REFERENCES`, which the tallies of `seat` record; nothing else of its
+/// view changes. If nobody else changes the store (`alone`): exactly when that count is not below `MOST_REFERENCES`, and then
+/// no count changes.
 pub fn opened_seat<F: FrameSupply>(
     store: &mut F,
     seat: &mut F::Seat,
@@ -30,7 +31,7 @@ pub fn opened_seat<F: FrameSupply>(
     ensures opened { IfOk result (λ s. F.Seat.view s ≡ opened (F.Seat.view seat.old)) }
     ensures full { IfErr result (λ _. F.Seat.view seat.new ≡ read_full (F.Seat.view seat.old)) }
     ensures anchored { IsHeld (F.Seat.view seat.new) 0 }
-    ensures exact { F.alone → IsOk result ↔ (F.count store.old 0 < 65535) }
+    ensures exact { F.alone → IsOk result ↔ (F.count store.old 0 < MOST_REFERENCES) }
     ensures keeps { IfOk result (λ s. (others : List F.Seat) →
         F.rule store.old (seat.old ∷ others) → F.rule store.new (seat.new ∷ s ∷ others)) }
     ensures keeps_full { IfErr result (λ _. KeepsSeats F.rule store.old seat.old store.new seat.new) }

@@ -1,6 +1,6 @@
 // Two structs. `PlainFrames`: the frame store of a single thread (words, reference counts, free count, list of unused
-// frames), with `new`, `report` (how many frames are free, held, shared) and the calls of `FrameAccess` and
-// `FrameSupply`. `PlainSeat`: a seat (an owner's capability) at it.
+// frames), with `new`, `report` (how many frames are free, held, shared) and the calls of `FrameAccess` and `FrameSupply`.
+// `PlainSeat`: a seat at it.
 
 ghost use Rattle.std.specs.Prelude.{◌≡◌, ◌+◌, ◌*◌, ◌<◌, ◌≤◌, ◌∷◌, [], count_by, IfOk, length, slice_get, slice_index, sum};
 ghost use Rattle.frame_store.specs.Plain.{PlainStateRule, held_within, is_shared, is_zero, initial_plain_state, report_of, to_back, to_front};
@@ -12,15 +12,12 @@ use crate::memory::Memory;
 use crate::refusal::{NoFrame, SharersFull};
 use crate::supply::FrameSupply;
 use arrayvec::ArrayVec;
-use process_model::{MOST_FRAMES, Report};
+use process_model::{MOST_FRAMES, MOST_REFERENCES, Report};
 use std::alloc::{AllocError, Global};
 use std::marker::Model;
 use sv39_entry::FrameNo;
 
-/// The most references that a frame can have.
-const MOST_REFERENCES: u16 = u16::MAX;
-
-/// The frame store of a machine with a single thread, of at most 1,024 frames. Contracts see the frames' words, their
+/// The frame store of a machine with a single thread, of at most `MOST_FRAMES` frames. Contracts see the frames' words, their
 /// reference counts, and the free count: the frames of count 0 less the credits of all seats.
 #[derive(Drop)]
 pub struct PlainFrames {
@@ -28,7 +25,7 @@ pub struct PlainFrames {
     counts: Vec<u16>,
     free: usize,
     /// The frames of count 0, each once, reserved ones included.
-    unused: ArrayVec<u16, 1024>,
+    unused: ArrayVec<u16, MOST_FRAMES>,
 }
 
 impl Model for PlainFrames {
@@ -63,8 +60,8 @@ impl FrameSeat for PlainSeat {
 }
 
 impl PlainFrames {
-    /// Makes `frames` frames, 1 to 1,024, whose words are all 0, and returns them with the first seat: the sole holder of
-    /// frame 0, with one reference, which knows no word. The other frames are free.
+    /// Makes `frames` frames, 1 to `MOST_FRAMES`, whose words are all 0, and returns them with the first seat: the sole
+    /// holder of frame 0, with one reference, which knows no word. The other frames are free.
     ///
     /// # Errors
     /// `AllocError`: the host is out of memory.

@@ -6,7 +6,6 @@
 #[derive(Clone, Copy, PartialEq, Eq, Debug)]
 pub struct NoFrame;
 
-/// The frame has 65,535 references, the most that its count can hold, so no further one can be taken
-/// (`FrameSupply::share`, `opened_seat`).
+/// The frame has `MOST_REFERENCES` references, so no further one can be taken (`FrameSupply::share`, `opened_seat`).
 #[derive(Clone, Copy, PartialEq, Eq, Debug)]
 pub struct SharersFull;

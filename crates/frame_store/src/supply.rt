@@ -5,6 +5,7 @@
 ghost use Rattle.std.specs.Prelude.{◌≡◌, ◌+◌, ◌-◌, ◌<◌, ◌≤◌, ◌↔◌, ◌∷◌, ℕ, if◌then◌else◌, IfErr, IfOk, is_ok, IsOk, List, map};
 ghost use Rattle.frame_store.specs.Laws.{CountBecomes, IsSeatOf, IsAnchored, IsDry, KeepsSeats};
 ghost use Rattle.frame_store.specs.View.{CanSplit, claimed, empty_view, IsHeld, read_full, references, shared, split_off, with_credits};
+ghost use Rattle.process_model.specs.declared.limits.TheConstants.{MOST_REFERENCES};
 
 use crate::access::FrameAccess;
 use crate::refusal::{NoFrame, SharersFull};
@@ -49,15 +50,15 @@ pub trait FrameSupply: FrameAccess {
     /// else changes the store (`alone`), the frame's count rises by 1.
     ///
     /// # Errors
-    /// `SharersFull`: the frame's count was read as 65,535, which the seat's tallies record; nothing else of its view
-    /// changes. If nobody else changes the store (`alone`): exactly when the count is not below 65,535, and then no count
-    /// changes.
+    /// `SharersFull`: the frame's count was read as `MOST_REFERENCES`, which the seat's tallies record; nothing else of its
+    /// view changes. If nobody else changes the store (`alone`): exactly when the count is not below `MOST_REFERENCES`, and
+    /// then no count changes.
     fn share(&mut self, seat: &mut Self::Seat, frame: FrameNo) -> Result<(), SharersFull>
         requires fits { IsSeatOf Self.rule self.old seat.old }
         requires held { IsHeld (Self.Seat.view seat.old) frame.0 }
         ensures ok { IfOk result (λ _. Self.Seat.view seat.new ≡ shared frame.0 (Self.Seat.view seat.old)) }
         ensures err { IfErr result (λ _. Self.Seat.view seat.new ≡ read_full (Self.Seat.view seat.old)) }
-        ensures exact { Self.alone → IsOk result ↔ (Self.count self.old frame.0 < 65535) }
+        ensures exact { Self.alone → IsOk result ↔ (Self.count self.old frame.0 < MOST_REFERENCES) }
         ensures keeps { KeepsSeats Self.rule self.old seat.old self.new seat.new }
         ensures free { Self.alone → Self.free self.new ≡ Self.free self.old }
         ensures counts { Self.alone

@@ -33,10 +33,11 @@ use Rattle.process_model.specs.Residence.{access_answer, can_complete, is_reside
 use Rattle.process_model.specs.Service.{AccessRequest, if_resident, if_settled, unless_denied, user_access}
 use Rattle.process_model.specs.declared.call.Call.{Call}
 use Rattle.process_model.specs.declared.call.Call.TheVariants as call
-use Rattle.process_model.specs.declared.step.Refusal.{Refusal}
-use Rattle.process_model.specs.declared.step.Refusal.TheVariants as refusal
-use Rattle.process_model.specs.declared.step.Reply.{Reply}
-use Rattle.process_model.specs.declared.step.Reply.TheVariants as reply
+use Rattle.process_model.specs.declared.reply.Refusal.{Refusal}
+use Rattle.process_model.specs.declared.reply.Refusal.TheVariants as refusal
+use Rattle.process_model.specs.declared.reply.Reply.{Reply}
+use Rattle.process_model.specs.declared.reply.ScalarReply.TheVariants as scalar
+use Rattle.process_model.specs.declared.reply.Reply.TheVariants as reply
 use Rattle.sv39_entry.specs.Address.{page_of}
 use Rattle.sv39_entry.specs.declared.access.Access.{Access}
 use Rattle.sv39_entry.specs.declared.access.Access.TheVariants as access
@@ -234,7 +235,7 @@ module _ (files : List File) (p : Process) (a : AccessRequest) where
   as_told y u shared space = made_alike y u files 0 shared (is_shared_page (call_environment files nothing) p page) p a.access page space
 
   -- a width that there is not
-  pub bad_width : (c : Call) → IsAccess c a → is_width a.width ≡ false → (x y : Body) (Became : List PageMove → Type 0) (Refused : List PageMove → ℕ → Refusal → Type 0) (Promised : ℕ → Type 0) → ((u : Tables) × IsSpace y u p) → Became [] → IsModelResult x y files Became Refused Promised p c nothing (reply.Refused refusal.BadArgument)
+  pub bad_width : (c : Call) → IsAccess c a → is_width a.width ≡ false → (x y : Body) (Became : List PageMove → Type 0) (Refused : List PageMove → ℕ → Refusal → Type 0) (Promised : ℕ → Type 0) → ((u : Tables) × IsSpace y u p) → Became [] → IsModelResult x y files Became Refused Promised p c nothing (reply.Scalar (scalar.Refused refusal.BadArgument))
   bad_width c is narrow x y Became Refused Promised space moves =
       let of = of_access c a is in
       let tells : call_outcome files nothing 0 p c ≡ refused_call files p refusal.BadArgument = of.tells files nothing p ∙ ap (λ (b : Bool). access_if files nothing p a b) narrow in
@@ -316,11 +317,11 @@ module _ (files : List File) (p : Process) (a : AccessRequest) where
         (ap₂ (λ (z : Scheme) (rs : List Region). first_rule z rs a.access a.address a.width) change.scheme change.regions ∙ none) change.resident r told_r space moves
 
     -- it ends the process by a rule of its regions
-    pub ends_denied : (r : Rule) → rule_for p a ≡ Some r → ((u : Tables) × IsSpace y u p) → Became (served_moves files p page (rule_for p a)) → IsModelResult x y files Became Refused Promised p c (at_stop r (address_of c)) (reply.Ended r)
+    pub ends_denied : (r : Rule) → rule_for p a ≡ Some r → ((u : Tables) × IsSpace y u p) → Became (served_moves files p page (rule_for p a)) → IsModelResult x y files Became Refused Promised p c (at_stop r (address_of c)) (reply.Scalar (scalar.Ended r))
     ends_denied r by space moves =
         let not : (r ≡ rule.NoFrame → ⊥) = λ same. denied_otherwise p.scheme (regions p) a.access a.address a.width (by ∙ ap Some same) in
         let tells = tells_by nothing (Err r) (denied nothing r by) in
-        subst (λ (w : Shortage). IsModelResult x y files Became Refused Promised p c w (reply.Ended r)) (sym (otherwise r (address_of c) not)) record {
+        subst (λ (w : Shortage). IsModelResult x y files Became Refused Promised p c w (reply.Scalar (scalar.Ended r))) (sym (otherwise r (address_of c) not)) record {
           possible = tt;
           reply = sym (ap (λ (z : CallOutcome). z.reply) tells);
           space = (space.0, subst (λ (z : Process). IsSpace y space.0 z) (sym (ap (λ (z : CallOutcome). z.process) tells)) space.1);
@@ -331,14 +332,14 @@ module _ (files : List File) (p : Process) (a : AccessRequest) where
 
     -- it ends the process for want of frames
     ends_dry : rule_for p a ≡ None → is_resident p a.access page ≡ false → (count : Option ℕ) → is_some count ≡ is_counted a.access (get p.settled page) → RunsDry x.view y.view (resident_need (is_shared_by count) p a.access page) (option_to_list count) → ((u : Tables) × IsSpace y u p) → Became (served_moves files p page (rule_for p a))
-        → IsModelResult x y files Became Refused Promised p c (at_stop rule.NoFrame (address_of c)) (reply.Ended rule.NoFrame)
+        → IsModelResult x y files Became Refused Promised p c (at_stop rule.NoFrame (address_of c)) (reply.Scalar (scalar.Ended rule.NoFrame))
     ends_dry none not count was_counted dry space moves =
         let at : at_stop rule.NoFrame (address_of c) ≡ shortage = ap (λ (z : ℕ). frames_at (page_of z)) of.address in
         let tells = tells_by shortage (Err rule.NoFrame) (runs_dry none not) in
         let short = dry.short in
         let at_most = most (is_shared_by count) in
         let claims = dry.claims in
-        subst (λ (w : Shortage). IsModelResult x y files Became Refused Promised p c w (reply.Ended rule.NoFrame)) (sym at) record {
+        subst (λ (w : Shortage). IsModelResult x y files Became Refused Promised p c w (reply.Scalar (scalar.Ended rule.NoFrame))) (sym at) record {
           possible = of.lacks files p (omega (arith, short, at_most));
           reply = sym (ap (λ (z : CallOutcome). z.reply) tells);
           space = (space.0, subst (λ (z : Process). IsSpace y space.0 z) (sym (ap (λ (z : CallOutcome). z.process) tells)) space.1);
@@ -349,8 +350,8 @@ module _ (files : List File) (p : Process) (a : AccessRequest) where
 
     -- it ends the process for want of frames, by that rule
     pub ends_dry_by : (r : Rule) → r ≡ rule.NoFrame → rule_for p a ≡ None → is_resident p a.access page ≡ false → (count : Option ℕ) → is_some count ≡ is_counted a.access (get p.settled page) → RunsDry x.view y.view (resident_need (is_shared_by count) p a.access page) (option_to_list count) → ((u : Tables) × IsSpace y u p) → Became (served_moves files p page (rule_for p a))
-        → IsModelResult x y files Became Refused Promised p c (at_stop r (address_of c)) (reply.Ended r)
-    ends_dry_by r by none not count was_counted dry space moves = subst (λ (k : Rule). IsModelResult x y files Became Refused Promised p c (at_stop k (address_of c)) (reply.Ended k)) (sym by) (ends_dry none not count was_counted dry space moves)
+        → IsModelResult x y files Became Refused Promised p c (at_stop r (address_of c)) (reply.Scalar (scalar.Ended r))
+    ends_dry_by r by none not count was_counted dry space moves = subst (λ (k : Rule). IsModelResult x y files Became Refused Promised p c (at_stop k (address_of c)) (reply.Scalar (scalar.Ended k))) (sym by) (ends_dry none not count was_counted dry space moves)
 
 -- a page of a file that its service would read is one that the call reads
 pub access_reads_file : (files : List File) (p : Process) (c : Call) (a : AccessRequest) → IsAccess c a → is_width a.width ≡ true → 0 < length (served_moves files p (page_of a.address) (rule_for p a)) → 0 < length (reads_of files nothing p c)

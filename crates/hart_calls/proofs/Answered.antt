@@ -26,19 +26,21 @@ use Rattle.process_model.specs.Frames.{exec_need}
 use Rattle.process_model.specs.Heap.{sbrk_result}
 use Rattle.process_model.specs.Images.{image_loads, LoadSegment}
 use Rattle.process_model.specs.ImageProcess.{process_of}
-use Rattle.process_model.specs.Mappings.{asks_write, is_bad_mapping, is_shared, leaves_hole, mapping_place, most_mappings, map_refusal, Mapped, mapped, mapped_unless, mapping_around, Unmapped, unmapped, unmapped_if, unmapped_in, unmapped_unless}
+use Rattle.process_model.specs.Mappings.{asks_write, is_bad_mapping, is_shared, leaves_hole, mapping_place, map_refusal, Mapped, mapped, mapped_unless, mapping_around, Unmapped, unmapped, unmapped_if, unmapped_in, unmapped_unless}
 use Rattle.process_model.specs.PageMoves.{all_moves, PageMove}
 use Rattle.process_model.specs.Process.{Process}
 use Rattle.process_model.specs.Regions.{Region}
 use Rattle.process_model.specs.declared.call.Call.TheVariants as call
 use Rattle.process_model.specs.declared.image.BadImage.{BadImage}
 use Rattle.process_model.specs.declared.image.Image.{Image}
-use Rattle.process_model.specs.declared.step.Refusal.{Refusal}
-use Rattle.process_model.specs.declared.step.Refusal.TheVariants as refusal
-use Rattle.process_model.specs.declared.step.Reply.TheVariants as reply
+use Rattle.process_model.specs.declared.reply.Refusal.{Refusal}
+use Rattle.process_model.specs.declared.reply.Refusal.TheVariants as refusal
+use Rattle.process_model.specs.declared.reply.ScalarReply.TheVariants as scalar
+use Rattle.process_model.specs.declared.reply.Reply.TheVariants as reply
 use Rattle.sv39_entry.specs.Address.{page_of}
 use Rattle.sv39_entry.specs.declared.scheme.Scheme.{Scheme}
 use Rattle.table_walk.specs.Tables.{Tables}
+use Rattle.process_model.specs.declared.limits.TheConstants.{MOST_MAPPINGS}
 
 -- what a first test that is met tells
 abbrev WantNothing : List (Bool × Refusal) → Type 0
@@ -87,7 +89,7 @@ module _ (x y : Body) (files : List File) (Became : List PageMove → Type 0) (C
       tt,
       record {
         possible = tt;
-        reply = ap (λ (k : ℕ). reply.OldSize k) (size_answered n (sbrk_result p delta) ok.process ok.is answer) ∙ sym (ap (λ (z : Result Process Refusal). (resized files p z).reply) ok.is);
+        reply = ap (λ (k : ℕ). (reply.Scalar (scalar.OldSize k))) (size_answered n (sbrk_result p delta) ok.process ok.is answer) ∙ sym (ap (λ (z : Result Process Refusal). (resized files p z).reply) ok.is);
         space = (ok.tables, subst (λ (q : Process). IsSpace y ok.tables q) (sym (ap (λ (z : Result Process Refusal). (resized files p z).process) ok.is)) ok.agrees);
         moves = moves;
         lack = tt;
@@ -97,7 +99,7 @@ module _ (x y : Body) (files : List File) (Became : List PageMove → Type 0) (C
     came_sized (Err e) answer ok err moves =
         let is = size_refused e (sbrk_result p delta) answer in (
           tt,
-          subst (λ (w : Shortage). IsModelResult x y files Became Refused Promised p (call.Sbrk delta) w (reply.Refused (refusal_of e))) (sym (size_wants e)) record {
+          subst (λ (w : Shortage). IsModelResult x y files Became Refused Promised p (call.Sbrk delta) w (reply.Scalar (scalar.Refused (refusal_of e)))) (sym (size_wants e)) record {
             possible = tt;
             reply = sym (ap (λ (z : Result Process Refusal). (resized files p z).reply) is);
             space = (t, subst (λ (q : Process). IsSpace y t q) (sym (ap (λ (z : Result Process Refusal). (resized files p z).process) is)) err);
@@ -121,7 +123,7 @@ module _ (x y : Body) (files : List File) (Became : List PageMove → Type 0) (C
     map_tests =
         (is_bad_mapping files len protection flags file, refusal.BadArgument)
         ∷ (is_shared flags && asks_write protection && not (is_writable (slice_get files file)), refusal.FileNotWritable)
-        ∷ (nat_le most_mappings (length p.mappings), refusal.MappingsFull)
+        ∷ (nat_le MOST_MAPPINGS (length p.mappings), refusal.MappingsFull)
         ∷ (is_none (mapping_place p (pages_for len)), refusal.NoRoom)
         ∷ []
 
@@ -146,7 +148,7 @@ module _ (x y : Body) (files : List File) (Became : List PageMove → Type 0) (C
         )
         go (Err e) at there = (
           tt,
-          subst (λ (w : Shortage). IsModelResult x y files Became Refused Promised p (call.Mmap len protection flags file) w (reply.Refused e)) (sym (map_wants e at)) record {
+          subst (λ (w : Shortage). IsModelResult x y files Became Refused Promised p (call.Mmap len protection flags file) w (reply.Scalar (scalar.Refused e))) (sym (map_wants e at)) record {
             possible = tt;
             reply = sym (ap (λ (z : Result Mapped Refusal). (mapped_as files p z).reply) at);
             space = (t, subst (λ (q : Process). IsSpace y t q) (sym (ap (λ (z : Result Mapped Refusal). (mapped_as files p z).process) at)) there);
@@ -197,7 +199,7 @@ module _ (x y : Body) (files : List File) (Became : List PageMove → Type 0) (C
     pub came_not_unmapped : Asks → (e : Refusal) → IsUnmapRefusal CanRefuse files p address len e → IsSpace y t p → Became [] → IsCallResult x y files Became Refused Promised p (call.Munmap address len) (done_or_refused (Err e))
     came_not_unmapped asks e (inl is) space moves = (
       tt,
-      subst (λ (w : Shortage). IsModelResult x y files Became Refused Promised p (call.Munmap address len) w (reply.Refused e)) (sym (unmap_wants e is)) record {
+      subst (λ (w : Shortage). IsModelResult x y files Became Refused Promised p (call.Munmap address len) w (reply.Scalar (scalar.Refused e))) (sym (unmap_wants e is)) record {
         possible = tt;
         reply = sym (ap (λ (z : Result Unmapped Refusal). (as_told nothing z).reply) is);
         space = (t, subst (λ (q : Process). IsSpace y t q) (sym (ap (λ (z : Result Unmapped Refusal). (as_told nothing z).process) is)) space);
@@ -208,8 +210,8 @@ module _ (x y : Body) (files : List File) (Became : List PageMove → Type 0) (C
     )
     came_not_unmapped asks e (inr (what, is, why, could, same)) space moves = (
       tt,
-      subst (λ (k : Refusal). IsModelResult x y files Became Refused Promised p (call.Munmap address len) (by_refusal k) (reply.Refused k)) (sym same)
-          (subst (λ (w : Shortage). IsModelResult x y files Became Refused Promised p (call.Munmap address len) w (reply.Refused (promises.refusal_of why))) (sym (wanted_is why)) record {
+      subst (λ (k : Refusal). IsModelResult x y files Became Refused Promised p (call.Munmap address len) (by_refusal k) (reply.Scalar (scalar.Refused k))) (sym same)
+          (subst (λ (w : Shortage). IsModelResult x y files Became Refused Promised p (call.Munmap address len) w (reply.Scalar (scalar.Refused (promises.refusal_of why)))) (sym (wanted_is why)) record {
             possible = (unpromised_is why, (asks (length (unmap_moves p address len)) why could).0);
             reply = sym (ap (λ (z : Result Unmapped Refusal). (as_told (refused 0 (promises.refusal_of why)) z).reply) is);
             space = (t, subst (λ (q : Process). IsSpace y t q) (sym (ap (λ (z : Result Unmapped Refusal). (as_told (refused 0 (promises.refusal_of why)) z).process) is)) space);
@@ -253,7 +255,7 @@ module _ (x y : Body) (files : List File) (Became : List PageMove → Type 0) (C
       )
 
       abbrev is_refused : Refusal → Type 0
-      is_refused e = IsModelResult x y files Became Refused Promised p (call.Exec image) (refused 0 e) (reply.Refused e)
+      is_refused e = IsModelResult x y files Became Refused Promised p (call.Exec image) (refused 0 e) (reply.Scalar (scalar.Refused e))
 
       not_put : (e : Refusal) → (e ≡ refusal.NoFrame) ⊎ (IsUnpromised e × (0 < length (all_moves p))) → ((e ≡ refusal.NoFrame) × Promised (length (all_moves p))) ⊎ Refused [] (length (all_moves p)) e → ReportsShortage x.view y.view files p (call.Exec image) (refused 0 e) → IsSpace y t p → Became [] → is_refused e
       not_put e may request dry space moves = record {
@@ -269,17 +271,17 @@ module _ (x y : Body) (files : List File) (Became : List PageMove → Type 0) (C
           → IsCallResult x y files Became Refused Promised p (call.Exec image) (done_or_refused (Err e))
       came_not_replaced asks e (inl (why, could, same)) dry kept space moves = (
         tt,
-        subst (λ (k : Refusal). IsModelResult x y files Became Refused Promised p (call.Exec image) (by_refusal k) (reply.Refused k)) (sym same) (quiet why (asks (length (all_moves p)) why could)),
+        subst (λ (k : Refusal). IsModelResult x y files Became Refused Promised p (call.Exec image) (by_refusal k) (reply.Scalar (scalar.Refused k))) (sym same) (quiet why (asks (length (all_moves p)) why could)),
       )
         where
-          quiet : (z : PromiseError) → (0 < length (all_moves p)) × Refused [] (length (all_moves p)) (promises.refusal_of z) → IsModelResult x y files Became Refused Promised p (call.Exec image) (by_refusal (promises.refusal_of z)) (reply.Refused (promises.refusal_of z))
+          quiet : (z : PromiseError) → (0 < length (all_moves p)) × Refused [] (length (all_moves p)) (promises.refusal_of z) → IsModelResult x y files Became Refused Promised p (call.Exec image) (by_refusal (promises.refusal_of z)) (reply.Scalar (scalar.Refused (promises.refusal_of z)))
           quiet error.Memory some = not_put refusal.Memory (inr (tt, some.0)) (inr some.1) tt space moves
           quiet error.JournalFull some = not_put refusal.JournalFull (inr (tt, some.0)) (inr some.1) tt space moves
       came_not_replaced asks e (inr none) dry kept space moves =
           let short = dry none in
           let claims = short.claims in (
             tt,
-            subst (λ (k : Refusal). IsModelResult x y files Became Refused Promised p (call.Exec image) (by_refusal k) (reply.Refused k)) (sym none)
+            subst (λ (k : Refusal). IsModelResult x y files Became Refused Promised p (call.Exec image) (by_refusal k) (reply.Scalar (scalar.Refused k))) (sym none)
                 (not_put refusal.NoFrame (inl refl) (inl (refl, kept none)) (ls, is, record { zeros = short.zeros; short = short.short; claims = omega (arith, claims); looks = short.looks }) space moves),
           )
 

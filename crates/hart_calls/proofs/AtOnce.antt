@@ -26,7 +26,7 @@ use Rattle.process_model.specs.Process.{Process}
 use Rattle.process_model.specs.Service.{AccessRequest, user_access}
 use Rattle.process_model.specs.declared.call.Call.{Call}
 use Rattle.process_model.specs.declared.call.Call.TheVariants as call
-use Rattle.process_model.specs.declared.step.Reply.{Reply}
+use Rattle.process_model.specs.declared.reply.Reply.{Reply}
 use Rattle.table_walk.specs.Tables.{Tables}
 
 -- files that there are none of

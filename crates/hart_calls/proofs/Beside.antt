@@ -1,5 +1,5 @@
--- Lemmas for an empty seat (an owner's capability at a frame store) split off a process's seat: both are at the one table, a
--- process's seat holds frame 0, and a space whose seat has an equal view is the process that it was.
+-- Lemmas for an empty seat split off a process's seat: both are at the one table, a process's seat holds frame 0, and a space
+-- whose seat has an equal view is the process that it was.
 use Rattle.std.proofs.Common.{◌≡◌, ℕ, List, [], ◌∷◌, ap, refl, sym, subst, ◌∙◌, arith}
 use Rattle.atomic_table.specs.Seated.{TableId}
 use Rattle.address_space.specs.Agreement.{body_of, IsSpace}

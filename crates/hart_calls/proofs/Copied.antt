@@ -7,6 +7,7 @@ use Rattle.std.specs.Prelude.{is_some, option_to_list}
 use Rattle.address_space.specs.Agreement.{Body, IsSpace}
 use Rattle.fault_rules.specs.Allowed.{can_reside, denied_otherwise}
 use Rattle.fault_rules.specs.MadeResident.{CanMakeResident, is_counted, is_shared_by}
+use Rattle.fault_rules.specs.PageService.{body_at, Moment, StoreModel}
 use Rattle.fault_rules.specs.Serves.{IsEnd, served_moves}
 use Rattle.fault_rules.specs.declared.service.Served.{Served}
 use Rattle.fault_rules.specs.declared.service.Served.TheVariants as served
@@ -25,13 +26,13 @@ use Rattle.process_model.specs.Process.{Page, Process, regions}
 use Rattle.process_model.specs.ResidenceLaws.{no_alignment, reached_at_once, resident_again}
 use Rattle.process_model.specs.Regions.{copy_rule}
 use Rattle.process_model.specs.Residence.{is_resident, is_resident_page, made_resident, made_resident_from, parts_from, region_on, taken_over_unless}
-use Rattle.process_model.specs.declared.step.Refusal.{Refusal}
+use Rattle.process_model.specs.declared.reply.Refusal.{Refusal}
 use Rattle.sv39_entry.specs.Address.{page_of}
 use Rattle.sv39_entry.specs.declared.access.Access.{Access}
 use Rattle.sv39_entry.specs.declared.rule.Rule.{Rule}
 use Rattle.sv39_entry.specs.declared.rule.Rule.TheVariants as rule
 use Rattle.table_walk.specs.Tables.{Tables}
-use Rattle.user_copy.specs.ReachedPage.{body_at, Place, Reaches, StoreModel}
+use Rattle.user_copy.specs.ReachedPage.{Reaches}
 use Rattle.user_copy.specs.declared.short.Stop.TheVariants.{Denied, Unpromised}
 
 -- a resident page is left as it is, and takes nothing
@@ -53,18 +54,18 @@ module _ (files : List File) (fresh : ℕ) (c : Bool) (p : Process) (kind : Acce
 
 module _ {Seat Frames Cabinet : Type 0} (l : StoreModel Seat Frames Cabinet)
     (goes : (x y z : Cabinet) (ms ns : List PageMove) → l.becomes x ms y → l.becomes y ns z → l.becomes x (ms ++ ns) z) (comes : (x y : Cabinet) (ms : List PageMove) → l.becomes x ms y → l.files y ≡ files_after (l.files x) ms)
-    (start : Place Seat Frames Cabinet) (w : Shortage) where
+    (start : Moment Seat Frames Cabinet) (w : Shortage) where
   abbrev pub files : List File
   files = l.files start.files
 
   abbrev pub around : Environment
   around = call_environment files w
 
-  abbrev tallies : Place Seat Frames Cabinet → Tallies
+  abbrev tallies : Moment Seat Frames Cabinet → Tallies
   tallies a = (l.view a.space.seat).tallies
 
   -- the copy came so far: these pages were read, the needs that were met are so many frames, and these counts were read
-  pub record Under (a : Place Seat Frames Cabinet) (g : Progress) (ms : List PageMove) (met : ℕ) (counts : List ℕ) : Type 0 where
+  pub record Under (a : Moment Seat Frames Cabinet) (g : Progress) (ms : List PageMove) (met : ℕ) (counts : List ℕ) : Type 0 where
     pub tables : Tables
     pub space : IsSpace (body_at l a) tables g.process
     pub moves : l.becomes start.files ms a.files
@@ -74,13 +75,13 @@ module _ {Seat Frames Cabinet : Type 0} (l : StoreModel Seat Frames Cabinet)
     pub looks : (tallies a).looks ≡ (tallies start).looks ++ counts
 
   -- more counts were read
-  looks_on : (counts : List ℕ) (a : Place Seat Frames Cabinet) → (tallies a).looks ≡ (tallies start).looks ++ counts → (more : List ℕ) (b : Place Seat Frames Cabinet) → (tallies b).looks ≡ (tallies a).looks ++ more
+  looks_on : (counts : List ℕ) (a : Moment Seat Frames Cabinet) → (tallies a).looks ≡ (tallies start).looks ++ counts → (more : List ℕ) (b : Moment Seat Frames Cabinet) → (tallies b).looks ≡ (tallies a).looks ++ more
       → (tallies b).looks ≡ (tallies start).looks ++ (counts ++ more)
   looks_on counts a before more b looks = looks ∙ ap (λ (xs : List ℕ). xs ++ more) before ∙ append_assoc (tallies start).looks counts more
 
   -- a page of it is come to
 
-  module _ (a : Place Seat Frames Cabinet) (g : Progress) (ms : List PageMove) (met : ℕ) (counts : List ℕ) (u : Under a g ms met counts) (b : Place Seat Frames Cabinet) (kind : Access) (address : ℕ) where
+  module _ (a : Moment Seat Frames Cabinet) (g : Progress) (ms : List PageMove) (met : ℕ) (counts : List ℕ) (u : Under a g ms met counts) (b : Moment Seat Frames Cabinet) (kind : Access) (address : ℕ) where
     abbrev page : ℕ
     page = page_of address
 
@@ -213,13 +214,13 @@ module _ {Seat Frames Cabinet : Type 0} (l : StoreModel Seat Frames Cabinet)
 
     module _ (x : Refusal) (e : Reaches l a b kind address (Err (Unpromised x))) where
       pub left_space : IsSpace (body_at l b) u.tables g.process
-      left_space = subst (λ (y : Body). IsSpace y u.tables g.process) (λ i. record { view = seen i; root = (back e.root i).0; trapframe = (back e.trapframe i).0; layout = back e.layout i }) u.space
+      left_space = subst (λ (y : Body). IsSpace y u.tables g.process) (λ i. record { view = seen i; root = (back e.place.root i).0; trapframe = (back e.place.trapframe i).0; layout = back e.place.layout i }) u.space
         where
           back : {T : Type 0} {y z : T} → y ≡ z → z ≡ y
           back is = sym is
 
           seen : (body_at l a).view ≡ (body_at l b).view
-          seen = sym (e.view_stays ((λ is. cc), (λ is. cc)))
+          seen = sym (e.stays ((λ is. cc), (λ is. cc))).view
 
       pub left_moves : l.becomes start.files ms b.files
       left_moves = subst (λ (ns : List PageMove). l.becomes start.files ns b.files) (append-nil ms) (goes start.files a.files b.files ms [] u.moves (e.files_stay x refl))

@@ -7,6 +7,7 @@ use Rattle.std.proofs.lemmas.Bool.{eq-eqb, le-ltb, lt-ltb, ne_eqb}
 use Rattle.std.proofs.lemmas.List.{append-nil}
 use Rattle.address_space.specs.Agreement.{IsSpace}
 use Rattle.fault_rules.specs.MadeResident.{is_counted, is_shared_by, moves_for}
+use Rattle.fault_rules.specs.PageService.{body_at, Moment, StoreModel}
 use Rattle.fault_rules.specs.Serves.{served_moves}
 use Rattle.file_cabinet.specs.Promises.{refusal_of}
 use Rattle.file_cabinet.specs.declared.promise.PromiseError.{PromiseError}
@@ -26,14 +27,14 @@ use Rattle.process_model.specs.PageMap.{get}
 use Rattle.process_model.specs.PageMoves.{files_after, PageMove}
 use Rattle.process_model.specs.Process.{Page, Process, regions}
 use Rattle.process_model.specs.Regions.{copy_rule, Region, region_at}
-use Rattle.process_model.specs.declared.step.Refusal.{Refusal}
+use Rattle.process_model.specs.declared.reply.Refusal.{Refusal}
 use Rattle.sv39_entry.specs.Address.{page_of}
 use Rattle.sv39_entry.specs.declared.access.Access.{Access}
 use Rattle.sv39_entry.specs.declared.rule.Rule.{Rule}
 use Rattle.sv39_entry.specs.declared.rule.Rule.TheVariants as rule
 use Rattle.sv39_entry.specs.declared.scheme.Scheme.{Scheme}
 use Rattle.table_walk.specs.Tables.{Tables}
-use Rattle.user_copy.specs.ReachedPage.{body_at, Place, Reaches, StoreModel}
+use Rattle.user_copy.specs.ReachedPage.{Reaches}
 use Rattle.user_copy.specs.declared.short.Stop.TheVariants.{Denied, Unpromised}
 
 -- ---- what a stop tells of frames
@@ -76,7 +77,7 @@ module _ (files : List File) (p q : Process) (page : ℕ) (scheme : q.scheme ≡
 
 module _ {Seat Frames Cabinet : Type 0} (l : StoreModel Seat Frames Cabinet)
     (goes : (x y z : Cabinet) (ms ns : List PageMove) → l.becomes x ms y → l.becomes y ns z → l.becomes x (ms ++ ns) z) (comes : (x y : Cabinet) (ms : List PageMove) → l.becomes x ms y → l.files y ≡ files_after (l.files x) ms)
-    (start : Place Seat Frames Cabinet) (p : Process) (tables : Tables) (space : IsSpace (body_at l start) tables p) (stays : l.becomes start.files [] start.files) (kind : Access) (address n : ℕ) (model : Shortage → Copied) (front : ℕ → Copied) where
+    (start : Moment Seat Frames Cabinet) (p : Process) (tables : Tables) (space : IsSpace (body_at l start) tables p) (stays : l.becomes start.files [] start.files) (kind : Access) (address n : ℕ) (model : Shortage → Copied) (front : ℕ → Copied) where
   abbrev present : List File
   present = l.files start.files
 
@@ -86,14 +87,14 @@ module _ {Seat Frames Cabinet : Type 0} (l : StoreModel Seat Frames Cabinet)
   -- ---- the ends
 
   -- all was copied
-  pub record Whole (starts : List ℕ) (c : Place Seat Frames Cabinet) (bytes : List ℕ) : Type 0 where
+  pub record Whole (starts : List ℕ) (c : Moment Seat Frames Cabinet) (bytes : List ℕ) : Type 0 where
     pub progress : Progress
     pub is : model nothing ≡ so_far progress bytes None
     pub after : (u : Tables) × IsSpace (body_at l c) u progress.process
     pub moves : l.becomes start.files (reads_below present p kind (address + length bytes + 1) starts) c.files
 
   -- a rule stopped it after so many bytes
-  pub record Short (starts : List ℕ) (c : Place Seat Frames Cabinet) (bytes : List ℕ) (r : Rule) : Type 0 where
+  pub record Short (starts : List ℕ) (c : Moment Seat Frames Cabinet) (bytes : List ℕ) (r : Rule) : Type 0 where
     pub progress : Progress
     pub is : model (at_stop r (address + length bytes)) ≡ so_far progress bytes (Some r)
     pub after : (u : Tables) × IsSpace (body_at l c) u progress.process
@@ -101,7 +102,7 @@ module _ {Seat Frames Cabinet : Type 0} (l : StoreModel Seat Frames Cabinet)
     pub dry : r ≡ rule.NoFrame → CopyDry (l.view start.space.seat) (l.view c.space.seat) p progress.process kind (page_of address) (page_of (address + length bytes))
 
   -- a page of a file was not promised after so many bytes
-  pub record Left (starts : List ℕ) (c : Place Seat Frames Cabinet) (done : ℕ) (r : Refusal) : Type 0 where
+  pub record Left (starts : List ℕ) (c : Moment Seat Frames Cabinet) (done : ℕ) (r : Refusal) : Type 0 where
     pub progress : Progress
     pub bytes : List ℕ
     pub is : front done ≡ so_far progress bytes None
@@ -122,7 +123,7 @@ module _ {Seat Frames Cabinet : Type 0} (l : StoreModel Seat Frames Cabinet)
 
   -- ---- its first page stops it
 
-  module _ (rest : List ℕ) (b : Place Seat Frames Cabinet) where
+  module _ (rest : List ℕ) (b : Moment Seat Frames Cabinet) where
     first_reads : (limit : ℕ) → address < limit → reads_below present p kind limit rest ≡ [] → reads_below present p kind limit (address ∷ rest) ≡ reads_at address
     first_reads limit below none =
         ap₂ (λ (z : Bool) (ms : List PageMove). (if z then reads_at address else []) ++ ms) (lt-ltb address limit below) none ∙ append-nil (reads_at address)
@@ -174,7 +175,7 @@ module _ {Seat Frames Cabinet : Type 0} (l : StoreModel Seat Frames Cabinet)
 
   -- ---- it copies a first run
 
-  module _ (here : ℕ) (some : 0 < here) (w : Shortage) (d : Place Seat Frames Cabinet) (j : Progress) (bytes : List ℕ) (long : length bytes ≡ here) (ran : Ran l goes comes start w (initial_progress p) [] 0 [] kind address d j) where
+  module _ (here : ℕ) (some : 0 < here) (w : Shortage) (d : Moment Seat Frames Cabinet) (j : Progress) (bytes : List ℕ) (long : length bytes ≡ here) (ran : Ran l goes comes start w (initial_progress p) [] 0 [] kind address d j) where
     pub one_whole : model nothing ≡ so_far j bytes None → Whole (address ∷ []) d bytes
     one_whole is = record {
       progress = j;
@@ -204,7 +205,7 @@ module _ {Seat Frames Cabinet : Type 0} (l : StoreModel Seat Frames Cabinet)
       only_first : reads_below present p kind (address + here) (address ∷ next ∷ []) ≡ [] ++ reads_at address
       only_first = first_reads (next ∷ []) d (address + here) (omega (arith, some)) (ap (λ (z : Bool). (if z then reads_at next else []) ++ []) (le-ltb next (address + here) (omega arith)))
 
-      pub next_left : (b : Place Seat Frames Cabinet) (x : Refusal) → here < n → front here ≡ so_far j bytes None → Reaches l d b kind next (Err (Unpromised x)) → Left (address ∷ next ∷ []) b here x
+      pub next_left : (b : Moment Seat Frames Cabinet) (x : Refusal) → here < n → front here ≡ so_far j bytes None → Reaches l d b kind next (Err (Unpromised x)) → Left (address ∷ next ∷ []) b here x
       next_left b x less is e =
           let un = e.unpromised x refl in
           record {
@@ -219,7 +220,7 @@ module _ {Seat Frames Cabinet : Type 0} (l : StoreModel Seat Frames Cabinet)
             told = (d.files, un.0, subst (λ (ms : List PageMove). l.becomes start.files ms d.files) (sym only_first) ran.under.moves, un.1, un.2);
           }
 
-      pub both_whole : (c : Place Seat Frames Cabinet) (i : Progress) (all : List ℕ) → here < length all → Ran l goes comes start w j ([] ++ reads_at address) (0 + resident_need (is_shared_by ran.count) p kind (page_of address)) ([] ++ option_to_list ran.count) kind next c i
+      pub both_whole : (c : Moment Seat Frames Cabinet) (i : Progress) (all : List ℕ) → here < length all → Ran l goes comes start w j ([] ++ reads_at address) (0 + resident_need (is_shared_by ran.count) p kind (page_of address)) ([] ++ option_to_list ran.count) kind next c i
           → model nothing ≡ so_far i all None → Whole (address ∷ next ∷ []) c all
       both_whole c i all more last is = record {
         progress = i;
@@ -228,7 +229,7 @@ module _ {Seat Frames Cabinet : Type 0} (l : StoreModel Seat Frames Cabinet)
         moves = subst (λ (ms : List PageMove). l.becomes start.files ms c.files) (sym (both_reads (address + length all + 1) (omega (arith, more)))) last.under.moves;
       }
 
-      module _ (r : Rule) (at : w ≡ at_stop r next) (b : Place Seat Frames Cabinet) (e : Reaches l d b kind next (Err (Denied r))) (halts : reached_in (call_environment present w) kind j next ≡ Err r → model w ≡ so_far j bytes (Some r)) where
+      module _ (r : Rule) (at : w ≡ at_stop r next) (b : Moment Seat Frames Cabinet) (e : Reaches l d b kind next (Err (Denied r))) (halts : reached_in (call_environment present w) kind j next ≡ Err r → model w ≡ so_far j bytes (Some r)) where
         same_next : address + length bytes ≡ next
         same_next = omega (arith, long)
 

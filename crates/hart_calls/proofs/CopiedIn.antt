@@ -5,6 +5,7 @@ use Rattle.std.specs.Prelude.{if◌then◌else◌}
 use Rattle.std.proofs.lemmas.Bool.{le-ltb}
 use Rattle.std.proofs.lemmas.List.{length-append}
 use Rattle.address_space.specs.Agreement.{IsSpace}
+use Rattle.fault_rules.specs.PageService.{body_at, Moment, StoreModel}
 use Rattle.fault_rules.specs.Serves.{served_moves}
 use Rattle.hart_calls.specs.CallResults.{at_stop}
 use Rattle.hart_calls.specs.CallOutcomes.{reads_below}
@@ -24,7 +25,7 @@ use Rattle.sv39_entry.specs.Address.{page_of}
 use Rattle.sv39_entry.specs.declared.access.Access.TheVariants.{Load}
 use Rattle.sv39_entry.specs.declared.rule.Rule.{Rule}
 use Rattle.table_walk.specs.Tables.{Tables}
-use Rattle.user_copy.specs.ReachedPage.{body_at, Place, Reaches, StoreModel}
+use Rattle.user_copy.specs.ReachedPage.{Reaches}
 use Rattle.user_copy.specs.Runs.{CopiesIn, IsRead, near, runs, some_run}
 use Rattle.user_copy.specs.FirstPageBytes.{is_near}
 use Rattle.user_copy.specs.declared.short.Stop.{Stop}
@@ -32,7 +33,7 @@ use Rattle.user_copy.specs.declared.short.Stop.TheVariants.{Denied, Unpromised}
 
 module _ {Seat Frames Cabinet : Type 0} (l : StoreModel Seat Frames Cabinet)
     (goes : (x y z : Cabinet) (ms ns : List PageMove) → l.becomes x ms y → l.becomes y ns z → l.becomes x (ms ++ ns) z) (comes : (x y : Cabinet) (ms : List PageMove) → l.becomes x ms y → l.files y ≡ files_after (l.files x) ms)
-    (start : Place Seat Frames Cabinet) (p : Process) (tables : Tables) (space : IsSpace (body_at l start) tables p) (stays : l.becomes start.files [] start.files) (address n : ℕ) where
+    (start : Moment Seat Frames Cabinet) (p : Process) (tables : Tables) (space : IsSpace (body_at l start) tables p) (stays : l.becomes start.files [] start.files) (address n : ℕ) where
   abbrev present : List File
   present = l.files start.files
 
@@ -42,14 +43,14 @@ module _ {Seat Frames Cabinet : Type 0} (l : StoreModel Seat Frames Cabinet)
   abbrev pub front_in : ℕ → Copied
   front_in done = copied_in (call_environment present nothing) (initial_progress p) address done
 
-  abbrev pub EndsIn : List ℕ → Place Seat Frames Cabinet → List ℕ → Option Stop → Type 0
+  abbrev pub EndsIn : List ℕ → Moment Seat Frames Cabinet → List ℕ → Option Stop → Type 0
   EndsIn starts c bytes None = Whole l goes comes start p tables space stays Load address n model_in front_in starts c bytes
   EndsIn starts c bytes (Some (Denied r)) = Short l goes comes start p tables space stays Load address n model_in front_in starts c bytes r
   EndsIn starts c bytes (Some (Unpromised x)) = Left l goes comes start p tables space stays Load address n model_in front_in starts c (length bytes) x
 
-  told : (starts : List ℕ) (b c : Place Seat Frames Cabinet) (bs bytes : List ℕ) (s stop : Option Stop) → c ≡ b → bytes ≡ bs → stop ≡ s → EndsIn starts b bs s → EndsIn starts c bytes stop
+  told : (starts : List ℕ) (b c : Moment Seat Frames Cabinet) (bs bytes : List ℕ) (s stop : Option Stop) → c ≡ b → bytes ≡ bs → stop ≡ s → EndsIn starts b bs s → EndsIn starts c bytes stop
   told starts b c bs bytes s stop at same is ends =
-      subst (λ (x : Place Seat Frames Cabinet). EndsIn starts x bytes stop) (sym at) (subst (λ (xs : List ℕ). EndsIn starts b xs stop) (sym same) (subst (λ (o : Option Stop). EndsIn starts b bs o) (sym is) ends))
+      subst (λ (x : Moment Seat Frames Cabinet). EndsIn starts x bytes stop) (sym at) (subst (λ (xs : List ℕ). EndsIn starts b xs stop) (sym same) (subst (λ (o : Option Stop). EndsIn starts b bs o) (sym is) ends))
 
   front_is : (h : ℕ) → front_in h ≡ more_in (call_environment present nothing) (copy_begun (initial_progress p)) (numbers_from address h)
   unfolding copied_in
@@ -89,7 +90,7 @@ module _ {Seat Frames Cabinet : Type 0} (l : StoreModel Seat Frames Cabinet)
 
     -- it comes to the first page, and goes on
 
-    module _ (b d : Place Seat Frames Cabinet) (got : List ℕ) (e : Reaches l start b Load address (Ok tt)) (read : IsRead l b d address (suc h) got) where
+    module _ (b d : Moment Seat Frames Cabinet) (got : List ℕ) (e : Reaches l start b Load address (Ok tt)) (read : IsRead l b d address (suc h) got) where
       under_way : (w : Shortage) → Under l goes comes start w start (initial_progress p) [] 0 []
       under_way w = begun_under l goes comes start p tables space stays Load address n model_in front_in w
 
@@ -100,7 +101,7 @@ module _ {Seat Frames Cabinet : Type 0} (l : StoreModel Seat Frames Cabinet)
         goes_on : model_in w ≡ more_in (call_environment present w) (so_far first.progress got None) (numbers_from next m)
         goes_on = splits w (suc h) m split.whole ∙ ap (λ (c : Copied). more_in (call_environment present w) c (numbers_from next m)) first.is
 
-      second : (m : ℕ) → Split (suc h) m → (c : Place Seat Frames Cabinet) (bytes : List ℕ) (stop : Option Stop) → CopiesIn l (some_run next m) d c ([] ++ got) bytes stop → EndsIn (starts_in (suc h) m) c bytes stop
+      second : (m : ℕ) → Split (suc h) m → (c : Moment Seat Frames Cabinet) (bytes : List ℕ) (stop : Option Stop) → CopiesIn l (some_run next m) d c ([] ++ got) bytes stop → EndsIn (starts_in (suc h) m) c bytes stop
       second zero split c bytes stop (at, same, is) =
           let f = first zero split nothing refl in
           told _ d c got bytes None stop at same is
@@ -132,7 +133,7 @@ module _ {Seat Frames Cabinet : Type 0} (l : StoreModel Seat Frames Cabinet)
           (both_whole l goes comes start p tables space stays Load address n model_in front_in (suc h) (omega arith) nothing d one.progress got one.long one.ran end y two.progress (got ++ more) (omega (arith, long, first_long, next_long)) two.ran
           (goes_on (suc m) split nothing refl ∙ two.is))
 
-    ends : (m : ℕ) → Split (suc h) m → (c : Place Seat Frames Cabinet) (bytes : List ℕ) (stop : Option Stop) → CopiesIn l ((address, suc h) ∷ some_run next m) start c [] bytes stop → EndsIn (starts_in (suc h) m) c bytes stop
+    ends : (m : ℕ) → Split (suc h) m → (c : Moment Seat Frames Cabinet) (bytes : List ℕ) (stop : Option Stop) → CopiesIn l ((address, suc h) ∷ some_run next m) start c [] bytes stop → EndsIn (starts_in (suc h) m) c bytes stop
     ends m split c bytes stop (b, Err (Denied r), e, (at, same, is)) =
         told _ b c [] bytes (Some (Denied r)) stop at same is
         (first_short l goes comes start p tables space stays Load address n model_in front_in _ b r (later_none (address + 0 + 1) m (omega arith)) e (first_halts m split r (at_stop r (address + 0))))
@@ -142,13 +143,13 @@ module _ {Seat Frames Cabinet : Type 0} (l : StoreModel Seat Frames Cabinet)
         (first_left l goes comes start p tables space stays Load address n model_in front_in _ b x (all_none m) (omega (arith, whole)) (front_is 0) e)
     ends m split c bytes stop (b, Ok tt, e, (d, got, read, rest)) = second b d got e read m split c bytes stop rest
 
-  by_split : (h m : ℕ) → Split h m → (c : Place Seat Frames Cabinet) (bytes : List ℕ) (stop : Option Stop) → CopiesIn l (some_run address h ++ some_run (address + h) m) start c [] bytes stop → EndsIn (starts_in h m) c bytes stop
+  by_split : (h m : ℕ) → Split h m → (c : Moment Seat Frames Cabinet) (bytes : List ℕ) (stop : Option Stop) → CopiesIn l (some_run address h ++ some_run (address + h) m) start c [] bytes stop → EndsIn (starts_in h m) c bytes stop
   by_split zero zero split c bytes stop (at, same, is) =
       told _ start c [] bytes None stop at same is (none_whole l goes comes start p tables space stays Load address n model_in front_in (splits nothing 0 0 split.whole))
   by_split zero (suc m) split c bytes stop copies = let whole = split.whole in absurd (let none = split.some (omega (arith, whole)) in omega (arith, none))
   by_split (suc h) m split c bytes stop copies = ends h m split c bytes stop copies
 
-  pub ends_in : n ≤ 256 → (c : Place Seat Frames Cabinet) (bytes : List ℕ) (stop : Option Stop) → CopiesIn l (runs address n) start c [] bytes stop → EndsIn (map (λ (r : ℕ × ℕ). r.0) (runs address n)) c bytes stop
+  pub ends_in : n ≤ 256 → (c : Moment Seat Frames Cabinet) (bytes : List ℕ) (stop : Option Stop) → CopiesIn l (runs address n) start c [] bytes stop → EndsIn (map (λ (r : ℕ × ℕ). r.0) (runs address n)) c bytes stop
   ends_in small c bytes stop copies =
       let is = is_near address n in
       let few = is.few in

@@ -5,6 +5,7 @@ use Rattle.std.specs.Prelude.{if◌then◌else◌, zip}
 use Rattle.std.proofs.lemmas.Bool.{le-ltb}
 use Rattle.std.proofs.lemmas.List.{length-append, length-drop, length-take-le, take-append-drop}
 use Rattle.address_space.specs.Agreement.{IsSpace}
+use Rattle.fault_rules.specs.PageService.{body_at, Moment, StoreModel}
 use Rattle.fault_rules.specs.Serves.{served_moves}
 use Rattle.hart_calls.specs.CallResults.{at_stop}
 use Rattle.hart_calls.specs.CallOutcomes.{reads_below}
@@ -24,7 +25,7 @@ use Rattle.sv39_entry.specs.Address.{page_of}
 use Rattle.sv39_entry.specs.declared.access.Access.TheVariants.{Store}
 use Rattle.sv39_entry.specs.declared.rule.Rule.{Rule}
 use Rattle.table_walk.specs.Tables.{Tables}
-use Rattle.user_copy.specs.ReachedPage.{body_at, Place, Reaches, StoreModel}
+use Rattle.user_copy.specs.ReachedPage.{Reaches}
 use Rattle.user_copy.specs.Runs.{CopiesOut, near, Puts, runs_of, some_bytes}
 use Rattle.user_copy.specs.FirstPageBytes.{is_near}
 use Rattle.user_copy.specs.declared.short.Stop.{Stop}
@@ -32,7 +33,7 @@ use Rattle.user_copy.specs.declared.short.Stop.TheVariants.{Denied, Unpromised}
 
 module _ {Seat Frames Cabinet : Type 0} (l : StoreModel Seat Frames Cabinet)
     (goes : (x y z : Cabinet) (ms ns : List PageMove) → l.becomes x ms y → l.becomes y ns z → l.becomes x (ms ++ ns) z) (comes : (x y : Cabinet) (ms : List PageMove) → l.becomes x ms y → l.files y ≡ files_after (l.files x) ms)
-    (start : Place Seat Frames Cabinet) (p : Process) (tables : Tables) (space : IsSpace (body_at l start) tables p) (stays : l.becomes start.files [] start.files) (address : ℕ) (given : List ℕ) where
+    (start : Moment Seat Frames Cabinet) (p : Process) (tables : Tables) (space : IsSpace (body_at l start) tables p) (stays : l.becomes start.files [] start.files) (address : ℕ) (given : List ℕ) where
   abbrev present : List File
   present = l.files start.files
 
@@ -48,14 +49,14 @@ module _ {Seat Frames Cabinet : Type 0} (l : StoreModel Seat Frames Cabinet)
   abbrev Known : (List ℕ → Type 0) → ℕ → Type 0
   Known End count = (sent : List ℕ) × (length sent ≡ count) × End sent
 
-  abbrev pub EndsOut : List ℕ → Place Seat Frames Cabinet → ℕ → Option Stop → Type 0
+  abbrev pub EndsOut : List ℕ → Moment Seat Frames Cabinet → ℕ → Option Stop → Type 0
   EndsOut starts c count None = Known (λ sent. Whole l goes comes start p tables space stays Store address n model_out front_out starts c sent) count
   EndsOut starts c count (Some (Denied r)) = Known (λ sent. Short l goes comes start p tables space stays Store address n model_out front_out starts c sent r) count
   EndsOut starts c count (Some (Unpromised x)) = Left l goes comes start p tables space stays Store address n model_out front_out starts c count x
 
-  told : (starts : List ℕ) (b c : Place Seat Frames Cabinet) (k count : ℕ) (s stop : Option Stop) → c ≡ b → count ≡ k → stop ≡ s → EndsOut starts b k s → EndsOut starts c count stop
+  told : (starts : List ℕ) (b c : Moment Seat Frames Cabinet) (k count : ℕ) (s stop : Option Stop) → c ≡ b → count ≡ k → stop ≡ s → EndsOut starts b k s → EndsOut starts c count stop
   told starts b c k count s stop at same is ends =
-      subst (λ (x : Place Seat Frames Cabinet). EndsOut starts x count stop) (sym at) (subst (λ (i : ℕ). EndsOut starts b i stop) (sym same) (subst (λ (o : Option Stop). EndsOut starts b k o) (sym is) ends))
+      subst (λ (x : Moment Seat Frames Cabinet). EndsOut starts x count stop) (sym at) (subst (λ (i : ℕ). EndsOut starts b i stop) (sym same) (subst (λ (o : Option Stop). EndsOut starts b k o) (sym is) ends))
 
   front_of : (front : List ℕ) → copied_out (call_environment present nothing) (initial_progress p) address front ≡ more_out (call_environment present nothing) (copy_begun (initial_progress p)) (zip (numbers_from address (length front)) front)
   unfolding copied_out
@@ -114,7 +115,7 @@ module _ {Seat Frames Cabinet : Type 0} (l : StoreModel Seat Frames Cabinet)
 
       -- it comes to the first page, and goes on
 
-      module _ (b d : Place Seat Frames Cabinet) (e : Reaches l start b Store address (Ok tt)) (put : Puts l b d address front) where
+      module _ (b d : Moment Seat Frames Cabinet) (e : Reaches l start b Store address (Ok tt)) (put : Puts l b d address front) where
         under_way : (w : Shortage) → Under l goes comes start w start (initial_progress p) [] 0 []
         under_way w = begun_under l goes comes start p tables space stays Store address n model_out front_out w
 
@@ -128,7 +129,7 @@ module _ {Seat Frames Cabinet : Type 0} (l : StoreModel Seat Frames Cabinet)
           goes_on : model_out w ≡ more_out (call_environment present w) (so_far first.progress front None) (zip (numbers_from next (length back)) back)
           goes_on = splits w front back split ∙ ap (λ (c : Copied). more_out (call_environment present w) c (zip (numbers_from next (length back)) back)) first.is
 
-        second : (back : List ℕ) → Split h front back → (c : Place Seat Frames Cabinet) (count : ℕ) (stop : Option Stop) → CopiesOut l (some_bytes next back) d c (0 + length front) count stop → EndsOut (starts_out front back) c count stop
+        second : (back : List ℕ) → Split h front back → (c : Moment Seat Frames Cabinet) (count : ℕ) (stop : Option Stop) → CopiesOut l (some_bytes next back) d c (0 + length front) count stop → EndsOut (starts_out front back) c count stop
         second [] split c count stop (at, same, is) =
             let one = first [] split nothing refl in
             told _ d c (0 + length front) count None stop at same is
@@ -167,7 +168,7 @@ module _ {Seat Frames Cabinet : Type 0} (l : StoreModel Seat Frames Cabinet)
                   (omega (arith, both, long)) two.ran (goes_on (x ∷ back) split nothing refl ∙ two.is),
             )
 
-      ends : (back : List ℕ) → Split h front back → (c : Place Seat Frames Cabinet) (count : ℕ) (stop : Option Stop) → CopiesOut l ((address, front) ∷ some_bytes next back) start c 0 count stop → EndsOut (starts_out front back) c count stop
+      ends : (back : List ℕ) → Split h front back → (c : Moment Seat Frames Cabinet) (count : ℕ) (stop : Option Stop) → CopiesOut l ((address, front) ∷ some_bytes next back) start c 0 count stop → EndsOut (starts_out front back) c count stop
       ends back split c count stop (b, Err (Denied r), e, (at, same, is)) =
           let some = some_here back split in
           told _ b c 0 count (Some (Denied r)) stop at same is
@@ -179,7 +180,7 @@ module _ {Seat Frames Cabinet : Type 0} (l : StoreModel Seat Frames Cabinet)
           (first_left l goes comes start p tables space stays Store address n model_out front_out _ b x (all_none back) (omega (arith, whole, some)) (front_of []) e)
       ends back split c count stop (b, Ok tt, e, (d, put, rest)) = second b d e put back split c count stop rest
 
-    by_split : (front back : List ℕ) → Split h front back → (c : Place Seat Frames Cabinet) (count : ℕ) (stop : Option Stop) → CopiesOut l (some_bytes address front ++ some_bytes next back) start c 0 count stop → EndsOut (starts_out front back) c count stop
+    by_split : (front back : List ℕ) → Split h front back → (c : Moment Seat Frames Cabinet) (count : ℕ) (stop : Option Stop) → CopiesOut l (some_bytes address front ++ some_bytes next back) start c 0 count stop → EndsOut (starts_out front back) c count stop
     by_split [] [] split c count stop (at, same, is) =
         told _ start c 0 count None stop at same is ([], refl, none_whole l goes comes start p tables space stays Store address n model_out front_out (splits nothing [] [] split))
     by_split [] (x ∷ back) split c count stop copies =
@@ -188,7 +189,7 @@ module _ {Seat Frames Cabinet : Type 0} (l : StoreModel Seat Frames Cabinet)
         absurd (let none = split.some (omega (arith, whole)) in omega (arith, none, long))
     by_split (f ∷ fs) back split c count stop copies = ends f fs back split c count stop copies
 
-  pub ends_out : length given ≤ 256 → (c : Place Seat Frames Cabinet) (count : ℕ) (stop : Option Stop) → CopiesOut l (runs_of address given) start c 0 count stop → EndsOut (map (λ (r : ℕ × List ℕ). r.0) (runs_of address given)) c count stop
+  pub ends_out : length given ≤ 256 → (c : Moment Seat Frames Cabinet) (count : ℕ) (stop : Option Stop) → CopiesOut l (runs_of address given) start c 0 count stop → EndsOut (map (λ (r : ℕ × List ℕ). r.0) (runs_of address given)) c count stop
   ends_out small c count stop copies =
       let is = is_near address n in
       let few = is.few in

@@ -15,7 +15,7 @@ use Rattle.hart_calls.specs.declared.call_result.CallResult.TheVariants as call_
 use Rattle.hart_calls.proofs.Accessed.{most}
 use Rattle.hart_calls.proofs.CopiedEnds.{stop_cases}
 use Rattle.process_model.specs.Environment.{need_at, Progress}
-use Rattle.process_model.specs.Copies.{Copied, copied_in, copied_out, in_reply, longest_copy, out_reply}
+use Rattle.process_model.specs.Copies.{Copied, copied_in, copied_out, in_reply, out_reply}
 use Rattle.process_model.specs.CopyRuns.{so_far}
 use Rattle.process_model.specs.Files.{File}
 use Rattle.process_model.specs.Frames.{resident_need}
@@ -23,9 +23,10 @@ use Rattle.process_model.specs.PageMoves.{PageMove}
 use Rattle.process_model.specs.Process.{Process, regions}
 use Rattle.process_model.specs.Regions.{copy_rule}
 use Rattle.process_model.specs.declared.call.Call.TheVariants as call
-use Rattle.process_model.specs.declared.step.Refusal.{Refusal}
-use Rattle.process_model.specs.declared.step.Refusal.TheVariants as refusal
-use Rattle.process_model.specs.declared.step.Reply.TheVariants as reply
+use Rattle.process_model.specs.declared.reply.Refusal.{Refusal}
+use Rattle.process_model.specs.declared.reply.Refusal.TheVariants as refusal
+use Rattle.process_model.specs.declared.reply.ScalarReply.TheVariants as scalar
+use Rattle.process_model.specs.declared.reply.Reply.TheVariants as reply
 use Rattle.sv39_entry.specs.Address.{page_of}
 use Rattle.sv39_entry.specs.declared.access.Access.{Access}
 use Rattle.sv39_entry.specs.declared.access.Access.TheVariants.{Load, Store}
@@ -33,6 +34,7 @@ use Rattle.sv39_entry.specs.declared.rule.Rule.{Rule}
 use Rattle.sv39_entry.specs.declared.rule.Rule.TheVariants as rule
 use Rattle.table_walk.specs.Tables.{Tables}
 use Rattle.user_copy.specs.Runs.{runs, runs_of}
+use Rattle.process_model.specs.declared.limits.TheConstants.{LONGEST_COPY}
 
 -- frames may be needed where fewer than are needed were there
 may_take : (files : List File) (p : Process) (kind : Access) (address : ℕ) (shared : Bool) (n : ℕ) → n < resident_need shared p kind (page_of address) → 0 < need_at (call_environment files nothing) kind (page_of address) p
@@ -48,9 +50,9 @@ module _ (x y : Body) (files : List File) (Became : List PageMove → Type 0) (R
     moves_in limit = reads_below files p Load limit (map (λ (r : ℕ × ℕ). r.0) (runs address n))
 
     -- too long
-    pub too_long_in : longest_copy < n → ((u : Tables) × IsSpace y u p) → Became [] → IsCallResult x y files Became Refused Promised p (call.CopyIn address n) (call_result.Answered (reply.Refused refusal.BadArgument))
+    pub too_long_in : LONGEST_COPY < n → ((u : Tables) × IsSpace y u p) → Became [] → IsCallResult x y files Became Refused Promised p (call.CopyIn address n) (call_result.Answered (reply.Scalar (scalar.Refused refusal.BadArgument)))
     too_long_in long after moves =
-        let not = lt-leb n longest_copy long in
+        let not = lt-leb n LONGEST_COPY long in
         let tells = ap (if_short files p (sent_by files nothing p address n)) not in (
           tt,
           record {
@@ -63,12 +65,12 @@ module _ (x y : Body) (files : List File) (Became : List PageMove → Type 0) (R
           },
         )
 
-    module _ (small : n ≤ longest_copy) where
-      short_in : (t : CallOutcome) → if_short files p t (nat_le n longest_copy) ≡ t
-      short_in t = ap (if_short files p t) (le-leb n longest_copy small)
+    module _ (small : n ≤ LONGEST_COPY) where
+      short_in : (t : CallOutcome) → if_short files p t (nat_le n LONGEST_COPY) ≡ t
+      short_in t = ap (if_short files p t) (le-leb n LONGEST_COPY small)
 
-      reads_in : (w : Shortage) → if_short_reads (in_reads files w p address n) (nat_le n longest_copy) ++ [] ≡ in_reads files w p address n
-      reads_in w = append-nil _ ∙ ap (if_short_reads (in_reads files w p address n)) (le-leb n longest_copy small)
+      reads_in : (w : Shortage) → if_short_reads (in_reads files w p address n) (nat_le n LONGEST_COPY) ++ [] ≡ in_reads files w p address n
+      reads_in w = append-nil _ ∙ ap (if_short_reads (in_reads files w p address n)) (le-leb n LONGEST_COPY small)
 
       abbrev model_in : Shortage → Copied
       model_in w = copied_in (call_environment files w) (initial_progress p) address n
@@ -117,7 +119,7 @@ module _ (x y : Body) (files : List File) (Became : List PageMove → Type 0) (R
       ]
 
       pub left_in : (g : Progress) (bytes : List ℕ) (done : ℕ) (r : Refusal) → copied_in (call_environment files nothing) (initial_progress p) address done ≡ so_far g bytes None → ((u : Tables) × IsSpace y u g.process) → Became (moves_in (address + done))
-          → done < n → IsUnpromised r → 0 < length (served_moves files g.process (page_of (address + done)) (copy_rule g.process.scheme (regions g.process) Load (address + done))) → Refused (moves_in (address + done)) 1 r → IsCallResult x y files Became Refused Promised p (call.CopyIn address n) (call_result.Stopped r done)
+          → done < n → IsUnpromised r → 0 < length (served_moves files g.process (page_of (address + done)) (copy_rule g.process.scheme (regions g.process) Load (address + done))) → Refused (moves_in (address + done)) 1 r → IsCallResult x y files Became Refused Promised p (call.CopyIn address n) (call_result.Unpromised r done)
       left_in g bytes done r is after moves less un asks told =
           let tells = short_in (sent_by files (refused done r) p address n) ∙ ap (λ (c : Copied). refused_call files c.progress.process r) is in
           record {
@@ -126,7 +128,7 @@ module _ (x y : Body) (files : List File) (Became : List PageMove → Type 0) (R
             space = (after.0, subst (λ (q : Process). IsSpace y after.0 q) (sym (ap (λ (z : CallOutcome). z.process) tells)) after.1);
             moves = subst Became (sym (reads_in (refused done r))) moves;
             lack = tt;
-            request = subst (λ (ms : List PageMove). Refused ms 1 r) (sym (ap (if_short_reads (in_reads files (refused done r) p address n)) (le-leb n longest_copy small))) told;
+            request = subst (λ (ms : List PageMove). Refused ms 1 r) (sym (ap (if_short_reads (in_reads files (refused done r) p address n)) (le-leb n LONGEST_COPY small))) told;
           }
 
   -- to the process
@@ -139,9 +141,9 @@ module _ (x y : Body) (files : List File) (Became : List PageMove → Type 0) (R
     moves_out limit = reads_below files p Store limit (map (λ (r : ℕ × List ℕ). r.0) (runs_of address given.now))
 
     -- too long
-    pub too_long_out : longest_copy < n → ((u : Tables) × IsSpace y u p) → Became [] → IsCallResult x y files Became Refused Promised p (call.CopyOut address given) (call_result.Answered (reply.Refused refusal.BadArgument))
+    pub too_long_out : LONGEST_COPY < n → ((u : Tables) × IsSpace y u p) → Became [] → IsCallResult x y files Became Refused Promised p (call.CopyOut address given) (call_result.Answered (reply.Scalar (scalar.Refused refusal.BadArgument)))
     too_long_out long after moves =
-        let not = lt-leb n longest_copy long in
+        let not = lt-leb n LONGEST_COPY long in
         let tells = ap (if_short files p (received_by files nothing p address given.now)) not in (
           tt,
           record {
@@ -154,12 +156,12 @@ module _ (x y : Body) (files : List File) (Became : List PageMove → Type 0) (R
           },
         )
 
-    module _ (small : n ≤ longest_copy) where
-      short_out : (t : CallOutcome) → if_short files p t (nat_le n longest_copy) ≡ t
-      short_out t = ap (if_short files p t) (le-leb n longest_copy small)
+    module _ (small : n ≤ LONGEST_COPY) where
+      short_out : (t : CallOutcome) → if_short files p t (nat_le n LONGEST_COPY) ≡ t
+      short_out t = ap (if_short files p t) (le-leb n LONGEST_COPY small)
 
-      reads_out : (w : Shortage) → if_short_reads (out_reads files w p address given.now) (nat_le n longest_copy) ++ [] ≡ out_reads files w p address given.now
-      reads_out w = append-nil _ ∙ ap (if_short_reads (out_reads files w p address given.now)) (le-leb n longest_copy small)
+      reads_out : (w : Shortage) → if_short_reads (out_reads files w p address given.now) (nat_le n LONGEST_COPY) ++ [] ≡ out_reads files w p address given.now
+      reads_out w = append-nil _ ∙ ap (if_short_reads (out_reads files w p address given.now)) (le-leb n LONGEST_COPY small)
 
       abbrev model_out : Shortage → Copied
       model_out w = copied_out (call_environment files w) (initial_progress p) address given.now
@@ -179,9 +181,9 @@ module _ (x y : Body) (files : List File) (Became : List PageMove → Type 0) (R
           }
 
       pub whole_out : (g : Progress) (bytes : List ℕ) (count : ℕ) → length bytes ≡ count → model_out nothing ≡ so_far g bytes None → ((u : Tables) × IsSpace y u g.process) → Became (moves_out (address + length bytes + 1))
-          → IsCallResult x y files Became Refused Promised p (call.CopyOut address given) (call_result.Answered (reply.CopiedOut count))
+          → IsCallResult x y files Became Refused Promised p (call.CopyOut address given) (call_result.Answered (reply.Scalar (scalar.CopiedOut count)))
       whole_out g bytes count long is after moves =
-          subst (λ (k : ℕ). IsCallResult x y files Became Refused Promised p (call.CopyOut address given) (call_result.Answered (reply.CopiedOut k))) long (tt, comes_out nothing g bytes None is refl refl tt tt tt after moves)
+          subst (λ (k : ℕ). IsCallResult x y files Became Refused Promised p (call.CopyOut address given) (call_result.Answered (reply.Scalar (scalar.CopiedOut k)))) long (tt, comes_out nothing g bytes None is refl refl tt tt tt after moves)
 
       dry_out : (g : Progress) (bytes : List ℕ) → model_out (frames_at (page_of (address + length bytes))) ≡ so_far g bytes (Some rule.NoFrame) → ((u : Tables) × IsSpace y u g.process) → Became (moves_out (address + length bytes + 1))
           → CopyDry x.view y.view p g.process Store (page_of address) (page_of (address + length bytes)) → IsCallResult x y files Became Refused Promised p (call.CopyOut address given) (call_result.Answered (out_reply bytes (Some rule.NoFrame)))
@@ -209,12 +211,12 @@ module _ (x y : Body) (files : List File) (Became : List PageMove → Type 0) (R
       ]
 
       pub stopped_out : (g : Progress) (bytes : List ℕ) (count : ℕ) (r : Rule) → length bytes ≡ count → model_out (at_stop r (address + length bytes)) ≡ so_far g bytes (Some r) → ((u : Tables) × IsSpace y u g.process) → Became (moves_out (address + length bytes + 1))
-          → (r ≡ rule.NoFrame → CopyDry x.view y.view p g.process Store (page_of address) (page_of (address + length bytes))) → IsCallResult x y files Became Refused Promised p (call.CopyOut address given) (call_result.Answered (reply.ShortOut r count))
+          → (r ≡ rule.NoFrame → CopyDry x.view y.view p g.process Store (page_of address) (page_of (address + length bytes))) → IsCallResult x y files Became Refused Promised p (call.CopyOut address given) (call_result.Answered (reply.Scalar (scalar.ShortOut r count)))
       stopped_out g bytes count r long is after moves dry =
-          subst (λ (k : ℕ). IsCallResult x y files Became Refused Promised p (call.CopyOut address given) (call_result.Answered (reply.ShortOut r k))) long (halted_out g bytes r is after moves dry)
+          subst (λ (k : ℕ). IsCallResult x y files Became Refused Promised p (call.CopyOut address given) (call_result.Answered (reply.Scalar (scalar.ShortOut r k)))) long (halted_out g bytes r is after moves dry)
 
       pub left_out : (g : Progress) (bytes : List ℕ) (done : ℕ) (r : Refusal) → copied_out (call_environment files nothing) (initial_progress p) address (take done given.now) ≡ so_far g bytes None → ((u : Tables) × IsSpace y u g.process) → Became (moves_out (address + done))
-          → done < n → IsUnpromised r → 0 < length (served_moves files g.process (page_of (address + done)) (copy_rule g.process.scheme (regions g.process) Store (address + done))) → Refused (moves_out (address + done)) 1 r → IsCallResult x y files Became Refused Promised p (call.CopyOut address given) (call_result.Stopped r done)
+          → done < n → IsUnpromised r → 0 < length (served_moves files g.process (page_of (address + done)) (copy_rule g.process.scheme (regions g.process) Store (address + done))) → Refused (moves_out (address + done)) 1 r → IsCallResult x y files Became Refused Promised p (call.CopyOut address given) (call_result.Unpromised r done)
       left_out g bytes done r is after moves less un asks told =
           let tells = short_out (received_by files (refused done r) p address given.now) ∙ ap (λ (c : Copied). refused_call files c.progress.process r) is in
           record {
@@ -223,5 +225,5 @@ module _ (x y : Body) (files : List File) (Became : List PageMove → Type 0) (R
             space = (after.0, subst (λ (q : Process). IsSpace y after.0 q) (sym (ap (λ (z : CallOutcome). z.process) tells)) after.1);
             moves = subst Became (sym (reads_out (refused done r))) moves;
             lack = tt;
-            request = subst (λ (ms : List PageMove). Refused ms 1 r) (sym (ap (if_short_reads (out_reads files (refused done r) p address given.now)) (le-leb n longest_copy small))) told;
+            request = subst (λ (ms : List PageMove). Refused ms 1 r) (sym (ap (if_short_reads (out_reads files (refused done r) p address given.now)) (le-leb n LONGEST_COPY small))) told;
           }

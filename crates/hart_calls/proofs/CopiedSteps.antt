@@ -7,6 +7,7 @@ use Rattle.std.proofs.lemmas.List.{append-nil, length-drop, length-take-le}
 use Rattle.address_space.specs.Steps.{CanWrite}
 use Rattle.fault_rules.specs.Allowed.{can_reside}
 use Rattle.fault_rules.specs.MadeResident.{is_counted, is_shared_by}
+use Rattle.fault_rules.specs.PageService.{body_at, Moment, StoreModel}
 use Rattle.fault_rules.specs.Serves.{served_moves}
 use Rattle.frame_store.specs.View.{Tallies, View}
 use Rattle.hart_calls.specs.Shortages.{is_dry_at, Shortage}
@@ -26,14 +27,14 @@ use Rattle.process_model.specs.Residence.{is_resident, is_resident_page, region_
 use Rattle.sv39_entry.specs.Address.{page_of}
 use Rattle.sv39_entry.specs.declared.access.Access.{Access}
 use Rattle.sv39_entry.specs.declared.access.Access.TheVariants.{Load, Store}
-use Rattle.user_copy.specs.ReachedPage.{body_at, Place, Reaches, StoreModel}
+use Rattle.user_copy.specs.ReachedPage.{Reaches}
 use Rattle.user_copy.specs.Runs.{IsRead, Puts}
 
 module _ {Seat Frames Cabinet : Type 0} (l : StoreModel Seat Frames Cabinet)
     (goes : (x y z : Cabinet) (ms ns : List PageMove) → l.becomes x ms y → l.becomes y ns z → l.becomes x (ms ++ ns) z) (comes : (x y : Cabinet) (ms : List PageMove) → l.becomes x ms y → l.files y ≡ files_after (l.files x) ms)
-    (start : Place Seat Frames Cabinet) (w : Shortage) where
+    (start : Moment Seat Frames Cabinet) (w : Shortage) where
   -- the page of the run was come to, and the other pages are as they were
-  pub record Ran (g : Progress) (ms : List PageMove) (met : ℕ) (counts : List ℕ) (kind : Access) (address : ℕ) (d : Place Seat Frames Cabinet) (j : Progress) : Type 0 where
+  pub record Ran (g : Progress) (ms : List PageMove) (met : ℕ) (counts : List ℕ) (kind : Access) (address : ℕ) (d : Moment Seat Frames Cabinet) (j : Progress) : Type 0 where
     pub same_scheme : j.process.scheme ≡ g.process.scheme
     pub same_regions : regions j.process ≡ regions g.process
     pub others : (n : ℕ) → (n ≡ page_of address → ⊥) → get j.process.settled n ≡ get g.process.settled n
@@ -41,7 +42,7 @@ module _ {Seat Frames Cabinet : Type 0} (l : StoreModel Seat Frames Cabinet)
     pub counted : is_some count ≡ is_counted kind (get g.process.settled (page_of address))
     pub under : Under l goes comes start w d j (ms ++ served_moves (l.files start.files) g.process (page_of address) (copy_rule g.process.scheme (regions g.process) kind address)) (met + resident_need (is_shared_by count) g.process kind (page_of address)) (counts ++ option_to_list count)
 
-  module _ (b d : Place Seat Frames Cabinet) (g : Progress) (ms : List PageMove) (met : ℕ) (counts : List ℕ) (u : Under l goes comes start w b g ms met counts) (address : ℕ) where
+  module _ (b d : Moment Seat Frames Cabinet) (g : Progress) (ms : List PageMove) (met : ℕ) (counts : List ℕ) (u : Under l goes comes start w b g ms met counts) (address : ℕ) where
     -- its bytes were read
 
     read_on : (n : ℕ) (got : List ℕ) → IsRead l b d address n got → Under l goes comes start w d g ms met counts
@@ -94,7 +95,7 @@ module _ {Seat Frames Cabinet : Type 0} (l : StoreModel Seat Frames Cabinet)
 
   -- what the model tells of a run that is not stopped
 
-  module _ (a b d : Place Seat Frames Cabinet) (g : Progress) (ms : List PageMove) (met : ℕ) (counts : List ℕ) (u : Under l goes comes start w a g ms met counts) (address : ℕ) (calm : is_dry_at w (page_of address) ≡ false) where
+  module _ (a b d : Moment Seat Frames Cabinet) (g : Progress) (ms : List PageMove) (met : ℕ) (counts : List ℕ) (u : Under l goes comes start w a g ms met counts) (address : ℕ) (calm : is_dry_at w (page_of address) ≡ false) where
     pub record RanIn (n : ℕ) (done got : List ℕ) : Type 0 where
       pub progress : Progress
       pub is : more_in (around l goes comes start w) (so_far g done None) (numbers_from address n) ≡ so_far progress (done ++ got) None

@@ -20,7 +20,7 @@ use Rattle.hart_calls.proofs.Staying.{reads_few}
 use Rattle.hart_calls.specs.Replay.{call_at}
 use Rattle.hart_calls.specs.Track.{next_of, Track}
 use Rattle.hart_calls.specs.TurnResults.{HasFilesAfter, IsFullWithoutShelf}
-use Rattle.hart_calls.specs.TurnCases.{HasMapping, IsCutFor, IsFullByOutcome, IsLastEntry, IsOver, KeepsFilesByOutcome, LacksJournalRoom, most_entries, NeedsFiles}
+use Rattle.hart_calls.specs.TurnCases.{HasMapping, IsCutFor, IsFullByOutcome, IsLastEntry, IsOver, KeepsFilesByOutcome, LacksJournalRoom, NeedsFiles}
 use Rattle.hart_calls.specs.declared.turn.Turn.{Turn}
 use Rattle.hart_calls.specs.declared.turn.Turn.TheVariants as turn
 use Rattle.process_model.specs.PageMoves.{all_moves, PageMove}
@@ -31,8 +31,9 @@ use Rattle.process_model.specs.declared.call.Call.{Call}
 use Rattle.shared_frames.specs.SeatsOfTable.{view_of}
 use Rattle.process_model.specs.declared.call.Outcome.{Outcome}
 use Rattle.process_model.specs.declared.call.Outcome.TheVariants as outcome
-use Rattle.process_model.specs.declared.step.Refusal.{Refusal}
-use Rattle.process_model.specs.declared.step.Refusal.TheVariants as refusal
+use Rattle.process_model.specs.declared.reply.Refusal.{Refusal}
+use Rattle.process_model.specs.declared.reply.Refusal.TheVariants as refusal
+use Rattle.process_model.specs.declared.limits.TheConstants.{MOST_ENTRIES}
 
 -- a space that ends claims no frame
 pub ends_claiming_none : (v w : View) → TakesFrames v w 0 [] → ClaimsNone v w
@@ -56,7 +57,7 @@ cut_full w p calls journal outcome.JournalFull (inl full) = inl full
 cut_full w p calls journal outcome.JournalFull (inr (maps, lacks)) = inr (maps, (w, lacks.0, inl lacks.1))
 
 -- the files refused to promise the page of an access
-pub cut_for : (p : Process) (c : Call) (journal : List JournalEntry) (a : ShelfState) (r : Refusal) (x : PromiseError) → length journal < most_entries → HasMapping p.mappings → IsAccessCall c → 0 < length (reads_of a.files nothing p c) → CanRefuse a 1 x → r ≡ refusal_of x
+pub cut_for : (p : Process) (c : Call) (journal : List JournalEntry) (a : ShelfState) (r : Refusal) (x : PromiseError) → length journal < MOST_ENTRIES → HasMapping p.mappings → IsAccessCall c → 0 < length (reads_of a.files nothing p c) → CanRefuse a 1 x → r ≡ refusal_of x
     → IsCutFor p c journal (cause_of r)
 cut_for p c journal a r x few maps access some could is = subst (λ (z : Refusal). IsCutFor p c journal (cause_of z)) (sym is) (go x could)
   where

@@ -15,7 +15,7 @@ use Rattle.mmap_regions.specs.Runs.{run_if, run_in, run_unless}
 use Rattle.mmap_regions.specs.MunmapEffect.{requested_moves, unmap_moves}
 use Rattle.process_model.specs.Environment.{Progress}
 use Rattle.process_model.specs.Bytes.{is_width, pages_for}
-use Rattle.process_model.specs.Copies.{copied_in, copied_out, in_reply, longest_copy, out_reply}
+use Rattle.process_model.specs.Copies.{copied_in, copied_out, in_reply, out_reply}
 use Rattle.process_model.specs.Files.{File}
 use Rattle.process_model.specs.Heap.{sbrk_result}
 use Rattle.process_model.specs.Images.{image_loads, LoadSegment}
@@ -29,12 +29,14 @@ use Rattle.process_model.specs.Service.{AccessRequest, if_resident, if_settled, 
 use Rattle.process_model.specs.declared.call.Call.{Call}
 use Rattle.process_model.specs.declared.call.Call.TheVariants as call
 use Rattle.process_model.specs.declared.image.BadImage.{BadImage}
-use Rattle.process_model.specs.declared.step.Refusal.{Refusal}
-use Rattle.process_model.specs.declared.step.Reply.TheVariants as reply
+use Rattle.process_model.specs.declared.reply.Refusal.{Refusal}
+use Rattle.process_model.specs.declared.reply.ScalarReply.TheVariants as scalar
+use Rattle.process_model.specs.declared.reply.Reply.TheVariants as reply
 use Rattle.sv39_entry.specs.Address.{page_of}
 use Rattle.sv39_entry.specs.declared.access.Access.{Access}
 use Rattle.sv39_entry.specs.declared.access.Access.TheVariants as access
 use Rattle.sv39_entry.specs.declared.rule.Rule.{Rule}
+use Rattle.process_model.specs.declared.limits.TheConstants.{LONGEST_COPY}
 
 -- what is read changes no file
 
@@ -80,8 +82,8 @@ module _ (files : List File) (p : Process) where
   only_read fs shortage (call.Sbrk delta) = refl
   only_read fs shortage (call.Mmap len protection flags f) = refl
   only_read fs shortage (call.Munmap address len) = refl
-  only_read fs shortage (call.CopyIn address count) = if_reads fs (in_reads files shortage p address count) (nat_le count longest_copy) (all_below fs access.Load (limit_of shortage address (length (copied_in (call_environment files shortage) (initial_progress p) address count).bytes)) (map (λ r. r.0) (runs address count)))
-  only_read fs shortage (call.CopyOut address bytes) = if_reads fs (out_reads files shortage p address bytes.now) (nat_le (length bytes.now) longest_copy) (all_below fs access.Store (limit_of shortage address (length (copied_out (call_environment files shortage) (initial_progress p) address bytes.now).bytes)) (map (λ r. r.0) (runs_of address bytes.now)))
+  only_read fs shortage (call.CopyIn address count) = if_reads fs (in_reads files shortage p address count) (nat_le count LONGEST_COPY) (all_below fs access.Load (limit_of shortage address (length (copied_in (call_environment files shortage) (initial_progress p) address count).bytes)) (map (λ r. r.0) (runs address count)))
+  only_read fs shortage (call.CopyOut address bytes) = if_reads fs (out_reads files shortage p address bytes.now) (nat_le (length bytes.now) LONGEST_COPY) (all_below fs access.Store (limit_of shortage address (length (copied_out (call_environment files shortage) (initial_progress p) address bytes.now).bytes)) (map (λ r. r.0) (runs_of address bytes.now)))
   only_read fs shortage (call.Exit status) = refl
   only_read fs shortage (call.Fork list) = refl
 
@@ -163,27 +165,27 @@ module _ (files : List File) (p : Process) where
   files_told shortage (call.Sbrk delta) stays on = sym (sized_files (sbrk_result p delta))
   files_told shortage (call.Mmap len protection flags f) stays on = sym (mapped_files (mapped files p len protection flags f))
   files_told shortage (call.Munmap address len) stays on = unmapped_done shortage address len (unmapped files p address len) refl
-  files_told shortage (call.CopyIn address count) stays on = none_after shortage (call.CopyIn address count) _ (short_files (sent_by files shortage p address count) (nat_le count longest_copy) (sent_files shortage address count)) refl
-  files_told shortage (call.CopyOut address bytes) stays on = none_after shortage (call.CopyOut address bytes) _ (short_files (received_by files shortage p address bytes.now) (nat_le (length bytes.now) longest_copy) (received_files shortage address bytes.now)) refl
+  files_told shortage (call.CopyIn address count) stays on = none_after shortage (call.CopyIn address count) _ (short_files (sent_by files shortage p address count) (nat_le count LONGEST_COPY) (sent_files shortage address count)) refl
+  files_told shortage (call.CopyOut address bytes) stays on = none_after shortage (call.CopyOut address bytes) _ (short_files (received_by files shortage p address bytes.now) (nat_le (length bytes.now) LONGEST_COPY) (received_files shortage address bytes.now)) refl
   files_told shortage (call.Exit status) stays on = absurd stays
   files_told shortage (call.Fork list) stays on = absurd stays
 
   -- ---- what a process that ends by a rule leaves: only an access ends it so
 
-  never_ends : (kind : Access) (s : Page) (offset width value : ℕ) (r : Rule) → (access_answer kind s offset width value).0 ≡ reply.Ended r → ⊥
+  never_ends : (kind : Access) (s : Page) (offset width value : ℕ) (r : Rule) → (access_answer kind s offset width value).0 ≡ reply.Scalar (scalar.Ended r) → ⊥
   never_ends access.Fetch s offset width value r is = cc
   never_ends access.Load s offset width value r is = cc
   never_ends access.Store s offset width value r is = cc
 
-  resident_ends : (q : Process) (a : AccessRequest) (s : Page) (b : Bool) (r : Rule) → (if_resident q a s b).reply ≡ reply.Ended r → ⊥
+  resident_ends : (q : Process) (a : AccessRequest) (s : Page) (b : Bool) (r : Rule) → (if_resident q a s b).reply ≡ reply.Scalar (scalar.Ended r) → ⊥
   resident_ends q a s true r is = never_ends a.access s (a.address % 4096) a.width a.value r is
   resident_ends q a s false r is = cc
 
-  settled_ends : (q : Process) (a : AccessRequest) (o : Option Page) (r : Rule) → (if_settled q a o).reply ≡ reply.Ended r → ⊥
+  settled_ends : (q : Process) (a : AccessRequest) (o : Option Page) (r : Rule) → (if_settled q a o).reply ≡ reply.Scalar (scalar.Ended r) → ⊥
   settled_ends q a None r is = cc
   settled_ends q a (Some s) r is = resident_ends q a s (can_complete a.access (region_on q (page_of a.address)) s) r is
 
-  denied_ends : (q : Process) (a : AccessRequest) (o : Option Rule) (r : Rule) → (unless_denied q a o).reply ≡ reply.Ended r → ⊥
+  denied_ends : (q : Process) (a : AccessRequest) (o : Option Rule) (r : Rule) → (unless_denied q a o).reply ≡ reply.Scalar (scalar.Ended r) → ⊥
   denied_ends q a (Some x) r is = cc
   denied_ends q a None r is = settled_ends q a (get q.settled (page_of a.address)) r is
 
@@ -193,57 +195,57 @@ module _ (files : List File) (p : Process) where
   abbrev Leaves : CallOutcome → Type 0
   Leaves t = (t.files ≡ all_written_back files p) × (t.process ≡ p)
 
-  served_ended : (a : AccessRequest) (z : Result Progress Rule) (r : Rule) → (served_access files p a z).reply ≡ reply.Ended r → Leaves (served_access files p a z)
+  served_ended : (a : AccessRequest) (z : Result Progress Rule) (r : Rule) → (served_access files p a z).reply ≡ reply.Scalar (scalar.Ended r) → Leaves (served_access files p a z)
   served_ended a (Err x) r is = (refl, refl)
   served_ended a (Ok g) r is = absurd (denied_ends g.process a (first_rule g.process.scheme (regions g.process) a.access a.address a.width) r is)
 
-  access_ended : (shortage : Shortage) (a : AccessRequest) (b : Bool) (r : Rule) → (access_if files shortage p a b).reply ≡ reply.Ended r → Leaves (access_if files shortage p a b)
+  access_ended : (shortage : Shortage) (a : AccessRequest) (b : Bool) (r : Rule) → (access_if files shortage p a b).reply ≡ reply.Scalar (scalar.Ended r) → Leaves (access_if files shortage p a b)
   access_ended shortage a false r is = absurd (cc)
   access_ended shortage a true r is = served_ended a (service_result files shortage p a) r is
 
-  in_ended : (bytes : List ℕ) (o : Option Rule) (r : Rule) → in_reply bytes o ≡ reply.Ended r → ⊥
+  in_ended : (bytes : List ℕ) (o : Option Rule) (r : Rule) → in_reply bytes o ≡ reply.Scalar (scalar.Ended r) → ⊥
   in_ended bytes None r is = cc
   in_ended bytes (Some x) r is = cc
 
-  out_ended : (bytes : List ℕ) (o : Option Rule) (r : Rule) → out_reply bytes o ≡ reply.Ended r → ⊥
+  out_ended : (bytes : List ℕ) (o : Option Rule) (r : Rule) → out_reply bytes o ≡ reply.Scalar (scalar.Ended r) → ⊥
   out_ended bytes None r is = cc
   out_ended bytes (Some x) r is = cc
 
-  sent_ended : (shortage : Shortage) (address n : ℕ) (r : Rule) → (sent_by files shortage p address n).reply ≡ reply.Ended r → ⊥
+  sent_ended : (shortage : Shortage) (address n : ℕ) (r : Rule) → (sent_by files shortage p address n).reply ≡ reply.Scalar (scalar.Ended r) → ⊥
   sent_ended nothing address n r is = in_ended _ _ r is
   sent_ended (frames_at k) address n r is = in_ended _ _ r is
   sent_ended (refused done x) address n r is = cc
 
-  received_ended : (shortage : Shortage) (address : ℕ) (bytes : List ℕ) (r : Rule) → (received_by files shortage p address bytes).reply ≡ reply.Ended r → ⊥
+  received_ended : (shortage : Shortage) (address : ℕ) (bytes : List ℕ) (r : Rule) → (received_by files shortage p address bytes).reply ≡ reply.Scalar (scalar.Ended r) → ⊥
   received_ended nothing address bytes r is = out_ended _ _ r is
   received_ended (frames_at k) address bytes r is = out_ended _ _ r is
   received_ended (refused done x) address bytes r is = cc
 
-  short_ended : (t : CallOutcome) (b : Bool) (r : Rule) → (t.reply ≡ reply.Ended r → ⊥) → (if_short files p t b).reply ≡ reply.Ended r → ⊥
+  short_ended : (t : CallOutcome) (b : Bool) (r : Rule) → (t.reply ≡ reply.Scalar (scalar.Ended r) → ⊥) → (if_short files p t b).reply ≡ reply.Scalar (scalar.Ended r) → ⊥
   short_ended t true r not is = not is
   short_ended t false r not is = cc
 
-  sized_ended : (z : Result Process Refusal) (r : Rule) → (resized files p z).reply ≡ reply.Ended r → ⊥
+  sized_ended : (z : Result Process Refusal) (r : Rule) → (resized files p z).reply ≡ reply.Scalar (scalar.Ended r) → ⊥
   sized_ended (Ok q) r is = cc
   sized_ended (Err e) r is = cc
 
-  mapped_ended : (z : Result Mapped Refusal) (r : Rule) → (mapped_as files p z).reply ≡ reply.Ended r → ⊥
+  mapped_ended : (z : Result Mapped Refusal) (r : Rule) → (mapped_as files p z).reply ≡ reply.Scalar (scalar.Ended r) → ⊥
   mapped_ended (Ok m) r is = cc
   mapped_ended (Err e) r is = cc
 
-  unmapped_ended : (shortage : Shortage) (z : Result Unmapped Refusal) (r : Rule) → (unmapped_as files shortage p z).reply ≡ reply.Ended r → ⊥
+  unmapped_ended : (shortage : Shortage) (z : Result Unmapped Refusal) (r : Rule) → (unmapped_as files shortage p z).reply ≡ reply.Scalar (scalar.Ended r) → ⊥
   unmapped_ended shortage (Err e) r is = cc
   unmapped_ended nothing (Ok u) r is = cc
   unmapped_ended (frames_at k) (Ok u) r is = cc
   unmapped_ended (refused done x) (Ok u) r is = cc
 
-  replaced_ended : (shortage : Shortage) (z : Result (List LoadSegment) BadImage) (r : Rule) → (replaced files shortage p z).reply ≡ reply.Ended r → ⊥
+  replaced_ended : (shortage : Shortage) (z : Result (List LoadSegment) BadImage) (r : Rule) → (replaced files shortage p z).reply ≡ reply.Scalar (scalar.Ended r) → ⊥
   replaced_ended shortage (Err e) r is = cc
   replaced_ended nothing (Ok ls) r is = cc
   replaced_ended (frames_at k) (Ok ls) r is = cc
   replaced_ended (refused done x) (Ok ls) r is = cc
 
-  pub ended_files : (shortage : Shortage) (c : Call) (r : Rule) → IsPlainCall c → (call_outcome files shortage 0 p c).reply ≡ reply.Ended r → IsEnd (call_outcome files shortage 0 p c) (writes_of files shortage p c)
+  pub ended_files : (shortage : Shortage) (c : Call) (r : Rule) → IsPlainCall c → (call_outcome files shortage 0 p c).reply ≡ reply.Scalar (scalar.Ended r) → IsEnd (call_outcome files shortage 0 p c) (writes_of files shortage p c)
   ended_files shortage (call.Fetch address) r stays is = let l = access_ended shortage (request access.Fetch address 4 0) true r is in (l.0, refl, l.1)
   ended_files shortage (call.Load address width) r stays is = let l = access_ended shortage (request access.Load address width 0) (is_width width) r is in (l.0, refl, l.1)
   ended_files shortage (call.Store address width value) r stays is = let l = access_ended shortage (request access.Store address width value) (is_width width) r is in (l.0, refl, l.1)
@@ -251,7 +253,7 @@ module _ (files : List File) (p : Process) where
   ended_files shortage (call.Sbrk delta) r stays is = absurd (sized_ended (sbrk_result p delta) r is)
   ended_files shortage (call.Mmap len protection flags f) r stays is = absurd (mapped_ended (mapped files p len protection flags f) r is)
   ended_files shortage (call.Munmap address len) r stays is = absurd (unmapped_ended shortage (unmapped files p address len) r is)
-  ended_files shortage (call.CopyIn address count) r stays is = absurd (short_ended (sent_by files shortage p address count) (nat_le count longest_copy) r (sent_ended shortage address count r) is)
-  ended_files shortage (call.CopyOut address bytes) r stays is = absurd (short_ended (received_by files shortage p address bytes.now) (nat_le (length bytes.now) longest_copy) r (received_ended shortage address bytes.now r) is)
+  ended_files shortage (call.CopyIn address count) r stays is = absurd (short_ended (sent_by files shortage p address count) (nat_le count LONGEST_COPY) r (sent_ended shortage address count r) is)
+  ended_files shortage (call.CopyOut address bytes) r stays is = absurd (short_ended (received_by files shortage p address bytes.now) (nat_le (length bytes.now) LONGEST_COPY) r (received_ended shortage address bytes.now r) is)
   ended_files shortage (call.Exit status) r stays is = absurd stays
   ended_files shortage (call.Fork list) r stays is = absurd stays

@@ -19,8 +19,9 @@ use Rattle.process_model.specs.PageMoves.{PageMove}
 use Rattle.process_model.specs.Process.{Process}
 use Rattle.process_model.specs.declared.call.Call.{Call}
 use Rattle.process_model.specs.declared.call.Call.TheVariants as call
-use Rattle.process_model.specs.declared.step.Reply.{Reply}
-use Rattle.process_model.specs.declared.step.Reply.TheVariants as reply
+use Rattle.process_model.specs.declared.reply.Reply.{Reply}
+use Rattle.process_model.specs.declared.reply.ScalarReply.TheVariants as scalar
+use Rattle.process_model.specs.declared.reply.Reply.TheVariants as reply
 use Rattle.sv39_entry.specs.Address.{page_of}
 use Rattle.sv39_entry.specs.declared.rule.Rule.{Rule}
 use Rattle.sv39_entry.specs.declared.rule.Rule.TheVariants as rule
@@ -71,46 +72,46 @@ same_told files shortage n p (call.Fork list) stays = absurd stays
 -- a plain answer names no child, and ends nothing
 
 pub plain_forks : (r : Reply) → IsPlain r → forked r ≡ 0
-plain_forks reply.Done is = refl
-plain_forks (reply.Started n) is = refl
-plain_forks (reply.Forked n) is = absurd is
-plain_forks (reply.Value n) is = refl
-plain_forks reply.Stored is = refl
-plain_forks (reply.Fault n) is = refl
-plain_forks (reply.Filled n) is = refl
-plain_forks reply.NothingFilled is = refl
-plain_forks (reply.InFrame n) is = refl
-plain_forks reply.Ready is = refl
-plain_forks (reply.Ended r) is = refl
-plain_forks (reply.OldSize n) is = refl
-plain_forks (reply.MappedAt n) is = refl
+plain_forks (reply.Scalar scalar.Done) is = refl
+plain_forks (reply.Scalar (scalar.Started n)) is = refl
+plain_forks (reply.Scalar (scalar.Forked n)) is = absurd is
+plain_forks (reply.Scalar (scalar.Value n)) is = refl
+plain_forks (reply.Scalar scalar.Stored) is = refl
+plain_forks (reply.Scalar (scalar.Fault n)) is = refl
+plain_forks (reply.Scalar (scalar.Filled n)) is = refl
+plain_forks (reply.Scalar scalar.NothingFilled) is = refl
+plain_forks (reply.Scalar (scalar.InFrame n)) is = refl
+plain_forks (reply.Scalar scalar.Ready) is = refl
+plain_forks (reply.Scalar (scalar.Ended r)) is = refl
+plain_forks (reply.Scalar (scalar.OldSize n)) is = refl
+plain_forks (reply.Scalar (scalar.MappedAt n)) is = refl
 plain_forks (reply.CopiedIn b) is = refl
-plain_forks (reply.CopiedOut n) is = refl
+plain_forks (reply.Scalar (scalar.CopiedOut n)) is = refl
 plain_forks (reply.ShortIn r b) is = refl
-plain_forks (reply.ShortOut r n) is = refl
-plain_forks (reply.Exited n) is = refl
-plain_forks (reply.Refused r) is = refl
+plain_forks (reply.Scalar (scalar.ShortOut r n)) is = refl
+plain_forks (reply.Scalar (scalar.Exited n)) is = refl
+plain_forks (reply.Scalar (scalar.Refused r)) is = refl
 
 pub plain_goes : (r : Reply) → IsPlain r → LeavesRunning r
-plain_goes reply.Done is = tt
-plain_goes (reply.Started n) is = tt
-plain_goes (reply.Forked n) is = tt
-plain_goes (reply.Value n) is = tt
-plain_goes reply.Stored is = tt
-plain_goes (reply.Fault n) is = tt
-plain_goes (reply.Filled n) is = tt
-plain_goes reply.NothingFilled is = tt
-plain_goes (reply.InFrame n) is = tt
-plain_goes reply.Ready is = tt
-plain_goes (reply.Ended r) is = is
-plain_goes (reply.OldSize n) is = tt
-plain_goes (reply.MappedAt n) is = tt
+plain_goes (reply.Scalar scalar.Done) is = tt
+plain_goes (reply.Scalar (scalar.Started n)) is = tt
+plain_goes (reply.Scalar (scalar.Forked n)) is = tt
+plain_goes (reply.Scalar (scalar.Value n)) is = tt
+plain_goes (reply.Scalar scalar.Stored) is = tt
+plain_goes (reply.Scalar (scalar.Fault n)) is = tt
+plain_goes (reply.Scalar (scalar.Filled n)) is = tt
+plain_goes (reply.Scalar scalar.NothingFilled) is = tt
+plain_goes (reply.Scalar (scalar.InFrame n)) is = tt
+plain_goes (reply.Scalar scalar.Ready) is = tt
+plain_goes (reply.Scalar (scalar.Ended r)) is = is
+plain_goes (reply.Scalar (scalar.OldSize n)) is = tt
+plain_goes (reply.Scalar (scalar.MappedAt n)) is = tt
 plain_goes (reply.CopiedIn b) is = tt
-plain_goes (reply.CopiedOut n) is = tt
+plain_goes (reply.Scalar (scalar.CopiedOut n)) is = tt
 plain_goes (reply.ShortIn r b) is = tt
-plain_goes (reply.ShortOut r n) is = tt
-plain_goes (reply.Exited n) is = is
-plain_goes (reply.Refused r) is = tt
+plain_goes (reply.Scalar (scalar.ShortOut r n)) is = tt
+plain_goes (reply.Scalar (scalar.Exited n)) is = is
+plain_goes (reply.Scalar (scalar.Refused r)) is = tt
 
 pub no_slot : (s : ForkSlot) (c : Call) (r : Reply) → IsPlainCall c → BySlot s c r
 no_slot s (call.Fetch address) r stays = tt
@@ -201,25 +202,25 @@ module _ (v w z : View) (takes : TakesFrames w z 0 []) where
 -- how many children a journal names
 
 pub forked_few : (r : Reply) → forked r ≤ 1
-forked_few reply.Done = omega arith
-forked_few (reply.Started n) = omega arith
-forked_few (reply.Forked n) = omega arith
-forked_few (reply.Value n) = omega arith
-forked_few reply.Stored = omega arith
-forked_few (reply.Fault n) = omega arith
-forked_few (reply.Filled n) = omega arith
-forked_few reply.NothingFilled = omega arith
-forked_few (reply.InFrame n) = omega arith
-forked_few reply.Ready = omega arith
-forked_few (reply.Ended r) = omega arith
-forked_few (reply.OldSize n) = omega arith
-forked_few (reply.MappedAt n) = omega arith
+forked_few (reply.Scalar scalar.Done) = omega arith
+forked_few (reply.Scalar (scalar.Started n)) = omega arith
+forked_few (reply.Scalar (scalar.Forked n)) = omega arith
+forked_few (reply.Scalar (scalar.Value n)) = omega arith
+forked_few (reply.Scalar scalar.Stored) = omega arith
+forked_few (reply.Scalar (scalar.Fault n)) = omega arith
+forked_few (reply.Scalar (scalar.Filled n)) = omega arith
+forked_few (reply.Scalar scalar.NothingFilled) = omega arith
+forked_few (reply.Scalar (scalar.InFrame n)) = omega arith
+forked_few (reply.Scalar scalar.Ready) = omega arith
+forked_few (reply.Scalar (scalar.Ended r)) = omega arith
+forked_few (reply.Scalar (scalar.OldSize n)) = omega arith
+forked_few (reply.Scalar (scalar.MappedAt n)) = omega arith
 forked_few (reply.CopiedIn b) = omega arith
-forked_few (reply.CopiedOut n) = omega arith
+forked_few (reply.Scalar (scalar.CopiedOut n)) = omega arith
 forked_few (reply.ShortIn r b) = omega arith
-forked_few (reply.ShortOut r n) = omega arith
-forked_few (reply.Exited n) = omega arith
-forked_few (reply.Refused r) = omega arith
+forked_few (reply.Scalar (scalar.ShortOut r n)) = omega arith
+forked_few (reply.Scalar (scalar.Exited n)) = omega arith
+forked_few (reply.Scalar (scalar.Refused r)) = omega arith
 
 pub forks_few : (es : List JournalEntry) → forks es ≤ length es
 forks_few [] = omega arith

@@ -17,7 +17,7 @@ use Rattle.hart_calls.specs.ShortageReports.{ReportsShortage}
 use Rattle.hart_calls.specs.Replay.{call_at, call_of, forked, forks, IsReplayStep, Replays}
 use Rattle.hart_calls.specs.CallOutcomes.{file_of, reads_of, call_outcome, writes_of}
 use Rattle.hart_calls.specs.Track.{AppendsEntry, calls_of, IsChild, next_of, Track}
-use Rattle.hart_calls.specs.TurnCases.{BySlot, KeepsFilesAtEnd, KeepsFilesOn, KeepsFilesByOutcome, ForkAnswer, ContinuesTurn, LeavesRunning, LacksEndRoom, LacksJournalRoom, IsOver, IsLastEntry, most_entries, Unwritten}
+use Rattle.hart_calls.specs.TurnCases.{BySlot, KeepsFilesAtEnd, KeepsFilesOn, KeepsFilesByOutcome, ForkAnswer, ContinuesTurn, LeavesRunning, LacksEndRoom, LacksJournalRoom, IsOver, IsLastEntry, Unwritten}
 use Rattle.hart_calls.proofs.Ends.{ends_claiming_none}
 use Rattle.hart_calls.proofs.Full.{written_maps}
 use Rattle.hart_calls.specs.CallResults.{RefusesPromise}
@@ -35,16 +35,18 @@ use Rattle.process_model.specs.Process.{Process}
 use Rattle.process_model.specs.Residence.{marked}
 use Rattle.process_model.specs.declared.call.Call.{Call}
 use Rattle.process_model.specs.declared.call.Call.TheVariants as call
-use Rattle.process_model.specs.declared.step.Refusal.{Refusal}
-use Rattle.process_model.specs.declared.step.Refusal.TheVariants as refusal
-use Rattle.process_model.specs.declared.step.Reply.{Reply}
-use Rattle.process_model.specs.declared.step.Reply.TheVariants as reply
+use Rattle.process_model.specs.declared.reply.Refusal.{Refusal}
+use Rattle.process_model.specs.declared.reply.Refusal.TheVariants as refusal
+use Rattle.process_model.specs.declared.reply.Reply.{Reply}
+use Rattle.process_model.specs.declared.reply.ScalarReply.TheVariants as scalar
+use Rattle.process_model.specs.declared.reply.Reply.TheVariants as reply
 use Rattle.shared_frames.specs.SeatsOfTable.{FitsIn, view_of}
+use Rattle.process_model.specs.declared.limits.TheConstants.{MOST_ENTRIES}
 
 -- ---- exit
 
-module _ (t : Track) (status : ℤ) (e : JournalEntry) (called : call_of e ≡ call.Exit status) (answer : e.reply ≡ reply.Exited status) (pages : e.pages ≡ []) (none : e.file ≡ None) (was : e.before.state ≡ t.state) (next : next_of t ≡ call.Exit status)
-    (replays : Replays t.opening 0 0 (calls_of t) t.journal t.state) (room : length t.journal < most_entries) (f : Finished) (name : f.name.items ≡ t.name) (table : TableId) (fits : FitsIn table f.seat) (bare : IsBare (view_of f.seat)) (takes : TakesFrames t.seat (view_of f.seat) 0 []) (a d : ShelfState) (closes : Closes t.state t.journal e (outcome.Exited status) f a d) where
+module _ (t : Track) (status : ℤ) (e : JournalEntry) (called : call_of e ≡ call.Exit status) (answer : e.reply ≡ reply.Scalar (scalar.Exited status)) (pages : e.pages ≡ []) (none : e.file ≡ None) (was : e.before.state ≡ t.state) (next : next_of t ≡ call.Exit status)
+    (replays : Replays t.opening 0 0 (calls_of t) t.journal t.state) (room : length t.journal < MOST_ENTRIES) (f : Finished) (name : f.name.items ≡ t.name) (table : TableId) (fits : FitsIn table f.seat) (bare : IsBare (view_of f.seat)) (takes : TakesFrames t.seat (view_of f.seat) 0 []) (a d : ShelfState) (closes : Closes t.state t.journal e (outcome.Exited status) f a d) where
   abbrev leads : IsReplayStep a.files (forks t.journal) t.state e t.state
   leads = record {
     before = was;
@@ -214,12 +216,12 @@ module _ (n : ℕ) (p : Process) (e : JournalEntry) (k : ℕ) (w : Shortage) (r 
       }
 
 -- a child begins
-pub fork_goes : (t u c : Track) (e : JournalEntry) (k : ℕ) (s : ForkSlot) → IsForkOf t.state e k (reply.Forked (forks t.journal)) → AppendsEntry t u e → u.state ≡ marked t.state → IsChild t c k → ForkAnswer s (reply.Forked (forks t.journal)) → ContinuesTurn t u (Some c) s
+pub fork_goes : (t u c : Track) (e : JournalEntry) (k : ℕ) (s : ForkSlot) → IsForkOf t.state e k (reply.Scalar (scalar.Forked (forks t.journal))) → AppendsEntry t u e → u.state ≡ marked t.state → IsChild t c k → ForkAnswer s (reply.Scalar (scalar.Forked (forks t.journal))) → ContinuesTurn t u (Some c) s
 fork_goes t u c e k s is adds state child by_slot = record {
   entry = e;
   files = [];
   adds = adds;
-  leads = fork_leads (forks t.journal) t.state e k nothing (reply.Forked (forks t.journal)) is tt refl u.state state;
+  leads = fork_leads (forks t.journal) t.state e k nothing (reply.Scalar (scalar.Forked (forks t.journal))) is tt refl u.state state;
   on = subst LeavesRunning (sym is.answer) tt;
   child = (ap forked is.answer, (k, is.call, child));
   slot = subst (λ (z : Call). BySlot s z e.reply) (sym is.call) (subst (ForkAnswer s) (sym is.answer) by_slot);
@@ -227,13 +229,13 @@ fork_goes t u c e k s is adds state child by_slot = record {
 }
 
 -- or it is refused
-pub fork_stays : (t u : Track) (e : JournalEntry) (k : ℕ) (s : ForkSlot) (r : Refusal) → IsForkOf t.state e k (reply.Refused r) → IsForkRefusal r → AppendsEntry t u e → u.state ≡ t.state → ForkAnswer s (reply.Refused r)
+pub fork_stays : (t u : Track) (e : JournalEntry) (k : ℕ) (s : ForkSlot) (r : Refusal) → IsForkOf t.state e k (reply.Scalar (scalar.Refused r)) → IsForkRefusal r → AppendsEntry t u e → u.state ≡ t.state → ForkAnswer s (reply.Scalar (scalar.Refused r))
     → ReportsShortage t.seat u.seat [] t.state (call.Fork k) (refused 0 r) → ContinuesTurn t u None s
 fork_stays t u e k s r is may adds state by_slot dry = record {
   entry = e;
   files = [];
   adds = adds;
-  leads = fork_leads (forks t.journal) t.state e k (refused 0 r) (reply.Refused r) is may refl u.state state;
+  leads = fork_leads (forks t.journal) t.state e k (refused 0 r) (reply.Scalar (scalar.Refused r)) is may refl u.state state;
   on = subst LeavesRunning (sym is.answer) tt;
   child = ap forked is.answer;
   slot = subst (λ (z : Call). BySlot s z e.reply) (sym is.call) (subst (ForkAnswer s) (sym is.answer) by_slot);
@@ -263,7 +265,7 @@ pub fork_may : (x : ForkError) → IsForkRefusal (refusal_of x)
 fork_may fork.NoFrame = tt
 fork_may fork.SharersFull = tt
 
-pub fork_by_slot : (x : ForkError) → (forked (reply.Refused (refusal_of x)) ≡ 1) ⊎ ((◌≡◌ {A = Reply} (reply.Refused (refusal_of x)) (reply.Refused refusal.NoFrame)) ⊎ (◌≡◌ {A = Reply} (reply.Refused (refusal_of x)) (reply.Refused refusal.SharersFull)))
+pub fork_by_slot : (x : ForkError) → (forked (reply.Scalar (scalar.Refused (refusal_of x))) ≡ 1) ⊎ ((◌≡◌ {A = Reply} (reply.Scalar (scalar.Refused (refusal_of x))) (reply.Scalar (scalar.Refused refusal.NoFrame))) ⊎ (◌≡◌ {A = Reply} (reply.Scalar (scalar.Refused (refusal_of x))) (reply.Scalar (scalar.Refused refusal.SharersFull))))
 fork_by_slot fork.NoFrame = inr (inl refl)
 fork_by_slot fork.SharersFull = inr (inr refl)
 

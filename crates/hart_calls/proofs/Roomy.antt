@@ -14,7 +14,7 @@ use Rattle.hart_calls.specs.declared.fork_slot.ForkSlot.{ForkSlot}
 use Rattle.hart_calls.specs.declared.fork_slot.ForkSlot.TheVariants as slot
 use Rattle.hart_calls.specs.declared.turn.Turn.{Turn}
 use Rattle.hart_calls.specs.declared.turn.Turn.TheVariants as turn
-use Rattle.process_model.specs.declared.step.Reply.{Reply}
+use Rattle.process_model.specs.declared.reply.Reply.{Reply}
 
 module _ (t : Track) (room : ℕ) where
   abbrev roomy : Track

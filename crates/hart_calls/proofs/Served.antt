@@ -14,7 +14,7 @@ use Rattle.process_model.specs.PageMoves.{PageMove}
 use Rattle.process_model.specs.Process.{Process}
 use Rattle.process_model.specs.declared.call.Call.{Call}
 use Rattle.process_model.specs.declared.call.Call.TheVariants as call
-use Rattle.process_model.specs.declared.step.Refusal.{Refusal}
+use Rattle.process_model.specs.declared.reply.Refusal.{Refusal}
 
 pub is_plain_access : (c : Call) → IsAccessCall c → IsPlainCall c
 is_plain_access (call.Fetch address) is = tt

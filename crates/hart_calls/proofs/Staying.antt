@@ -14,9 +14,9 @@ use Rattle.hart_calls.specs.Shortages.{initial_progress, refused, call_environme
 use Rattle.hart_calls.specs.declared.call_result.CallResult.{CallResult}
 use Rattle.hart_calls.specs.declared.call_result.CallResult.TheVariants as call_result
 use Rattle.hart_calls.proofs.Journals.{read_since}
-use Rattle.process_model.specs.declared.step.Refusal.{Refusal}
+use Rattle.process_model.specs.declared.reply.Refusal.{Refusal}
 use Rattle.process_model.specs.Bytes.{is_width}
-use Rattle.process_model.specs.Copies.{copied_in, copied_out, longest_copy}
+use Rattle.process_model.specs.Copies.{copied_in, copied_out}
 use Rattle.process_model.specs.Files.{File}
 use Rattle.process_model.specs.PageMap.{get}
 use Rattle.process_model.specs.PageMoves.{PageMove}
@@ -31,6 +31,7 @@ use Rattle.sv39_entry.specs.declared.access.Access.{Access}
 use Rattle.sv39_entry.specs.declared.access.Access.TheVariants as access
 use Rattle.sv39_entry.specs.declared.rule.Rule.{Rule}
 use Rattle.user_copy.specs.Runs.{near, runs, runs_of, some_bytes, some_run}
+use Rattle.process_model.specs.declared.limits.TheConstants.{LONGEST_COPY}
 
 -- ---- a call reads two pages at most
 
@@ -103,9 +104,9 @@ reads_few files shortage p (call.Sbrk delta) = omega arith
 reads_few files shortage p (call.Mmap len protection flags f) = omega arith
 reads_few files shortage p (call.Munmap address len) = omega arith
 reads_few files shortage p (call.CopyIn address count) =
-    short_few files p (in_reads files shortage p address count) (nat_le count longest_copy) (let below = below_few files p access.Load (limit_of shortage address (length (copied_in (call_environment files shortage) (initial_progress p) address count).bytes)) (map (λ r. r.0) (runs address count)) in let few = runs_few address count in omega (arith, below, few))
+    short_few files p (in_reads files shortage p address count) (nat_le count LONGEST_COPY) (let below = below_few files p access.Load (limit_of shortage address (length (copied_in (call_environment files shortage) (initial_progress p) address count).bytes)) (map (λ r. r.0) (runs address count)) in let few = runs_few address count in omega (arith, below, few))
 reads_few files shortage p (call.CopyOut address bytes) =
-    short_few files p (out_reads files shortage p address bytes.now) (nat_le (length bytes.now) longest_copy) (let below = below_few files p access.Store (limit_of shortage address (length (copied_out (call_environment files shortage) (initial_progress p) address bytes.now).bytes)) (map (λ r. r.0) (runs_of address bytes.now)) in let few = given_few address bytes.now in omega (arith, below, few))
+    short_few files p (out_reads files shortage p address bytes.now) (nat_le (length bytes.now) LONGEST_COPY) (let below = below_few files p access.Store (limit_of shortage address (length (copied_out (call_environment files shortage) (initial_progress p) address bytes.now).bytes)) (map (λ r. r.0) (runs_of address bytes.now)) in let few = given_few address bytes.now in omega (arith, below, few))
 reads_few files shortage p (call.Exit status) = omega arith
 reads_few files shortage p (call.Fork list) = omega arith
 
@@ -140,9 +141,9 @@ module _ (x y : Body) (files : List File) (Became : List PageMove → Type 0) (R
     (grows : (ms : List PageMove) → Became ms → after ≡ before ++ ms) where
   pub has_grown : (r : CallResult) → IsCallResult x y files Became Refused Promised p c r → Grew c before after
   has_grown (call_result.Answered r) h = grew_by files (by_reply (address_of c) r) p c before after (grows _ h.1.moves)
-  has_grown (call_result.Stopped r done) h = grew_by files (refused done r) p c before after (grows _ h.moves)
+  has_grown (call_result.Unpromised r done) h = grew_by files (refused done r) p c before after (grows _ h.moves)
   has_grown (call_result.Ended r) h = grew_by files (at_stop r (address_of c)) p c before after (grows _ h.0.moves)
-  has_grown (call_result.Cut r) h = grew_none c before after (grows [] h.1.moves ∙ append-nil before)
+  has_grown (call_result.Unserved r) h = grew_none c before after (grows [] h.1.moves ∙ append-nil before)
 
 -- the pages that are kept are those that were read
 pub pages_are : (files : List File) (shortage : Shortage) (p : Process) (c : Call) (before after items : List PageMove) (mark : ℕ) → mark ≡ length before → items ≡ moves_read c (drop mark after)

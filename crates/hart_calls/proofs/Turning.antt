@@ -17,7 +17,7 @@ use Rattle.hart_calls.specs.ShortageReports.{ReportsShortage}
 use Rattle.hart_calls.specs.Replay.{call_at, call_of, forked, forks, IsReplayStep, Replays}
 use Rattle.hart_calls.specs.CallOutcomes.{file_of, reads_of, CallOutcome, call_outcome, writes_of}
 use Rattle.hart_calls.specs.Track.{AppendsEntry, calls_of, next_of, Track}
-use Rattle.hart_calls.specs.TurnCases.{BySlot, EndsIt, KeepsFilesAtEnd, KeepsFilesOn, KeepsFilesByOutcome, ContinuesTurn, LacksEndRoom, LacksJournalRoom, LeavesRunning, IsOver, IsLastEntry, most_entries, Unwritten}
+use Rattle.hart_calls.specs.TurnCases.{BySlot, EndsIt, KeepsFilesAtEnd, KeepsFilesOn, KeepsFilesByOutcome, ContinuesTurn, LacksEndRoom, LacksJournalRoom, LeavesRunning, IsOver, IsLastEntry, Unwritten}
 use Rattle.hart_calls.proofs.Ends.{ends_claiming_none}
 use Rattle.hart_calls.proofs.Full.{written_maps}
 use Rattle.hart_calls.specs.Shortages.{CanBeShort, Shortage, WasAsked}
@@ -33,10 +33,12 @@ use Rattle.process_model.specs.Mappings.{all_written_back}
 use Rattle.process_model.specs.PageMoves.{all_moves, files_after, PageMove}
 use Rattle.process_model.specs.Process.{Process}
 use Rattle.process_model.specs.declared.call.Call.{Call}
-use Rattle.process_model.specs.declared.step.Reply.{Reply}
-use Rattle.process_model.specs.declared.step.Reply.TheVariants as reply
+use Rattle.process_model.specs.declared.reply.Reply.{Reply}
+use Rattle.process_model.specs.declared.reply.ScalarReply.TheVariants as scalar
+use Rattle.process_model.specs.declared.reply.Reply.TheVariants as reply
 use Rattle.shared_frames.specs.SeatsOfTable.{FitsIn, view_of}
 use Rattle.sv39_entry.specs.declared.rule.Rule.{Rule}
+use Rattle.process_model.specs.declared.limits.TheConstants.{MOST_ENTRIES}
 
 -- the entry is of this call, with this answer
 
@@ -97,7 +99,7 @@ module _ (t : Track) (c : Call) (stays : IsPlainCall c) (a b : ShelfState) (shor
 
   -- ---- it ends by a rule
 
-  module _ (rule : Rule) (by : r ≡ reply.Ended rule) (stop : shortage ≡ at_stop rule (address_of c)) (next : c ≡ next_of t) (replays : Replays t.opening 0 0 (calls_of t) t.journal t.state) (room : length t.journal < most_entries)
+  module _ (rule : Rule) (by : r ≡ reply.Scalar (scalar.Ended rule)) (stop : shortage ≡ at_stop rule (address_of c)) (next : c ≡ next_of t) (replays : Replays t.opening 0 0 (calls_of t) t.journal t.state) (room : length t.journal < MOST_ENTRIES)
       (f : Finished) (name : f.name.items ≡ t.name) (table : TableId) (fits : FitsIn table f.seat) (bare : IsBare (view_of f.seat)) (claimed_none : ClaimsNone x.view y.view) (takes : TakesFrames y.view (view_of f.seat) 0 []) (d : ShelfState) (closes : Closes t.state t.journal e (outcome.Ended rule) f b d) where
     next_is : call_of e ≡ call_at (calls_of t) (length t.journal)
     next_is = is.call ∙ next

@@ -8,7 +8,7 @@ use Rattle.hart_calls.specs.CallResults.{address_of, by_reply, IsModelResult, Is
 use Rattle.process_model.specs.Process.{Process}
 use Rattle.process_model.specs.Service.{AccessRequest, user_access}
 use Rattle.process_model.specs.declared.call.Call.{Call}
-use Rattle.process_model.specs.declared.step.Reply.{Reply}
+use Rattle.process_model.specs.declared.reply.Reply.{Reply}
 
 -- the space x became y by call c, which is the access a of process p, and r is the reply
 pub record IsMadeAtOnce (x y : Body) (p : Process) (a : AccessRequest) (c : Call) (r : Reply) : Type 0 where

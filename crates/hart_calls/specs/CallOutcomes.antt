@@ -8,7 +8,7 @@ use Rattle.hart_calls.specs.Shortages.{initial_progress, nothing, refused, call_
 use Rattle.mmap_regions.specs.MunmapEffect.{unmap_moves}
 use Rattle.process_model.specs.Environment.{Progress, resident_at_address}
 use Rattle.process_model.specs.Bytes.{is_width}
-use Rattle.process_model.specs.Copies.{Copied, copied_in, copied_out, in_reply, longest_copy, out_reply}
+use Rattle.process_model.specs.Copies.{Copied, copied_in, copied_out, in_reply, out_reply}
 use Rattle.process_model.specs.Files.{File}
 use Rattle.process_model.specs.Heap.{sbrk_result}
 use Rattle.process_model.specs.Images.{image_loads, LoadSegment}
@@ -22,15 +22,17 @@ use Rattle.process_model.specs.Service.{AccessRequest, user_access}
 use Rattle.process_model.specs.declared.call.Call.{Call}
 use Rattle.process_model.specs.declared.call.Call.TheVariants as call
 use Rattle.process_model.specs.declared.image.BadImage.{BadImage}
-use Rattle.process_model.specs.declared.step.Refusal.{Refusal}
-use Rattle.process_model.specs.declared.step.Refusal.TheVariants as refusal
-use Rattle.process_model.specs.declared.step.Reply.{Reply}
-use Rattle.process_model.specs.declared.step.Reply.TheVariants as reply
+use Rattle.process_model.specs.declared.reply.Refusal.{Refusal}
+use Rattle.process_model.specs.declared.reply.Refusal.TheVariants as refusal
+use Rattle.process_model.specs.declared.reply.Reply.{Reply}
+use Rattle.process_model.specs.declared.reply.ScalarReply.TheVariants as scalar
+use Rattle.process_model.specs.declared.reply.Reply.TheVariants as reply
 use Rattle.sv39_entry.specs.Address.{page_of}
 use Rattle.sv39_entry.specs.declared.access.Access.{Access}
 use Rattle.sv39_entry.specs.declared.access.Access.TheVariants.{Fetch, Load, Store}
 use Rattle.sv39_entry.specs.declared.rule.Rule.{Rule}
 use Rattle.user_copy.specs.Runs.{runs, runs_of}
+use Rattle.process_model.specs.declared.limits.TheConstants.{LONGEST_COPY}
 
 -- the reply, and the process and the files after the call. If the call ends the process, `process` is that before the call
 pub record CallOutcome : Type 0 where
@@ -39,7 +41,7 @@ pub record CallOutcome : Type 0 where
   pub files : List File
 
 abbrev pub refused_call : List File → Process → Refusal → CallOutcome
-refused_call files p r = record { reply = reply.Refused r; process = p; files = files }
+refused_call files p r = record { reply = reply.Scalar (scalar.Refused r); process = p; files = files }
 
 -- user accesses: a page that is not resident is made resident within the call
 
@@ -55,7 +57,7 @@ abbrev pub service_result : List File → Shortage → Process → AccessRequest
 service_result files shortage p a = resident_at_address (call_environment files shortage) a.access a.address (initial_progress p) (rule_for p a)
 
 abbrev pub served_access : List File → Process → AccessRequest → Result Progress Rule → CallOutcome
-served_access files p a (Err rule) = record { reply = reply.Ended rule; process = p; files = all_written_back files p }
+served_access files p a (Err rule) = record { reply = reply.Scalar (scalar.Ended rule); process = p; files = all_written_back files p }
 served_access files p a (Ok g) = let x = user_access g.process a in record { reply = x.reply; process = x.process; files = files }
 
 abbrev pub access_if : List File → Shortage → Process → AccessRequest → Bool → CallOutcome
@@ -94,27 +96,27 @@ if_short files p t false = refused_call files p refusal.BadArgument
 
 abbrev pub resized : List File → Process → Result Process Refusal → CallOutcome
 resized files p (Err r) = refused_call files p r
-resized files p (Ok q) = record { reply = reply.OldSize p.size; process = q; files = files }
+resized files p (Ok q) = record { reply = reply.Scalar (scalar.OldSize p.size); process = q; files = files }
 
 abbrev pub mapped_as : List File → Process → Result Mapped Refusal → CallOutcome
 mapped_as files p (Err r) = refused_call files p r
-mapped_as files p (Ok m) = record { reply = reply.MappedAt (4096 * m.first); process = m.process; files = files }
+mapped_as files p (Ok m) = record { reply = reply.Scalar (scalar.MappedAt (4096 * m.first)); process = m.process; files = files }
 
 abbrev pub unmapped_as : List File → Shortage → Process → Result Unmapped Refusal → CallOutcome
 unmapped_as files shortage p (Err r) = refused_call files p r
 unmapped_as files (refused done r) p (Ok u) = refused_call files p r
-unmapped_as files shortage p (Ok u) = record { reply = reply.Done; process = u.process; files = u.files }
+unmapped_as files shortage p (Ok u) = record { reply = reply.Scalar scalar.Done; process = u.process; files = u.files }
 
 -- exec and fork
 
 abbrev pub replaced : List File → Shortage → Process → Result (List LoadSegment) BadImage → CallOutcome
 replaced files shortage p (Err e) = refused_call files p (refusal.BadImage e)
 replaced files (refused done r) p (Ok ls) = refused_call files p r
-replaced files shortage p (Ok ls) = record { reply = reply.Done; process = process_of p.scheme 0 ls; files = all_written_back files p }
+replaced files shortage p (Ok ls) = record { reply = reply.Scalar scalar.Done; process = process_of p.scheme 0 ls; files = all_written_back files p }
 
 abbrev pub forked_as : List File → Shortage → ℕ → Process → CallOutcome
 forked_as files (refused done r) n p = refused_call files p r
-forked_as files shortage n p = record { reply = reply.Forked n; process = marked p; files = files }
+forked_as files shortage n p = record { reply = reply.Scalar (scalar.Forked n); process = marked p; files = files }
 
 -- the outcome of a call of process p, of which n children were named before
 abbrev pub call_outcome : List File → Shortage → ℕ → Process → Call → CallOutcome
@@ -125,10 +127,10 @@ call_outcome files shortage n p (call.Exec image) = replaced files shortage p (i
 call_outcome files shortage n p (call.Sbrk delta) = resized files p (sbrk_result p delta)
 call_outcome files shortage n p (call.Mmap len protection flags file) = mapped_as files p (mapped files p len protection flags file)
 call_outcome files shortage n p (call.Munmap address len) = unmapped_as files shortage p (unmapped files p address len)
-call_outcome files shortage n p (call.CopyIn address count) = if_short files p (sent_by files shortage p address count) (nat_le count longest_copy)
+call_outcome files shortage n p (call.CopyIn address count) = if_short files p (sent_by files shortage p address count) (nat_le count LONGEST_COPY)
 call_outcome files shortage n p (call.CopyOut address bytes) =
-    if_short files p (received_by files shortage p address bytes.now) (nat_le (length bytes.now) longest_copy)
-call_outcome files shortage n p (call.Exit status) = record { reply = reply.Exited status; process = p; files = all_written_back files p }
+    if_short files p (received_by files shortage p address bytes.now) (nat_le (length bytes.now) LONGEST_COPY)
+call_outcome files shortage n p (call.Exit status) = record { reply = reply.Scalar (scalar.Exited status); process = p; files = all_written_back files p }
 call_outcome files shortage n p (call.Fork list) = forked_as files shortage n p
 
 -- pages that a call reads from files: an access and a copy read the initial bytes of each unsettled page of a mapping that
@@ -168,14 +170,14 @@ abbrev pub reads_of : List File → Shortage → Process → Call → List PageM
 reads_of files shortage p (call.Fetch address) = access_reads files p (request Fetch address 4 0) (is_width 4)
 reads_of files shortage p (call.Load address width) = access_reads files p (request Load address width 0) (is_width width)
 reads_of files shortage p (call.Store address width value) = access_reads files p (request Store address width value) (is_width width)
-reads_of files shortage p (call.CopyIn address count) = if_short_reads (in_reads files shortage p address count) (nat_le count longest_copy)
-reads_of files shortage p (call.CopyOut address bytes) = if_short_reads (out_reads files shortage p address bytes.now) (nat_le (length bytes.now) longest_copy)
+reads_of files shortage p (call.CopyIn address count) = if_short_reads (in_reads files shortage p address count) (nat_le count LONGEST_COPY)
+reads_of files shortage p (call.CopyOut address bytes) = if_short_reads (out_reads files shortage p address bytes.now) (nat_le (length bytes.now) LONGEST_COPY)
 reads_of files shortage p c = []
 
 -- pages that a call writes to files: if it is not refused, munmap writes back its run, and exec every mapping. What a
 -- process writes back at its end is not among them
 abbrev pub is_done : Reply → Bool
-is_done reply.Done = true
+is_done (reply.Scalar scalar.Done) = true
 is_done _ = false
 
 abbrev pub if_done : Reply → List PageMove → List PageMove

@@ -17,10 +17,11 @@ use Rattle.process_model.specs.PageMoves.{PageMove}
 use Rattle.process_model.specs.Process.{Process}
 use Rattle.process_model.specs.declared.call.Call.{Call}
 use Rattle.process_model.specs.declared.call.Call.TheVariants as call
-use Rattle.process_model.specs.declared.step.Refusal.{Refusal}
-use Rattle.process_model.specs.declared.step.Refusal.TheVariants as refusal
-use Rattle.process_model.specs.declared.step.Reply.{Reply}
-use Rattle.process_model.specs.declared.step.Reply.TheVariants as reply
+use Rattle.process_model.specs.declared.reply.Refusal.{Refusal}
+use Rattle.process_model.specs.declared.reply.Refusal.TheVariants as refusal
+use Rattle.process_model.specs.declared.reply.Reply.{Reply}
+use Rattle.process_model.specs.declared.reply.ScalarReply.TheVariants as scalar
+use Rattle.process_model.specs.declared.reply.Reply.TheVariants as reply
 use Rattle.sv39_entry.specs.Address.{page_of}
 use Rattle.sv39_entry.specs.declared.rule.Rule.{Rule}
 use Rattle.sv39_entry.specs.declared.rule.Rule.TheVariants.{NoFrame}
@@ -52,14 +53,14 @@ address_of c = 0
 
 abbrev pub by_reply : ℕ → Reply → Shortage
 by_reply address (reply.ShortIn rule bytes) = at_stop rule (address + length bytes.items)
-by_reply address (reply.ShortOut rule count) = at_stop rule (address + count)
-by_reply address (reply.Refused r) = by_refusal r
-by_reply address (reply.Ended rule) = at_stop rule address
+by_reply address (reply.Scalar (scalar.ShortOut rule count)) = at_stop rule (address + count)
+by_reply address (reply.Scalar (scalar.Refused r)) = by_refusal r
+by_reply address (reply.Scalar (scalar.Ended rule)) = at_stop rule address
 by_reply address _ = nothing
 
 -- the shortage of a call, by its reply. The option: how many bytes a copy had copied when a promise was refused
 abbrev pub shortage_of : Option ℕ → Call → Reply → Shortage
-shortage_of (Some done) c (reply.Refused r) = refused done r
+shortage_of (Some done) c (reply.Scalar (scalar.Refused r)) = refused done r
 shortage_of o c r = by_reply (address_of c) r
 
 -- after these page moves the files can refuse a promise of n pages, with this refusal
@@ -79,9 +80,9 @@ pub record IsModelResult (x y : Body) (files : List File) (Became : List PageMov
 
 -- the process continues after this reply, and no child begins
 abbrev pub IsPlain : Reply → Type 0
-IsPlain (reply.Ended rule) = ⊥
-IsPlain (reply.Exited status) = ⊥
-IsPlain (reply.Forked n) = ⊥
+IsPlain (reply.Scalar (scalar.Ended rule)) = ⊥
+IsPlain (reply.Scalar (scalar.Exited status)) = ⊥
+IsPlain (reply.Scalar (scalar.Forked n)) = ⊥
 IsPlain r = Unit {0}
 
 -- no frame was claimed between views v and w of a seat
@@ -101,13 +102,13 @@ pub record IsNotMade (x y : Body) (files : List File) (Became : List PageMove �
 -- what each result promises of the process that the space was before the call
 abbrev pub IsCallResult : Body → Body → List File → (List PageMove → Type 0) → (List PageMove → ℕ → Refusal → Type 0) → (ℕ → Type 0)
     → Process → Call → CallResult → Type 0
-IsCallResult x y files Became Refused Promised p c (call_result.Cut r) = IsAccessCall c × IsNotMade x y files Became Refused p c r
+IsCallResult x y files Became Refused Promised p c (call_result.Unserved r) = IsAccessCall c × IsNotMade x y files Became Refused p c r
 IsCallResult x y files Became Refused Promised p c (call_result.Answered r) = IsPlain r
     × IsModelResult x y files Became Refused Promised p c (by_reply (address_of c) r) r
-IsCallResult x y files Became Refused Promised p c (call_result.Stopped r done) =
-    IsModelResult x y files Became Refused Promised p c (refused done r) (reply.Refused r)
+IsCallResult x y files Became Refused Promised p c (call_result.Unpromised r done) =
+    IsModelResult x y files Became Refused Promised p c (refused done r) (reply.Scalar (scalar.Refused r))
 IsCallResult x y files Became Refused Promised p c (call_result.Ended rule) =
-    IsModelResult x y files Became Refused Promised p c (at_stop rule (address_of c)) (reply.Ended rule) × ClaimsNone x.view y.view
+    IsModelResult x y files Became Refused Promised p c (at_stop rule (address_of c)) (reply.Scalar (scalar.Ended rule)) × ClaimsNone x.view y.view
 
 -- `IsCallResult` for every process that the space was before the call, by any tables
 abbrev pub GivesCallResult : Body → Body → List File → (List PageMove → Type 0) → (List PageMove → ℕ → Refusal → Type 0) → (ℕ → Type 0)

@@ -12,8 +12,8 @@ use Rattle.process_model.specs.declared.call.Outcome.TheVariants as outcome
 use Rattle.process_model.specs.Mappings.{all_written_back}
 use Rattle.process_model.specs.PageMoves.{all_moves}
 use Rattle.process_model.specs.Process.{Process}
-use Rattle.process_model.specs.declared.step.Refusal.{Refusal}
-use Rattle.process_model.specs.declared.step.Refusal.TheVariants as refusal
+use Rattle.process_model.specs.declared.reply.Refusal.{Refusal}
+use Rattle.process_model.specs.declared.reply.Refusal.TheVariants as refusal
 
 -- the outcomes of a process that ends with no journal entry more
 abbrev pub IsCause : Outcome → Type 0

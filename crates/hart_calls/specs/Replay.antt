@@ -11,8 +11,9 @@ use Rattle.process_model.specs.Files.{File}
 use Rattle.process_model.specs.Process.{Process}
 use Rattle.process_model.specs.declared.call.Call.{Call}
 use Rattle.process_model.specs.declared.call.Call.TheVariants as call
-use Rattle.process_model.specs.declared.step.Reply.{Reply}
-use Rattle.process_model.specs.declared.step.Reply.TheVariants as reply
+use Rattle.process_model.specs.declared.reply.Reply.{Reply}
+use Rattle.process_model.specs.declared.reply.ScalarReply.TheVariants as scalar
+use Rattle.process_model.specs.declared.reply.Reply.TheVariants as reply
 
 -- call k of a list, `exit 0` after the last
 
@@ -42,7 +43,7 @@ list_at lists k = or_none (slice_get lists k)
 -- how many children a reply names, and a journal
 
 abbrev pub forked : Reply → ℕ
-forked (reply.Forked n) = 1
+forked (reply.Scalar (scalar.Forked n)) = 1
 forked r = 0
 
 abbrev pub forks : List JournalEntry → ℕ

@@ -12,7 +12,8 @@ use Rattle.process_model.specs.PageMap.{get}
 use Rattle.process_model.specs.Process.{Process}
 use Rattle.process_model.specs.declared.call.Call.{Call}
 use Rattle.process_model.specs.declared.call.Call.TheVariants as call
-use Rattle.process_model.specs.declared.step.Refusal.TheVariants.{NoFrame, SharersFull}
+use Rattle.process_model.specs.declared.reply.Refusal.TheVariants.{NoFrame, SharersFull}
+use Rattle.process_model.specs.declared.limits.TheConstants.{MOST_REFERENCES}
 use Rattle.sv39_entry.specs.Address.{page_of}
 use Rattle.sv39_entry.specs.declared.access.Access.{Access}
 use Rattle.sv39_entry.specs.declared.access.Access.TheVariants.{Fetch, Load, Store}
@@ -43,7 +44,7 @@ CopyDry v w p q access first page =
 
 -- exactly one reference count was read: 65,535, the greatest that can be counted
 abbrev pub WasFull : View → View → Type 0
-WasFull v w = w.tallies.looks ≡ v.tallies.looks ++ 65535 ∷ []
+WasFull v w = w.tallies.looks ≡ v.tallies.looks ++ MOST_REFERENCES ∷ []
 
 -- the seat's evidence for this shortage of a call. Of slots, host memory and promises nothing is said here
 abbrev pub ReportsShortage : View → View → List File → Process → Call → Shortage → Type 0

@@ -26,9 +26,10 @@ use Rattle.process_model.specs.Process.{Process}
 use Rattle.process_model.specs.Regions.{Region}
 use Rattle.process_model.specs.declared.call.Call.{Call}
 use Rattle.process_model.specs.declared.call.Call.TheVariants as call
-use Rattle.process_model.specs.declared.step.Refusal.TheVariants as refusal
-use Rattle.process_model.specs.declared.step.Reply.{Reply}
-use Rattle.process_model.specs.declared.step.Reply.TheVariants as reply
+use Rattle.process_model.specs.declared.reply.Refusal.TheVariants as refusal
+use Rattle.process_model.specs.declared.reply.Reply.{Reply}
+use Rattle.process_model.specs.declared.reply.ScalarReply.TheVariants as scalar
+use Rattle.process_model.specs.declared.reply.Reply.TheVariants as reply
 use Rattle.shared_frames.specs.SeatsOfTable.{FitsIn, view_of}
 use Rattle.process_model.specs.declared.limits.TheConstants.{MOST_ENTRIES}
 
@@ -58,9 +59,9 @@ NeedsFiles t = IsMmap (next_of t) ⊎ HasMapping t.state.mappings
 -- the reply to a fork: NoSlot exactly if it has no slot, Memory exactly if the host has no memory for a child; else the
 -- child, or NoFrame or SharersFull
 abbrev pub ForkAnswer : ForkSlot → Reply → Type 0
-ForkAnswer slot.NoSlot r = r ≡ reply.Refused refusal.NoSlot
-ForkAnswer slot.Memory r = r ≡ reply.Refused refusal.Memory
-ForkAnswer (slot.Free v place) r = (forked r ≡ 1) ⊎ ((r ≡ reply.Refused refusal.NoFrame) ⊎ (r ≡ reply.Refused refusal.SharersFull))
+ForkAnswer slot.NoSlot r = r ≡ reply.Scalar (scalar.Refused refusal.NoSlot)
+ForkAnswer slot.Memory r = r ≡ reply.Scalar (scalar.Refused refusal.Memory)
+ForkAnswer (slot.Free v place) r = (forked r ≡ 1) ⊎ ((r ≡ reply.Scalar (scalar.Refused refusal.NoFrame)) ⊎ (r ≡ reply.Scalar (scalar.Refused refusal.SharersFull)))
 
 -- if the call is a fork, its reply is as `ForkAnswer` says for the slot
 abbrev pub BySlot : ForkSlot → Call → Reply → Type 0
@@ -69,8 +70,8 @@ BySlot s c r = Unit {0}
 
 -- the reply does not end the process
 abbrev pub LeavesRunning : Reply → Type 0
-LeavesRunning (reply.Ended rule) = ⊥
-LeavesRunning (reply.Exited status) = ⊥
+LeavesRunning (reply.Scalar (scalar.Ended rule)) = ⊥
+LeavesRunning (reply.Scalar (scalar.Exited status)) = ⊥
 LeavesRunning r = Unit {0}
 
 -- ---- the process continues, with one entry more, and perhaps a child
@@ -111,19 +112,16 @@ EndsUntold t f = (f.journal.items ≡ t.journal) × ClaimsNone t.seat (view_of f
 -- the journal by the outcome: after an exit or an end by a rule one entry more says so; after Memory or JournalFull there is
 -- none more (`EndsUntold`). No call has the outcome Refused
 abbrev pub IsLastEntry : Track → Finished → Outcome → Type 0
-IsLastEntry t f (outcome.Exited status) = EndsBy t f (reply.Exited status)
-IsLastEntry t f (outcome.Ended rule) = EndsBy t f (reply.Ended rule)
+IsLastEntry t f (outcome.Exited status) = EndsBy t f (reply.Scalar (scalar.Exited status))
+IsLastEntry t f (outcome.Ended rule) = EndsBy t f (reply.Scalar (scalar.Ended rule))
 IsLastEntry t f (outcome.Refused r) = ⊥
 IsLastEntry t f outcome.Memory = EndsUntold t f
 IsLastEntry t f outcome.JournalFull = EndsUntold t f
 
-abbrev pub most_entries : ℕ
-most_entries = MOST_ENTRIES
-
 -- the reply ends the process
 abbrev pub EndsIt : Reply → Type 0
-EndsIt (reply.Ended rule) = Unit {0}
-EndsIt (reply.Exited status) = Unit {0}
+EndsIt (reply.Scalar (scalar.Ended rule)) = Unit {0}
+EndsIt (reply.Scalar (scalar.Exited status)) = Unit {0}
 EndsIt r = ⊥
 
 -- the history has no room for the page that an access reads from a file
@@ -146,14 +144,14 @@ AsksMoreRoom w p c = HasMapping p.mappings × ((v : View) × (a : ShelfState) ×
 -- 10,000 entries, or the next call asks a promise for which a history has no room; after Memory it has fewer. w is the
 -- seat's view at the end
 abbrev pub LacksJournalRoom : View → Process → List Call → List JournalEntry → Outcome → Type 0
-LacksJournalRoom w p calls journal outcome.JournalFull = (length journal ≡ most_entries) ⊎ AsksMoreRoom w p (call_at calls (length journal))
-LacksJournalRoom w p calls journal outcome.Memory = length journal < most_entries
+LacksJournalRoom w p calls journal outcome.JournalFull = (length journal ≡ MOST_ENTRIES) ⊎ AsksMoreRoom w p (call_at calls (length journal))
+LacksJournalRoom w p calls journal outcome.Memory = length journal < MOST_ENTRIES
 LacksJournalRoom w p calls journal o = Unit {0}
 
 -- the same before the process ends, for a call that is not made
 abbrev pub IsCutFor : Process → Call → List JournalEntry → Outcome → Type 0
-IsCutFor p c journal outcome.JournalFull = (length journal ≡ most_entries) ⊎ (HasMapping p.mappings × ((a : ShelfState) × LacksPageRoom p c a))
-IsCutFor p c journal outcome.Memory = length journal < most_entries
+IsCutFor p c journal outcome.JournalFull = (length journal ≡ MOST_ENTRIES) ⊎ (HasMapping p.mappings × ((a : ShelfState) × LacksPageRoom p c a))
+IsCutFor p c journal outcome.Memory = length journal < MOST_ENTRIES
 IsCutFor p c journal o = Unit {0}
 
 -- f is the end of t: its seat is at this table and holds nothing, and its journal replays
@@ -165,7 +163,7 @@ pub record IsOver (table : TableId) (t : Track) (f : Finished) : Type 0 where
   pub replays : Replays t.opening 0 0 (calls_of t) f.journal.items state
   pub last : IsLastEntry t f f.outcome
   pub full : LacksJournalRoom (view_of f.seat) state (calls_of t) f.journal.items f.outcome
-  pub few : length f.journal.items ≤ most_entries
+  pub few : length f.journal.items ≤ MOST_ENTRIES
 
 -- ---- the files
 
@@ -208,9 +206,9 @@ KeepsFilesByOutcome t f (outcome.Exited status) a b = KeepsFilesAtEnd t f a b
 KeepsFilesByOutcome t f (outcome.Ended rule) a b = KeepsFilesAtEnd t f a b
 KeepsFilesByOutcome t f (outcome.Refused r) a b = ⊥
 KeepsFilesByOutcome t f outcome.Memory a b = Unwritten t.state (next_of t) a b
-KeepsFilesByOutcome t f outcome.JournalFull a b = Unwritten t.state (next_of t) a b × ((length t.journal ≡ most_entries) ⊎ HasNoRoom t f a)
+KeepsFilesByOutcome t f outcome.JournalFull a b = Unwritten t.state (next_of t) a b × ((length t.journal ≡ MOST_ENTRIES) ⊎ HasNoRoom t f a)
 
 -- without a shelf, JournalFull ends a process only if its journal has 10,000 entries
 abbrev pub IsFullByOutcome : Track → Outcome → Type 0
-IsFullByOutcome t outcome.JournalFull = length t.journal ≡ most_entries
+IsFullByOutcome t outcome.JournalFull = length t.journal ≡ MOST_ENTRIES
 IsFullByOutcome t o = Unit {0}

@@ -41,7 +41,7 @@ pub(crate) fn access<S: FrameSeat, F: FrameSupply<Seat = S>, C: Files>(
     ensures keeps { KeepsSeats F.FrameAccess.rule store.old space.old.seat store.new space.new.seat }
 {
     if !is_width(request.width) {
-        return CallResult::Answered(JournalReply::short(ScalarReply::Refused(
+        return CallResult::Answered(JournalReply::scalar(ScalarReply::Refused(
             Refusal::BadArgument,
         )));
     }
@@ -60,7 +60,7 @@ pub(crate) fn access<S: FrameSeat, F: FrameSupply<Seat = S>, C: Files>(
     ) {
         Served::Ready => CallResult::Answered(without_service(space, store, request)),
         Served::Ended(rule) => CallResult::Ended(rule),
-        Served::Unserved(refusal) => CallResult::Cut(refusal),
+        Served::Unserved(refusal) => CallResult::Unserved(refusal),
     }
 }
 
@@ -107,5 +107,5 @@ pub(crate) fn accessed<S: FrameSeat, F: FrameAccess<Seat = S>>(
         → IsSpace (body_of S.view space.new) t (service.user_access p (request_of request)).process }
     ensures keeps { KeepsSeats F.rule store.old space.old.seat store.new space.new.seat }
 {
-    JournalReply::short(space.user_access_scalar(store, walk, request))
+    JournalReply::scalar(space.user_access(store, walk, request))
 }

@@ -38,7 +38,7 @@ use sv39_entry::{Access, Mode};
 
 impl<'a, B: RunBrand> Tracked<'a, B> {
     /// Makes the list's next call in place, if it is a user access that is aligned and that the page table grants without
-    /// service, the process has no mapping, and its journal has memory for the entry. `store` must be at the frame table of
+    /// service, and its journal has memory for the entry. `store` must be at the frame table of
     /// the run.
     ///
     /// Returns whether the call was made: if so, the process continues as after `next_call`, and no file is asked. If not,
@@ -51,7 +51,7 @@ impl<'a, B: RunBrand> Tracked<'a, B> {
         ensures not_made { result ≡ false → self.new ≡ self.old }
     {
         let made = self.parts.journal.len();
-        if made == MOST_ENTRIES || made == self.parts.journal.capacity() || self.has_mapping() {
+        if made == MOST_ENTRIES || made == self.parts.journal.capacity() {
             return false;
         }
         let Some(request) = asked(self.next()) else {
@@ -109,9 +109,9 @@ impl<'a, B: RunBrand> Tracked<'a, B> {
                 self.parts.present = present;
                 true
             }
-            CallResult::Stopped(_, _) => unreachable!(),
+            CallResult::Unpromised(_, _) => unreachable!(),
             CallResult::Ended(_) => false,
-            CallResult::Cut(_) => false,
+            CallResult::Unserved(_) => false,
         }
     }
 }

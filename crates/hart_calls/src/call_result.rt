@@ -12,9 +12,9 @@ pub(crate) enum CallResult {
     /// The model's reply. The process continues, and no child begins.
     Answered(JournalReply),
     /// A copy that stopped after this number of bytes, because the files refused to promise the page of the next byte.
-    Stopped(Refusal, usize),
+    Unpromised(Refusal, usize),
     /// The kernel ends the process by this rule.
     Ended(Rule),
     /// The files refused to promise the page that an access would read. The call was not made, and the process ends.
-    Cut(Refusal),
+    Unserved(Refusal),
 }

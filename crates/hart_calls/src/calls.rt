@@ -1,5 +1,5 @@
 // `make`, `make_there`: dispatch a call that is neither fork nor exit (access, exec, sbrk, mmap, munmap, CopyIn, CopyOut) to
-// the function that makes it in the process's space, and turn the result into a `CallResult`; exec itself (`replace`).
+// the function that makes it in the process's space, and turn the result into a `CallResult`; exec itself (`exec`).
 
 ghost use Rattle.std.specs.Prelude.{◌≡◌, ◌≤◌};
 ghost use Rattle.address_space.specs.Agreement.{body_of, IsAlive};
@@ -11,7 +11,7 @@ ghost use Rattle.process_model.specs.declared.call.Call.TheVariants as call;
 
 use crate::access::access;
 use crate::call_result::CallResult;
-use crate::copies::{copy_from, copy_to};
+use crate::copies::{copy_in, copy_out};
 use crate::journal_reply::JournalReply;
 use address_space::{AccessRequest, Space};
 use exec_segments::Image;
@@ -31,7 +31,7 @@ fn make<S: FrameSeat, F: FrameSupply<Seat = S>, C: Files>(
 ) -> CallResult
     requires fits { IsSeatOf F.FrameAccess.rule store.old space.old.seat }
     requires ready { IsAlive (body_of S.view space.old) }
-    requires stays { IsPlainCall call }
+    requires plain { IsPlainCall call }
     requires room { HasRoomFor call room }
     ensures call_result { GivesCallResult (body_of S.view space.old) (body_of S.view space.new) (C.files files.old) (λ moves.
         C.becomes files.old moves files.new) (RefusesPromise C.becomes C.can_refuse files.old) (λ n. n ≤ C.room files.new) call.entry result }
@@ -60,7 +60,7 @@ fn make<S: FrameSeat, F: FrameSupply<Seat = S>, C: Files>(
             files,
             AccessRequest::new(Access::Store, address, width, value),
         ),
-        Call::Exec { image } => replace(space, store, files, image),
+        Call::Exec { image } => exec(space, store, files, image),
         Call::Sbrk { delta } => sized(lazy_growth::sbrk(space, store, delta)),
         Call::Mmap {
             length,
@@ -73,9 +73,9 @@ fn make<S: FrameSeat, F: FrameSupply<Seat = S>, C: Files>(
         }
         Call::CopyIn { address, count } => {
             let Some(room) = room else { unreachable!() };
-            copy_from(space, store, files, Va(address), count, room)
+            copy_in(space, store, files, Va(address), count, room)
         }
-        Call::CopyOut { address, bytes } => copy_to(space, store, files, Va(address), bytes),
+        Call::CopyOut { address, bytes } => copy_out(space, store, files, Va(address), bytes),
         Call::Exit { .. } => unreachable!(),
         Call::Fork { .. } => unreachable!(),
     }
@@ -91,7 +91,7 @@ pub(crate) fn make_there<S: FrameSeat, F: FrameSupply<Seat = S>, C: Files>(
 ) -> CallResult
     requires fits { IsSeatOf F.FrameAccess.rule store.old space.old.value.seat }
     requires ready { IsAlive (body_of S.view space.old.value) }
-    requires stays { IsPlainCall call }
+    requires plain { IsPlainCall call }
     requires room { HasRoomFor call room }
     ensures call_result { GivesCallResult (body_of S.view space.old.value) (body_of S.view space.new.value) (C.files files.old) (λ moves.
         C.becomes files.old moves files.new) (RefusesPromise C.becomes C.can_refuse files.old) (λ n. n ≤ C.room files.new) call.entry result }
@@ -102,7 +102,7 @@ pub(crate) fn make_there<S: FrameSeat, F: FrameSupply<Seat = S>, C: Files>(
 
 /// Exec: replaces the process by that of `image`, which is checked for the scheme of the space first.
 #[inline(never)]
-fn replace<S: FrameSeat, F: FrameSupply<Seat = S>, C: Files>(
+fn exec<S: FrameSeat, F: FrameSupply<Seat = S>, C: Files>(
     space: &mut Space<S>,
     store: &mut F,
     files: &mut C,
@@ -117,7 +117,7 @@ fn replace<S: FrameSeat, F: FrameSupply<Seat = S>, C: Files>(
     let scheme = space.layout.scheme();
     match Image::judged(scheme, image) {
         Ok(image) => done(exec_segments::exec(space, store, &image, files)),
-        Err(part) => CallResult::Answered(JournalReply::short(ScalarReply::Refused(
+        Err(part) => CallResult::Answered(JournalReply::scalar(ScalarReply::Refused(
             Refusal::BadImage(part),
         ))),
     }
@@ -128,8 +128,8 @@ fn done(outcome: Result<(), Refusal>) -> CallResult
     ensures { result ≡ done_or_refused outcome }
 {
     match outcome {
-        Ok(()) => CallResult::Answered(JournalReply::short(ScalarReply::Done)),
-        Err(refusal) => CallResult::Answered(JournalReply::short(ScalarReply::Refused(refusal))),
+        Ok(()) => CallResult::Answered(JournalReply::scalar(ScalarReply::Done)),
+        Err(refusal) => CallResult::Answered(JournalReply::scalar(ScalarReply::Refused(refusal))),
     }
 }
 
@@ -138,8 +138,8 @@ fn mapped(address: Result<u64, Refusal>) -> CallResult
     ensures { result ≡ mapped_or_refused address }
 {
     match address {
-        Ok(address) => CallResult::Answered(JournalReply::short(ScalarReply::MappedAt(address))),
-        Err(refusal) => CallResult::Answered(JournalReply::short(ScalarReply::Refused(refusal))),
+        Ok(address) => CallResult::Answered(JournalReply::scalar(ScalarReply::MappedAt(address))),
+        Err(refusal) => CallResult::Answered(JournalReply::scalar(ScalarReply::Refused(refusal))),
     }
 }
 
@@ -148,7 +148,9 @@ fn sized(before: Result<u64, SizeError>) -> CallResult
     ensures { result ≡ size_or_refused before }
 {
     match before {
-        Ok(before) => CallResult::Answered(JournalReply::short(ScalarReply::OldSize(before))),
-        Err(error) => CallResult::Answered(JournalReply::short(ScalarReply::Refused(error.into()))),
+        Ok(before) => CallResult::Answered(JournalReply::scalar(ScalarReply::OldSize(before))),
+        Err(error) => CallResult::Answered(JournalReply::scalar(ScalarReply::Refused(
+            error.into(),
+        ))),
     }
 }

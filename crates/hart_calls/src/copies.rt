@@ -1,5 +1,6 @@
-// `copy_from`, `copy_to`: the calls CopyIn and CopyOut (copyin and copyout of xv6) in a process's space: the limit of 256
-// bytes, the copy of `user_copy`, and its end as a `CallResult`: whole, stopped by a rule, or stopped by the files.
+// `copy_in`, `copy_out`: the calls CopyIn and CopyOut (copyin and copyout of xv6) in a process's space: the limit of
+// `LONGEST_COPY` bytes, the copy of `user_copy`, and its end as a `CallResult`: whole, stopped by a rule, or stopped by the
+// files.
 ghost use Rattle.std.specs.Prelude.{◌≤◌};
 ghost use Rattle.address_space.specs.Agreement.{body_of, IsAlive};
 ghost use Rattle.frame_store.specs.Laws.{IsSeatOf, KeepsSeats};
@@ -13,13 +14,13 @@ use file_cabinet::Files;
 use frame_store::{FrameSeat, FrameSupply};
 use process_model::{LONGEST_COPY, Refusal, Reply, ScalarReply};
 use sv39_entry::Va;
-use user_copy::{Stop, copy_in, copy_out};
+use user_copy::Stop;
 
-/// Copies `count` bytes of the process, from `va` on, into the reply; more than 256 are refused with `BadArgument`. The copy
-/// stops at the first address that a rule denies or that lacks frames. If the files refuse to promise a page it is
-/// `Stopped`.
+/// Copies `count` bytes of the process, from `va` on, into the reply; more than `LONGEST_COPY` are refused with
+/// `BadArgument`. The copy stops at the first address that a rule denies or that lacks frames. If the files refuse to promise
+/// a page it is `Unpromised`.
 #[inline(never)]
-pub(crate) fn copy_from<S: FrameSeat, F: FrameSupply<Seat = S>, C: Files>(
+pub(crate) fn copy_in<S: FrameSeat, F: FrameSupply<Seat = S>, C: Files>(
     space: &mut Space<S>,
     store: &mut F,
     files: &mut C,
@@ -34,25 +35,25 @@ pub(crate) fn copy_from<S: FrameSeat, F: FrameSupply<Seat = S>, C: Files>(
     ensures keeps { KeepsSeats F.FrameAccess.rule store.old space.old.seat store.new space.new.seat }
 {
     if count > LONGEST_COPY {
-        return CallResult::Answered(JournalReply::short(ScalarReply::Refused(
+        return CallResult::Answered(JournalReply::scalar(ScalarReply::Refused(
             Refusal::BadArgument,
         )));
     }
-    match copy_in(space, store, files, va, count) {
+    match user_copy::copy_in(space, store, files, va, count) {
         Ok(bytes) => CallResult::Answered(JournalReply::long(room, Reply::CopiedIn(bytes))),
         Err(short) => match short.rule {
             Stop::Denied(rule) => {
                 CallResult::Answered(JournalReply::long(room, Reply::ShortIn(rule, short.bytes)))
             },
-            Stop::Unpromised(refusal) => CallResult::Stopped(refusal, short.done),
+            Stop::Unpromised(refusal) => CallResult::Unpromised(refusal, short.done),
         },
     }
 }
 
-/// Copies `bytes` to the process, from `va` on; more than 256 are refused with `BadArgument`. The copy stops as in
-/// `copy_from`.
+/// Copies `bytes` to the process, from `va` on; more than `LONGEST_COPY` are refused with `BadArgument`. The copy stops as in
+/// `copy_in`.
 #[inline(never)]
-pub(crate) fn copy_to<S: FrameSeat, F: FrameSupply<Seat = S>, C: Files>(
+pub(crate) fn copy_out<S: FrameSeat, F: FrameSupply<Seat = S>, C: Files>(
     space: &mut Space<S>,
     store: &mut F,
     files: &mut C,
@@ -67,17 +68,17 @@ pub(crate) fn copy_to<S: FrameSeat, F: FrameSupply<Seat = S>, C: Files>(
     ensures keeps { KeepsSeats F.FrameAccess.rule store.old space.old.seat store.new space.new.seat }
 {
     if bytes.len() > LONGEST_COPY {
-        return CallResult::Answered(JournalReply::short(ScalarReply::Refused(
+        return CallResult::Answered(JournalReply::scalar(ScalarReply::Refused(
             Refusal::BadArgument,
         )));
     }
-    match copy_out(space, store, files, va, bytes) {
-        Ok(()) => CallResult::Answered(JournalReply::short(ScalarReply::CopiedOut(bytes.len()))),
+    match user_copy::copy_out(space, store, files, va, bytes) {
+        Ok(()) => CallResult::Answered(JournalReply::scalar(ScalarReply::CopiedOut(bytes.len()))),
         Err(short) => match short.rule {
-            Stop::Denied(rule) => CallResult::Answered(JournalReply::short(ScalarReply::ShortOut(
+            Stop::Denied(rule) => CallResult::Answered(JournalReply::scalar(ScalarReply::ShortOut(
                 rule, short.done,
             ))),
-            Stop::Unpromised(refusal) => CallResult::Stopped(refusal, short.done),
+            Stop::Unpromised(refusal) => CallResult::Unpromised(refusal, short.done),
         },
     }
 }

@@ -9,15 +9,17 @@ ghost use Rattle.file_shelf.specs.ShelfStates.{HasMoves, CanRefuse};
 ghost use Rattle.hart_calls.specs.ProcessEnd.{Closes, IsCause, outcome_of};
 ghost use Rattle.hart_calls.specs.Replay.{call_of, listed_call};
 ghost use Rattle.hart_calls.specs.Track.{next_of};
-ghost use Rattle.hart_calls.specs.TurnCases.{IsCutFor, IsOver, KeepsFilesByOutcome, most_entries};
+ghost use Rattle.hart_calls.specs.TurnCases.{IsCutFor, IsOver, KeepsFilesByOutcome};
 ghost use Rattle.process_model.specs.declared.call.Outcome.TheVariants as outcome;
 ghost use Rattle.process_model.specs.Mappings.{all_written_back};
 ghost use Rattle.process_model.specs.PageMoves.{all_moves};
 ghost use Rattle.process_model.specs.Process.{Process};
 ghost use Rattle.process_model.specs.declared.call.Call.TheVariants as call;
-ghost use Rattle.process_model.specs.declared.step.Reply.TheVariants as reply;
+ghost use Rattle.process_model.specs.declared.reply.ScalarReply.TheVariants as scalar;
+ghost use Rattle.process_model.specs.declared.reply.Reply.TheVariants as reply;
 ghost use Rattle.shared_frames.specs.SeatsOfTable.{FitsIn, view_of};
 ghost use Rattle.table_walk.specs.Tables.{Tables};
+ghost use Rattle.process_model.specs.declared.limits.TheConstants.{MOST_ENTRIES};
 
 use crate::finished::Finished;
 use crate::journal_entry::{JournalEntry, Listed, PagesRead};
@@ -75,7 +77,7 @@ impl<'a, B: RunBrand> Tracked<'a, B> {
         requires store { store.old ≡ B.table }
         requires next { next_of self ≡ call.Exit status }
         requires room { 0 < self.room }
-        requires few { length self.journal < most_entries }
+        requires few { length self.journal < MOST_ENTRIES }
         ensures store { store.new ≡ B.table }
         ensures over { IsOver B.table self.entry result }
         ensures files { KeepsFilesByOutcome self.entry result result.outcome shelf.old shelf.new }
@@ -91,14 +93,14 @@ impl<'a, B: RunBrand> Tracked<'a, B> {
 /// The journal entry of an exit.
 fn exit_entry<'a>(listed: Listed<'a>, status: i32, before: ModelProcess) -> JournalEntry<'a>
     ensures call { call_of result ≡ listed_call listed.entry }
-    ensures reply { result.reply ≡ reply.Exited status }
+    ensures reply { result.reply ≡ reply.Scalar (scalar.Exited status) }
     ensures pages { result.pages ≡ [] }
     ensures file { result.file ≡ None }
     ensures before { result.before.state ≡ before.state }
 {
     JournalEntry::new(
         listed,
-        JournalReply::short(ScalarReply::Exited(status)),
+        JournalReply::scalar(ScalarReply::Exited(status)),
         PagesRead::none(),
         None,
         before,

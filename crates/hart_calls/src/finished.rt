@@ -1,5 +1,5 @@
 // `Finished` (struct): what is left of a process that ended, or whose start was refused: its name, outcome, journal (its
-// calls with their replies) and seat (an owner's capability at a frame store), which holds nothing.
+// calls with their replies) and seat, which holds nothing.
 
 use crate::journal_entry::JournalEntry;
 use process_model::Outcome;

@@ -1,5 +1,5 @@
 // The call fork on threads: `Tracked::fork` appends its journal entry and returns the child, by `fork_with`, or none if
-// it is refused (NoSlot, Memory, NoFrame, SharersFull); `Tracked::child_place` allocates host memory for the child's space
+// it is refused (NoSlot, Memory, NoFrame, SharersFull); `Tracked::child_room` allocates host memory for the child's space
 // before.
 
 ghost use Rattle.std.specs.Prelude.{[], ◌∷◌, ◌≡◌, ◌≢◌, ◌<◌, IfErr, IfOk, length, List, None};
@@ -11,19 +11,20 @@ ghost use Rattle.frame_store.specs.Laws.{IsSeatOf, KeepsSeats};
 ghost use Rattle.frame_store.specs.View.{IsHeld};
 ghost use Rattle.hart_calls.specs.Replay.{call_of, listed_call};
 ghost use Rattle.hart_calls.specs.Track.{child_name, next_of};
-ghost use Rattle.hart_calls.specs.TurnCases.{ForkAnswer, ContinuesTurn, IsNamed, most_entries};
+ghost use Rattle.hart_calls.specs.TurnCases.{ForkAnswer, ContinuesTurn, IsNamed};
 ghost use Rattle.hart_calls.specs.Shortages.{IsForkRefusal};
 ghost use Rattle.hart_calls.specs.declared.fork_slot.ForkSlot.TheVariants as slot;
 ghost use Rattle.process_model.specs.declared.call.Call.TheVariants as call;
-ghost use Rattle.process_model.specs.declared.step.Refusal.TheVariants.{NoFrame, SharersFull};
-ghost use Rattle.process_model.specs.declared.step.Reply.TheVariants as reply;
-ghost use Rattle.process_model.specs.ScalarReplies.{reply_of_scalar};
+ghost use Rattle.process_model.specs.declared.reply.Refusal.TheVariants.{NoFrame, SharersFull};
+ghost use Rattle.process_model.specs.declared.reply.ScalarReply.TheVariants as scalar;
+ghost use Rattle.process_model.specs.declared.reply.Reply.TheVariants.{Scalar};
 ghost use Rattle.process_model.specs.Frames as model;
 ghost use Rattle.process_model.specs.Process.{Process};
 ghost use Rattle.shared_frames.specs.SeatsOfTable.{FitsIn, view_of};
 ghost use Rattle.table_walk.specs.Tables.{Tables};
+ghost use Rattle.process_model.specs.declared.limits.TheConstants.{MOST_ENTRIES, MOST_REFERENCES};
 
-use crate::fork_slot::{ForkSlot, Place};
+use crate::fork_slot::{ChildRoom, ForkSlot};
 use crate::journal_entry::{JournalEntry, Listed, PagesRead};
 use crate::journal_reply::JournalReply;
 use crate::model_process::ModelProcess;
@@ -40,22 +41,22 @@ use std::mem;
 use std::sync::Wait;
 
 impl<'a, B: RunBrand> Tracked<'a, B> {
-    /// Allocates a place for the space of the next child, which a fork needs (`ForkSlot::Free`), and before the first fork
+    /// Allocates room for the space of the next child, which a fork needs (`ForkSlot::Free`), and before the first fork
     /// room to list the process's settled pages. `store` must be at the frame table of the run. The process is unchanged.
     ///
     /// # Errors
     /// `AllocError`: the host is out of memory. The process is unchanged then too.
-    pub fn child_place<R: Wait>(
+    pub fn child_room<R: Wait>(
         &mut self,
         store: &mut SharedSupply<'_, R>,
-    ) -> Result<Place, AllocError>
+    ) -> Result<ChildRoom, AllocError>
         requires store { store.old ≡ B.table }
         ensures store { store.new ≡ B.table }
         ensures same { self.new ≡ self.old }
     {
         room_for_list(self.parts.alloc, &mut self.parts.settled)?;
-        let bare = bare_there(&mut self.parts.space, store);
-        Place::new(self.parts.alloc, bare)
+        let bare = split_empty_there(&mut self.parts.space, store);
+        ChildRoom::new(self.parts.alloc, bare)
     }
 
     /// Makes the next call, a fork. Returns the process with one journal entry more and, if the reply is `Forked`, its
@@ -71,39 +72,39 @@ impl<'a, B: RunBrand> Tracked<'a, B> {
         requires store { store.old ≡ B.table }
         requires next { next_of self ≡ call.Fork list }
         requires room { 0 < self.room }
-        requires few { length self.journal < most_entries }
+        requires few { length self.journal < MOST_ENTRIES }
         requires slot { IsNamed slot (child_name self) }
         ensures store { store.new ≡ B.table }
         ensures goes { ContinuesTurn self.entry result.0 result.1 slot }
     {
         match slot {
-            ForkSlot::Free(name, place) => self.divide(store, list, name, place),
+            ForkSlot::Free(name, room) => self.fork_into(store, list, name, room),
             ForkSlot::NoSlot => (
-                self.unforked(list, Refusal::NoSlot, &ForkSlot::NoSlot),
+                self.refuse_fork(list, Refusal::NoSlot, &ForkSlot::NoSlot),
                 None,
             ),
             ForkSlot::Memory => (
-                self.unforked(list, Refusal::Memory, &ForkSlot::Memory),
+                self.refuse_fork(list, Refusal::Memory, &ForkSlot::Memory),
                 None,
             ),
         }
     }
 
-    /// A fork with a slot: the child's name, and a place for its space.
-    fn divide<R: Wait>(
+    /// A fork with a slot: the child's name, and room for its space.
+    fn fork_into<R: Wait>(
         self,
         store: &mut SharedSupply<'_, R>,
         list: usize,
         name: Vec<u64>,
-        place: Place,
+        room: ChildRoom,
     ) -> (Tracked<'a, B>, Option<Tracked<'a, B>>)
         requires store { store.old ≡ B.table }
         requires next { next_of self ≡ call.Fork list }
         requires room { 0 < self.room }
-        requires few { length self.journal < most_entries }
+        requires few { length self.journal < MOST_ENTRIES }
         requires named { name.items ≡ child_name self }
         ensures store { store.new ≡ B.table }
-        ensures goes { ContinuesTurn self.entry result.0 result.1 (slot.Free name place) }
+        ensures goes { ContinuesTurn self.entry result.0 result.1 (slot.Free name room) }
     {
         let number = self.children();
         let listed = self.listed();
@@ -117,7 +118,7 @@ impl<'a, B: RunBrand> Tracked<'a, B> {
                 let entry = answer(listed, ScalarReply::Forked(number), before);
                 let opening = parts.present.of_child();
                 let layout = parts.space.layout.copied();
-                let space = place.fill(child, layout);
+                let space = room.fill(child, layout);
                 let child = Tracked::new(parts.alloc, opening, space, name, parts.lists, list);
                 let present = parts.present.after_fork();
                 (append_entry(parts, present, entry), Some(child))
@@ -131,12 +132,12 @@ impl<'a, B: RunBrand> Tracked<'a, B> {
     }
 
     /// A fork that is refused for want of a slot or of host memory.
-    fn unforked(self, list: usize, refusal: Refusal, slot: &ForkSlot) -> Tracked<'a, B>
+    fn refuse_fork(self, list: usize, refusal: Refusal, slot: &ForkSlot) -> Tracked<'a, B>
         requires next { next_of self ≡ call.Fork list }
         requires room { 0 < self.room }
-        requires few { length self.journal < most_entries }
+        requires few { length self.journal < MOST_ENTRIES }
         requires refusal { IsForkRefusal refusal }
-        requires answer { ForkAnswer slot.now (reply.Refused refusal) }
+        requires answer { ForkAnswer slot.now (Scalar (scalar.Refused refusal)) }
         requires framed { refusal ≢ NoFrame }
         requires counted { refusal ≢ SharersFull }
         ensures goes { ContinuesTurn self.entry result None slot.now }
@@ -178,7 +179,7 @@ fn fork_there<S: FrameSeat, F: FrameSupply<Seat = S>>(
         → IsSpace (body_of S.view space.new.value) t p) }
     ensures dry { IsNoFrameError result → (t : Tables) (p : Process) → IsSpace (body_of S.view space.old.value) t p
         → RunsDry (S.view space.old.value.seat) (S.view space.new.value.seat) (model.fork_need p) [] }
-    ensures full { IsSharersFullError result → TakesFrames (S.view space.old.value.seat) (S.view space.new.value.seat) 0 (65535 ∷ []) }
+    ensures full { IsSharersFullError result → TakesFrames (S.view space.old.value.seat) (S.view space.new.value.seat) 0 (MOST_REFERENCES ∷ []) }
     ensures layout { space.new.value.layout ≡ space.old.value.layout }
     ensures keeps { IfOk result (λ child. (others : List S) → F.FrameAccess.rule store.old (space.old.value.seat ∷ others)
         → F.FrameAccess.rule store.new (space.new.value.seat ∷ child.seat ∷ others)) }
@@ -204,7 +205,7 @@ fn fork_unlisted<S: FrameSeat, F: FrameSupply<Seat = S>>(
     ensures whole { IfErr result (λ _. (t : Tables) (p : Process) → IsSpace (body_of S.view space.old) t p → IsSpace (body_of S.view space.new) t p) }
     ensures dry { IsNoFrameError result → (t : Tables) (p : Process) → IsSpace (body_of S.view space.old) t p
         → RunsDry (S.view space.old.seat) (S.view space.new.seat) (model.fork_need p) [] }
-    ensures full { IsSharersFullError result → TakesFrames (S.view space.old.seat) (S.view space.new.seat) 0 (65535 ∷ []) }
+    ensures full { IsSharersFullError result → TakesFrames (S.view space.old.seat) (S.view space.new.seat) 0 (MOST_REFERENCES ∷ []) }
     ensures layout { space.new.layout ≡ space.old.layout }
     ensures keeps { IfOk result (λ child. (others : List S) → F.FrameAccess.rule store.old (space.old.seat ∷ others)
         → F.FrameAccess.rule store.new (space.new.seat ∷ child.seat ∷ others)) }
@@ -215,7 +216,7 @@ fn fork_unlisted<S: FrameSeat, F: FrameSupply<Seat = S>>(
 }
 
 /// Splits an empty seat off the seat of a space in a box.
-fn bare_there<R: Wait>(
+fn split_empty_there<R: Wait>(
     space: &mut Box<Space<SharedSeat>>,
     store: &mut SharedSupply<'_, R>,
 ) -> SharedSeat
@@ -229,11 +230,11 @@ fn bare_there<R: Wait>(
     ensures trapframe { space.new.value.trapframe ≡ space.old.value.trapframe }
     ensures layout { space.new.value.layout ≡ space.old.value.layout }
 {
-    bare_beside(space, store)
+    split_empty_seat(space, store)
 }
 
 /// Splits an empty seat off the seat of a space.
-fn bare_beside<R: Wait>(
+fn split_empty_seat<R: Wait>(
     space: &mut Space<SharedSeat>,
     store: &mut SharedSupply<'_, R>,
 ) -> SharedSeat
@@ -251,14 +252,14 @@ fn bare_beside<R: Wait>(
 /// The journal entry of a fork.
 fn answer<'a>(listed: Listed<'a>, reply: ScalarReply, before: ModelProcess) -> JournalEntry<'a>
     ensures call { call_of result ≡ listed_call listed.entry }
-    ensures reply { result.reply ≡ reply_of_scalar reply }
+    ensures reply { result.reply ≡ Scalar reply }
     ensures pages { result.pages ≡ [] }
     ensures file { result.file ≡ None }
     ensures before { result.before.state ≡ before.state }
 {
     JournalEntry::new(
         listed,
-        JournalReply::short(reply),
+        JournalReply::scalar(reply),
         PagesRead::none(),
         None,
         before,

@@ -1,5 +1,5 @@
-// `ForkSlot` (enum): what `next_call` is given for a fork's child: a name and a `Place`, or why the fork is refused (no free
-// slot, a place in the process table; no host memory). `Place` (struct): host memory for the child's space, with a filler
+// `ForkSlot` (enum): what `next_call` is given for a fork's child: a name and a `ChildRoom`, or why the fork is refused (no free
+// slot, a place in the process table; no host memory). `ChildRoom` (struct): host memory for the child's space, with a filler
 // until then.
 
 ghost use Rattle.std.specs.Prelude.{◌≡◌};
@@ -14,19 +14,19 @@ use sv39_entry::{FrameNo, Scheme};
 
 /// Host memory for a child's space. It is allocated before the fork, so a fork for which the host has no memory changes
 /// nothing. Until the fork it has a filler, which is no process and whose seat holds no frame and has none reserved
-/// (`bare`), so none is lost with it. `Tracked::child_place` makes one.
+/// (`bare`), so none is lost with it. `Tracked::child_room` makes one.
 #[derive(Drop)]
-pub struct Place {
+pub struct ChildRoom {
     pub(crate) space: Box<Space<SharedSeat>>,
     pub ghost bare: { IsBare (view_of space.value.seat) },
 }
 
-impl Place {
-    /// Allocates a place, with a filler on the seat `bare`.
+impl ChildRoom {
+    /// Allocates the room, with a filler on the seat `bare`.
     ///
     /// # Errors
     /// `AllocError`: the host is out of memory.
-    pub(crate) fn new(alloc: Global, bare: SharedSeat) -> Result<Place, AllocError>
+    pub(crate) fn new(alloc: Global, bare: SharedSeat) -> Result<ChildRoom, AllocError>
         requires bare { IsBare (view_of bare) }
     {
         let nobody = Space {
@@ -36,22 +36,16 @@ impl Place {
             layout: Layout::new(Scheme::Sv39, &[]),
         };
         let space = Box::new(alloc, nobody)?;
-        Ok(Place { space })
+        Ok(ChildRoom { space })
     }
 
-    /// Puts the child's space, of what a fork made and a copy of the parent's layout, in its place, and returns it there.
+    /// Puts the child's space, of what a fork made and a copy of the parent's layout, in this room, and returns it there.
     #[inline(always)]
     pub(crate) fn fill(self, child: Child<SharedSeat>, layout: Layout) -> Box<Space<SharedSeat>>
         ensures { result.value ≡ record { seat = child.seat; root = child.root; trapframe = child.trapframe; layout = layout } }
     {
-        let Place { mut space } = self;
-        let made = Space {
-            seat: child.seat,
-            root: child.root,
-            trapframe: child.trapframe,
-            layout,
-        };
-        let _nobody = Box::replace(&mut space, made);
+        let ChildRoom { mut space } = self;
+        let _nobody = Box::replace(&mut space, child.space(layout));
         space
     }
 }
@@ -60,9 +54,9 @@ impl Place {
 /// no fork needs no slot, and takes any of these.
 #[derive(Drop)]
 pub enum ForkSlot {
-    /// The child's name, which must be `Tracked::child_name`, and a place for its space, from `Tracked::child_place`. The
+    /// The child's name, which must be `Tracked::child_name`, and room for its space, from `Tracked::child_room`. The
     /// fork may still be refused, with `NoFrame` or `SharersFull`.
-    Free(Vec<u64>, Place),
+    Free(Vec<u64>, ChildRoom),
     /// Every slot is in use: a fork is refused with `NoSlot`.
     NoSlot,
     /// The host has no memory for another process: a fork is refused with `Memory`.

@@ -6,7 +6,7 @@ ghost use Rattle.std.specs.Prelude.{◌≡◌, IfOk};
 ghost use Rattle.hart_calls.specs.CallKinds.{HasRoomFor};
 ghost use Rattle.hart_calls.specs.JournalReplies.{kept_reply, stored_reply};
 ghost use Rattle.hart_calls.specs.Replay.{forked};
-ghost use Rattle.process_model.specs.ScalarReplies.{reply_of_scalar};
+ghost use Rattle.process_model.specs.declared.reply.Reply.TheVariants.{Scalar};
 
 use process_model::{Call, Refusal, Reply, ScalarReply};
 use std::alloc::{AllocError, Global};
@@ -41,7 +41,7 @@ impl Kept {
     /// Keeps a reply that carries no bytes.
     #[inline(always)]
     fn scalar(scalar: ScalarReply) -> Kept
-        ensures { kept_reply result ≡ reply_of_scalar scalar }
+        ensures { kept_reply result ≡ Scalar scalar }
     {
         match scalar {
             ScalarReply::Done => Kept::Done,
@@ -69,7 +69,7 @@ impl Kept {
 #[derive(Clone, Copy)]
 pub enum StoredReply<'r> {
     /// A reply that carries no bytes.
-    ScalarReply(ScalarReply),
+    Scalar(ScalarReply),
     /// A reply that may carry bytes.
     Long(&'r Reply),
 }
@@ -83,7 +83,7 @@ pub struct JournalReply {
 
 impl Model for JournalReply {
     ghost use Rattle.hart_calls.specs.JournalReplies.{kept_reply};
-    ghost use Rattle.process_model.specs.declared.step.Reply.{Reply};
+    ghost use Rattle.process_model.specs.declared.reply.Reply.{Reply};
 
     ghost Value = { Reply };
 
@@ -92,8 +92,8 @@ impl Model for JournalReply {
 
 impl JournalReply {
     /// Stores a reply that carries no bytes.
-    pub(crate) fn short(scalar: ScalarReply) -> JournalReply
-        ensures { result ≡ reply_of_scalar scalar }
+    pub(crate) fn scalar(scalar: ScalarReply) -> JournalReply
+        ensures { result ≡ Scalar scalar }
     {
         JournalReply {
             kept: Kept::scalar(scalar),
@@ -122,30 +122,30 @@ impl JournalReply {
         }
     }
 
-    /// Returns the reply: `ScalarReply` if it carries no bytes, else `Long`.
+    /// Returns the reply: `Scalar` if it carries no bytes, else `Long`.
     pub fn kept(&self) -> StoredReply<'_>
         ensures { stored_reply result ≡ self.now }
     {
         match &self.kept {
-            Kept::Done => StoredReply::ScalarReply(ScalarReply::Done),
-            Kept::Started(slot) => StoredReply::ScalarReply(ScalarReply::Started(*slot)),
-            Kept::Forked(slot) => StoredReply::ScalarReply(ScalarReply::Forked(*slot)),
-            Kept::Value(value) => StoredReply::ScalarReply(ScalarReply::Value(*value)),
-            Kept::Stored => StoredReply::ScalarReply(ScalarReply::Stored),
-            Kept::Fault(cause) => StoredReply::ScalarReply(ScalarReply::Fault(*cause)),
-            Kept::Filled(entry) => StoredReply::ScalarReply(ScalarReply::Filled(*entry)),
-            Kept::NothingFilled => StoredReply::ScalarReply(ScalarReply::NothingFilled),
-            Kept::InFrame(frame) => StoredReply::ScalarReply(ScalarReply::InFrame(*frame)),
-            Kept::Ready => StoredReply::ScalarReply(ScalarReply::Ready),
-            Kept::Ended(rule) => StoredReply::ScalarReply(ScalarReply::Ended(*rule)),
-            Kept::OldSize(size) => StoredReply::ScalarReply(ScalarReply::OldSize(*size)),
-            Kept::MappedAt(address) => StoredReply::ScalarReply(ScalarReply::MappedAt(*address)),
-            Kept::CopiedOut(count) => StoredReply::ScalarReply(ScalarReply::CopiedOut(*count)),
-            Kept::ShortOut(rule, count) => StoredReply::ScalarReply(ScalarReply::ShortOut(
+            Kept::Done => StoredReply::Scalar(ScalarReply::Done),
+            Kept::Started(slot) => StoredReply::Scalar(ScalarReply::Started(*slot)),
+            Kept::Forked(slot) => StoredReply::Scalar(ScalarReply::Forked(*slot)),
+            Kept::Value(value) => StoredReply::Scalar(ScalarReply::Value(*value)),
+            Kept::Stored => StoredReply::Scalar(ScalarReply::Stored),
+            Kept::Fault(cause) => StoredReply::Scalar(ScalarReply::Fault(*cause)),
+            Kept::Filled(entry) => StoredReply::Scalar(ScalarReply::Filled(*entry)),
+            Kept::NothingFilled => StoredReply::Scalar(ScalarReply::NothingFilled),
+            Kept::InFrame(frame) => StoredReply::Scalar(ScalarReply::InFrame(*frame)),
+            Kept::Ready => StoredReply::Scalar(ScalarReply::Ready),
+            Kept::Ended(rule) => StoredReply::Scalar(ScalarReply::Ended(*rule)),
+            Kept::OldSize(size) => StoredReply::Scalar(ScalarReply::OldSize(*size)),
+            Kept::MappedAt(address) => StoredReply::Scalar(ScalarReply::MappedAt(*address)),
+            Kept::CopiedOut(count) => StoredReply::Scalar(ScalarReply::CopiedOut(*count)),
+            Kept::ShortOut(rule, count) => StoredReply::Scalar(ScalarReply::ShortOut(
                 *rule, *count,
             )),
-            Kept::Exited(status) => StoredReply::ScalarReply(ScalarReply::Exited(*status)),
-            Kept::Refused(refusal) => StoredReply::ScalarReply(ScalarReply::Refused(*refusal)),
+            Kept::Exited(status) => StoredReply::Scalar(ScalarReply::Exited(*status)),
+            Kept::Refused(refusal) => StoredReply::Scalar(ScalarReply::Refused(*refusal)),
             Kept::Long(reply) => StoredReply::Long(reply),
         }
     }
@@ -156,7 +156,7 @@ fn forked_by(reply: &Reply) -> usize
     ensures { result ≡ forked reply.now }
 {
     match reply {
-        Reply::Forked(_) => 1,
+        Reply::Scalar(ScalarReply::Forked(_)) => 1,
         _ => 0,
     }
 }
@@ -172,7 +172,7 @@ pub(crate) fn room_for_reply(
     ensures { IfOk result (λ room. HasRoomFor call.entry room) }
 {
     match call {
-        Call::CopyIn { .. } => Ok(Some(Box::new(alloc, Reply::Done)?)),
+        Call::CopyIn { .. } => Ok(Some(Box::new(alloc, Reply::Scalar(ScalarReply::Done))?)),
         _ => Ok(None),
     }
 }

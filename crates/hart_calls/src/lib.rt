@@ -25,7 +25,7 @@ mod tracked;
 mod turn;
 
 pub use finished::Finished;
-pub use fork_slot::{ForkSlot, Place};
+pub use fork_slot::{ChildRoom, ForkSlot};
 pub use journal_entry::{JournalEntry, PagesRead};
 pub use journal_reply::{JournalReply, StoredReply};
 pub use model_process::{ModelProcess, begun};

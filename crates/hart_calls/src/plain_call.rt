@@ -10,9 +10,10 @@ ghost use Rattle.hart_calls.specs.Replay.{call_at, call_of, forks, IsReplayStep,
 ghost use Rattle.hart_calls.specs.CallOutcomes.{file_of, call_outcome};
 ghost use Rattle.hart_calls.specs.Track.{NameLists, next_of};
 ghost use Rattle.hart_calls.specs.TurnResults.{HasFilesAfter, HasTurned};
-ghost use Rattle.hart_calls.specs.TurnCases.{most_entries};
+ghost use Rattle.process_model.specs.declared.limits.TheConstants.{MOST_ENTRIES};
 ghost use Rattle.process_model.specs.Files.{File};
-ghost use Rattle.process_model.specs.declared.step.Reply.TheVariants as reply;
+ghost use Rattle.process_model.specs.declared.reply.ScalarReply.TheVariants as scalar;
+ghost use Rattle.process_model.specs.declared.reply.Reply.TheVariants as reply;
 ghost use Rattle.shared_frames.specs.SeatsOfTable.{FitsIn, view_of};
 ghost use Rattle.table_walk.specs.Tables.{Tables};
 
@@ -49,9 +50,9 @@ impl<'a, B: RunBrand> Tracked<'a, B> {
     ) -> Turn<'a, B>
         requires store { store.old ≡ B.table }
         requires next { call ≡ next_of self }
-        requires stays { IsPlainCall call }
+        requires plain { IsPlainCall call }
         requires room { 0 < self.room }
-        requires few { length self.journal < most_entries }
+        requires few { length self.journal < MOST_ENTRIES }
         requires none { pages.value.items ≡ [] }
         requires pages { 2 ≤ vec_capacity pages.value }
         requires long { HasRoomFor call room }
@@ -74,8 +75,8 @@ impl<'a, B: RunBrand> Tracked<'a, B> {
                 let entry = JournalEntry::new(listed, reply, pages, file, was);
                 Turn::Continues(append_entry(parts, present, entry), None)
             }
-            CallResult::Stopped(refusal, done) => {
-                let reply = JournalReply::short(ScalarReply::Refused(refusal));
+            CallResult::Unpromised(refusal, done) => {
+                let reply = JournalReply::scalar(ScalarReply::Refused(refusal));
                 let present = state_after(&parts.present, before, call, &reply, Some(done));
                 let entry = JournalEntry::new(listed, reply, pages, file, was);
                 Turn::Continues(append_entry(parts, present, entry), None)
@@ -84,7 +85,7 @@ impl<'a, B: RunBrand> Tracked<'a, B> {
                 let entry = last_entry(listed, rule, pages, file, was);
                 Turn::Over(close::<B, R>(parts, store, shelf, entry, Outcome::Ended(rule)))
             }
-            CallResult::Cut(refusal) => {
+            CallResult::Unserved(refusal) => {
                 let tracked: Tracked<'a, B> = Tracked {
                     parts,
                     of: PhantomData,
@@ -104,14 +105,14 @@ fn last_entry<'a>(
     before: ModelProcess,
 ) -> JournalEntry<'a>
     ensures call { call_of result ≡ listed_call listed.entry }
-    ensures reply { result.reply ≡ reply.Ended rule }
+    ensures reply { result.reply ≡ reply.Scalar (scalar.Ended rule) }
     ensures pages { result.pages ≡ pages }
     ensures file { result.file ≡ file }
     ensures before { result.before.state ≡ before.state }
 {
     JournalEntry::new(
         listed,
-        JournalReply::short(ScalarReply::Ended(rule)),
+        JournalReply::scalar(ScalarReply::Ended(rule)),
         pages,
         file,
         before,
@@ -132,7 +133,7 @@ pub(crate) fn append_entry<'a, B: RunBrand>(
     requires named { NameLists parts.lists.now }
     requires there { parts.list < length parts.lists.now }
     requires room { vec_len parts.journal < vec_capacity parts.journal }
-    requires few { length parts.journal.items < most_entries }
+    requires few { length parts.journal.items < MOST_ENTRIES }
     requires children { parts.children ≡ forks parts.journal.items }
     ensures name { result.name ≡ parts.entry.name.items }
     ensures lists { result.lists ≡ parts.entry.lists.now }

@@ -44,9 +44,9 @@ pub(crate) struct TrackedParts<'a> {
     pub(crate) space: Box<Space<SharedSeat>>,
 }
 
-/// An unfinished process, its list of calls and its journal. Type invariant: the journal, of at most 10,000 entries, replays
-/// in the model along the list, from the process that it began with to the present one; the space agrees with the present
-/// one; the seat is at the frame table of the run `B`.
+/// An unfinished process, its list of calls and its journal. Type invariant: the journal, of at most `MOST_ENTRIES` entries,
+/// replays in the model along the list, from the process that it began with to the present one; the space agrees with the
+/// present one; the seat is at the frame table of the run `B`.
 #[derive(Drop)]
 pub struct Tracked<'a, B: RunBrand> {
     pub(crate) parts: TrackedParts<'a>,
@@ -61,7 +61,7 @@ impl<'a, B: RunBrand> Model for Tracked<'a, B> {
     ghost use Rattle.hart_calls.specs.ProcessCodes.{process_code};
     ghost use Rattle.hart_calls.specs.Replay.{forks, list_at, Replays};
     ghost use Rattle.hart_calls.specs.Track.{NameLists, Track};
-    ghost use Rattle.hart_calls.specs.TurnCases.{most_entries};
+    ghost use Rattle.process_model.specs.declared.limits.TheConstants.{MOST_ENTRIES};
     ghost use Rattle.shared_frames.specs.SeatsOfTable.{FitsIn, view_of};
     ghost use Rattle.table_walk.specs.Tables.{Tables};
 
@@ -85,7 +85,7 @@ impl<'a, B: RunBrand> Model for Tracked<'a, B> {
         × Replays x.parts.opening.state 0 0 (list_at x.parts.lists.now x.parts.list) x.parts.journal.items x.parts.present.state
         × NameLists x.parts.lists.now
         × (x.parts.list < length x.parts.lists.now)
-        × (length x.parts.journal.items ≤ most_entries)
+        × (length x.parts.journal.items ≤ MOST_ENTRIES)
         × (x.parts.children ≡ forks x.parts.journal.items) };
 }
 

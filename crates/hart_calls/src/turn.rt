@@ -1,6 +1,5 @@
 // `Tracked::next_call` makes an unfinished process's next call, with a shelf (files that threads share, and their history)
-// or without. `Turn` (enum) is what that leaves: the process, perhaps with a child, or its end. `MOST_ENTRIES`: how many
-// entries a journal (a process's calls with their replies) can have.
+// or without. `Turn` (enum) is what that leaves: the process, perhaps with a child, or its end.
 
 ghost use Rattle.std.specs.Prelude.{[], ◌≡◌, ◌<◌, ◌≤◌, IfOk, vec_capacity};
 ghost use Rattle.hart_calls.specs.CallKinds.{HasRoomFor};
@@ -51,7 +50,7 @@ impl<'a, B: RunBrand> Tracked<'a, B> {
     /// true.
     ///
     /// The reply is or names `NoFrame` only if the seat read the free count as 0 in this call, with fewer frames reserved
-    /// than were then needed; a fork's reply is `SharersFull` only if the seat read a reference count of 65,535.
+    /// than were then needed; a fork's reply is `SharersFull` only if the seat read a reference count of `MOST_REFERENCES`.
     ///
     /// `JournalFull` ends the process only if its journal has `MOST_ENTRIES` entries or, with a shelf, if the history lacks
     /// room for the page that an access reads, or for what a call that ends the process reads and the end writes. `Memory`

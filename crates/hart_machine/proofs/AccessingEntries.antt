@@ -1,5 +1,5 @@
--- Lemmas on accesses by an entry of a hart's buffer (TLB): it matches if and only if the model's has the key; it answers as
--- a walk by a table that the phase allows does (`answer_is`), and in user mode by the process's table (`user_served`).
+-- Lemmas on accesses by an entry of a hart's TLB: it matches if and only if the model's has the key; it answers as a walk by
+-- a table that the phase allows does (`answer_is`), and in user mode by the process's table (`user_served`).
 use Rattle.std.proofs.Common.{◌≡◌, ◌⊎◌, ℕ, ◌+◌, ◌*◌, ◌/◌, ◌^◌, ◌==◌, ◌&&◌, ◌||◌, get_or, Bool, true, false, List, Option, None, Some, option_map, map, refl, ap, sym, subst, ◌∙◌, inl, inr, arith, if◌then◌else◌}
 use Rattle.std.specs.Prelude.{Contains, Err, IfOk, is_ok, IsOk, Ok, Result, slice_get}
 use Rattle.std.proofs.lemmas.Bool.{eqb-true}

@@ -12,8 +12,9 @@ use Rattle.process_model.specs.Process.{Page, Process, regions}
 use Rattle.process_model.specs.Regions.{first_rule}
 use Rattle.process_model.specs.Residence.{access_answer, with_page}
 use Rattle.process_model.specs.Service.{Answer, AccessRequest, faulted, if_resident, if_settled, unless_denied, user_access}
-use Rattle.process_model.specs.declared.step.Reply.{Reply}
-use Rattle.process_model.specs.declared.step.Reply.TheVariants.{Fault, Stored, Value}
+use Rattle.process_model.specs.declared.reply.Reply.{Reply}
+use Rattle.process_model.specs.declared.reply.ScalarReply.TheVariants.{Fault, Stored, Value}
+use Rattle.process_model.specs.declared.reply.Reply.TheVariants.{Scalar}
 use Rattle.sv39_entry.specs.Address.{page_of}
 use Rattle.sv39_entry.specs.declared.access.Access.{Access}
 use Rattle.sv39_entry.specs.declared.access.Access.TheVariants.{Fetch, Load, Store}
@@ -37,14 +38,14 @@ has_own p n a there = (a, there, refl)
 
 -- what an access answers, and what its process has pending then
 abbrev pub IsAnswer : Reply → Type 0
-IsAnswer r = ((cause : ℕ) × (r ≡ Fault cause)) ⊎ (((x : ℕ) × (r ≡ Value x)) ⊎ (r ≡ Stored))
+IsAnswer r = ((cause : ℕ) × (r ≡ Scalar (Fault cause))) ⊎ (((x : ℕ) × (r ≡ Scalar (Value x))) ⊎ (r ≡ Scalar Stored))
 
 copy_stays : (access : Access) (s : Page) (offset width value : ℕ) → ((access_answer access s offset width value).1).copy ≡ s.copy
 copy_stays Store s offset width value = refl
 copy_stays Load s offset width value = refl
 copy_stays Fetch s offset width value = refl
 
-answers_so : (access : Access) (s : Page) (offset width value : ℕ) → ((x : ℕ) × ((access_answer access s offset width value).0 ≡ Value x)) ⊎ ((access_answer access s offset width value).0 ≡ Stored)
+answers_so : (access : Access) (s : Page) (offset width value : ℕ) → ((x : ℕ) × ((access_answer access s offset width value).0 ≡ Scalar (Value x))) ⊎ ((access_answer access s offset width value).0 ≡ Scalar Stored)
 answers_so Store s offset width value = inr refl
 answers_so Load s offset width value = inl (_, refl)
 answers_so Fetch s offset width value = inl (_, refl)
@@ -58,7 +59,7 @@ module _ (p : Process) (x : AccessRequest) where
   so_faulted : (cause : ℕ) → IsSo (faulted p x cause)
   so_faulted cause = record { answers = inl (_, refl); has = has_own p; waits = refl }
 
-  nothing_waits : (r : Reply) → ((y : ℕ) × (r ≡ Value y)) ⊎ (r ≡ Stored) → None ≡ pending_after x r
+  nothing_waits : (r : Reply) → ((y : ℕ) × (r ≡ Scalar (Value y))) ⊎ (r ≡ Scalar Stored) → None ≡ pending_after x r
   nothing_waits r (inl value) = rw value.1 refl
   nothing_waits r (inr stored) = rw stored refl
 

@@ -1,5 +1,5 @@
 -- Lemmas: the machine is in the model's world (state) after one process's bytes or pending access changed (`bytes_change`),
--- as by a user access (`access_changes`); and on the seats (an owner's capability at a frame store) of the machine.
+-- as by a user access (`access_changes`); and on the seats of the machine.
 use Rattle.std.proofs.Common.{◌≡◌, ℕ, get_or, Option, None, Some, List, [], ◌∷◌, map, ap, sym, ◌∙◌}
 use Rattle.std.specs.Prelude.{slice_get, slice_set}
 use Rattle.std.specs.Vec.{with_item}

@@ -1,5 +1,5 @@
 -- Lemmas for `boot`: the new machine is in the model's world (state) after boot, with empty buffers, the TLBs (`boots`,
--- `boots_in`); and a configuration that can boot has at most 64 slots (places in the process table).
+-- `boots_in`); and a configuration that can boot has at most 64 slots.
 use Rattle.std.proofs.Common.{◌≡◌, ℕ, ◌≤◌, ◌&&◌, nat_le, true, zero, suc, refl, ap, sym, subst, ◌∙◌, None, Some, option_map, List, [], ◌∷◌, map, replicate, arith}
 use Rattle.std.specs.Prelude.{Contains, slice_get}
 use Rattle.std.proofs.lemmas.List.{length-replicate}
@@ -21,7 +21,6 @@ use Rattle.std.proofs.lemmas.Bool.Decides.{nat_tests}
 use Rattle.process_model.specs.Harts as model
 use Rattle.process_model.specs.World.{booted}
 use Rattle.process_model.specs.declared.config.Config.{Config}
-use Rattle.hart_machine.specs.Slots.{most_slots}
 use Rattle.table_walk.specs.Tables.{Tables}
 use Rattle.process_model.specs.declared.limits.TheConstants.{FEWEST_FRAMES, MOST_FRAMES, MOST_HARTS, MOST_SLOTS}
 
@@ -55,13 +54,13 @@ nothing_buffered [] none e h = absurd (omega (arith, h.1))
 nothing_buffered (a ∷ es) none e h = absurd (cc)
 
 -- the limits of boot
-pub few_slots : (c : Config) → can_boot c.scheme c.harts c.frames c.slots ≡ true → c.slots ≤ most_slots
+pub few_slots : (c : Config) → can_boot c.scheme c.harts c.frames c.slots ≡ true → c.slots ≤ MOST_SLOTS
 few_slots c is =
     let rest = and_parts (nat_le 1 c.harts && nat_le c.harts MOST_HARTS && nat_le FEWEST_FRAMES c.frames && nat_le c.frames MOST_FRAMES && nat_le 1 c.slots && nat_le c.slots MOST_SLOTS) (nat_le (kernel_frames c.scheme c.frames c.slots) c.frames) is in
     let low = and_parts (nat_le 1 c.harts && nat_le c.harts MOST_HARTS && nat_le FEWEST_FRAMES c.frames && nat_le c.frames MOST_FRAMES && nat_le 1 c.slots) (nat_le c.slots MOST_SLOTS) rest.0 in
     grind (arith, nat_tests, low.1)
 
-module _ (m : Machine) (c : Config) (files : List File) (ruled : m.policy ≡ c.policy) (schemed : m.kernel.scheme ≡ c.scheme) (small : c.slots ≤ most_slots) (sized : m.kernel.seat.size ≡ c.frames) (stacks : List ℕ) (t : Tables)
+module _ (m : Machine) (c : Config) (files : List File) (ruled : m.policy ≡ c.policy) (schemed : m.kernel.scheme ≡ c.scheme) (small : c.slots ≤ MOST_SLOTS) (sized : m.kernel.seat.size ≡ c.frames) (stacks : List ℕ) (t : Tables)
     (table : IsKernelTable m.kernel.scheme m.kernel.seat m.kernel.root.0 c.frames c.slots stacks t) (rule : PlainStateRule m.frames (m.kernel.seat ∷ []))
     (slots : m.slots.items ≡ replicate c.slots None) (harts : map hart_of m.harts.items ≡ replicate c.harts model.idle_hart) (filed : m.files ≡ files) where
   idle_at : (h : ℕ) (x : Hart) → slice_get m.harts.items h ≡ Some x → hart_of x ≡ model.idle_hart
@@ -75,7 +74,7 @@ module _ (m : Machine) (c : Config) (files : List File) (ruled : m.policy ≡ c.
     policy = ruled;
     scheme = schemed;
     schemes = λ s p at. absurd (none_there c.slots s p at);
-    few = subst (λ n. n ≤ most_slots) (sym (length-replicate c.slots None)) small;
+    few = subst (λ n. n ≤ MOST_SLOTS) (sym (length-replicate c.slots None)) small;
     frames = sized;
     rule = subst (λ ts. PlainStateRule m.frames (m.kernel.seat ∷ seats_of ts)) (sym slots) (rw (present_none {A = SlotProcess} c.slots) rule);
     of_kernel = subst (λ n. IsKernelTable m.kernel.scheme m.kernel.seat m.kernel.root.0 c.frames n stacks t) (sym (length-replicate c.slots None)) table;

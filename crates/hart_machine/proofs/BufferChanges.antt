@@ -1,5 +1,5 @@
--- Lemmas: each buffer (TLB) after an eviction, after an instruction of kernel entry or return, after a fill, and after any
--- other step is what `BuffersAre` says; and from that it follows that only fills add entries (`only_fills_add`).
+-- Lemmas: each TLB after an eviction, after an instruction of kernel entry or return, after a fill, and after any other step
+-- is what `BuffersAre` says; and from that it follows that only fills add entries (`only_fills_add`).
 use Rattle.std.proofs.Common.{◌≡◌, ◌⊎◌, ℕ, zero, suc, ◌==◌, ◌&&◌, Bool, true, false, not, get_or, Option, None, Some, option_map, List, [], ◌∷◌, refl, ap, sym, subst, ◌∙◌, inl, inr, arith, if◌then◌else◌}
 use Rattle.std.specs.Prelude.{Contains, remove, slice_get, slice_set}
 use Rattle.std.specs.Vec.{with_item}
@@ -9,8 +9,9 @@ use Rattle.std.proofs.lemmas.Option.{same_Some}
 use Rattle.hart_tlb.specs.declared.entry.TlbEntry.{TlbEntry}
 use Rattle.process_model.specs.Harts.{present_asid}
 use Rattle.process_model.specs.Steps.{is_refused}
-use Rattle.process_model.specs.declared.step.Reply.{Reply}
-use Rattle.process_model.specs.declared.step.Reply.TheVariants.{Done, Filled}
+use Rattle.process_model.specs.declared.reply.Reply.{Reply}
+use Rattle.process_model.specs.declared.reply.ScalarReply.TheVariants.{Done, Filled}
+use Rattle.process_model.specs.declared.reply.Reply.TheVariants.{Scalar}
 use Rattle.process_model.specs.declared.step.Step.{Step}
 use Rattle.process_model.specs.declared.step.Step.TheVariants as step
 use Rattle.table_walk.specs.Tables.{Tables}
@@ -20,7 +21,7 @@ use Rattle.hart_machine.specs.Tables.{tables_of, present_table}
 use Rattle.hart_machine.specs.WalkEntries.{entry_for}
 use Rattle.hart_machine.specs.declared.hart.Hart.{Hart}
 use Rattle.hart_machine.specs.declared.machine.Machine.{Machine}
-use Rattle.hart_machine.specs.declared.tables.SatpTable.{SatpTable}
+use Rattle.hart_machine.specs.declared.translation.SatpTable.{SatpTable}
 use Rattle.hart_machine.proofs.AccessingEntries.{same_hart}
 use Rattle.hart_machine.proofs.Entries.{in_remove}
 use Rattle.hart_machine.proofs.Fills.{in_newest}
@@ -76,15 +77,15 @@ module _ (m : Machine) (h : ℕ) (x y : Hart) (read : x ≡ get_or m.harts.items
   abbrev changed : Machine
   changed = record m { harts = with_item m.harts h y }
 
-  pub evicted_are : (n : ℕ) → y.buffer ≡ remove x.buffer n → BuffersAre m changed tables kernel (step.Evict h n) Done
+  pub evicted_are : (n : ℕ) → y.buffer ≡ remove x.buffer n → BuffersAre m changed tables kernel (step.Evict h n) (Scalar Done)
   evicted_are n made = set_is m.harts.items h x y read (buffer_after m.kernel.scheme m.policy tables kernel (step.Evict h n)) made
 
-  pub advanced_are : y ≡ advanced m.policy x → BuffersAre m changed tables kernel (step.Next h) Done
+  pub advanced_are : y ≡ advanced m.policy x → BuffersAre m changed tables kernel (step.Next h) (Scalar Done)
   advanced_are made = set_is m.harts.items h x y read (buffer_after m.kernel.scheme m.policy tables kernel (step.Next h)) (ap (λ (u : Hart). u.buffer) made)
 
   -- a fill by the table that satp has
   pub filled_are : (z : Hart) → slice_get m.harts.items h ≡ Some z → (t : SatpTable) → t ≡ present_table z → (a i : ℕ) → i ≡ present_asid m.policy (hart_of x) → y ≡ with_entry x (entry_for m.kernel.scheme (tables_of tables kernel t) i a)
-      → (n : ℕ) → BuffersAre m changed tables kernel (step.Fill h a) (Filled n)
+      → (n : ℕ) → BuffersAre m changed tables kernel (step.Fill h a) (Scalar (Filled n))
   filled_are z at t present a i tagged made n = set_is m.harts.items h x y read (buffer_after m.kernel.scheme m.policy tables kernel (step.Fill h a)) (ap (λ (u : Hart). u.buffer) made
       ∙ ap (λ (j : ℕ). (with_entry x (entry_for m.kernel.scheme (tables_of tables kernel t) j a)).buffer) tagged ∙ ap (λ (u : SatpTable). (with_entry x (entry_for m.kernel.scheme (tables_of tables kernel u) (present_asid m.policy (hart_of x)) a)).buffer) satp) where
         satp : t ≡ present_table x

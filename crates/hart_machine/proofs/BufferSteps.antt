@@ -1,5 +1,5 @@
--- Lemmas: no buffer (TLB) of a machine changes if its harts are the same (`same_harts`), or one hart becomes another with
--- the same buffer (`same_buffers`).
+-- Lemmas: no TLB of a machine changes if its harts are the same (`same_harts`), or one hart becomes another with the same
+-- buffer (`same_buffers`).
 use Rattle.std.proofs.Common.{◌≡◌, ℕ, zero, suc, get_or, Option, Some, option_map, List, [], ◌∷◌, refl, ap, ◌∙◌}
 use Rattle.std.specs.Prelude.{slice_get, slice_set}
 use Rattle.std.specs.Vec.{with_item}

@@ -1,5 +1,5 @@
--- Lemmas: after a step and its stale marks, each buffer (TLB) has only entries that it may have, under policy `full` and
--- under policy `asid`, in the model's world, its state (`still_in`); and so, under `asid`, `AreEntriesCurrent` (`are_true`).
+-- Lemmas: after a step and its stale marks, each TLB has only entries that it may have, under policy `full` and under policy
+-- `asid`, in the model's world, its state (`still_in`); and so, under `asid`, `AreEntriesCurrent` (`are_true`).
 use Rattle.std.proofs.Common.{◌≡◌, ◌⊎◌, ℕ, zero, suc, ◌+◌, ◌*◌, ◌≤◌, ◌&&◌, ◌||◌, Bool, true, false, not, length, Option, None, Some, option_map, List, [], ◌∷◌, refl, ap, sym, subst, ◌∙◌, inl, inr, arith, if◌then◌else◌}
 use Rattle.std.specs.Prelude.{Contains, slice_get, unwrap_or}
 use Rattle.std.proofs.lemmas.Bool.{cases_eq, eq-eqb}
@@ -12,12 +12,12 @@ use Rattle.process_laws.specs.Words.{changed_at}
 use Rattle.process_model.specs.Process.{Process}
 use Rattle.process_model.specs.Stale.{changed_slots, is_changed, with_stale, with_stale_slots}
 use Rattle.process_model.specs.Steps.{plain_step}
-use Rattle.process_model.specs.World.{Outcome, World}
+use Rattle.process_model.specs.World.{StepOutcome, World}
 use Rattle.process_model.specs.declared.config.Policy.{Policy}
 use Rattle.process_model.specs.declared.config.Policy.TheVariants.{Asid, Full}
 use Rattle.process_model.specs.declared.phase.Phase.{Phase}
 use Rattle.process_model.specs.declared.phase.Phase.TheVariants as phase
-use Rattle.process_model.specs.declared.step.Reply.{Reply}
+use Rattle.process_model.specs.declared.reply.Reply.{Reply}
 use Rattle.process_model.specs.declared.step.Step.{Step}
 use Rattle.sv39_entry.specs.Address.{page_of}
 use Rattle.sv39_entry.specs.Schemes.{is_canonical, trampoline_page}
@@ -135,7 +135,7 @@ module _ (m n : Machine) (w : World) (s : Step) (inn : IsInWorld m w) (after : I
   abbrev is : IsWorld m w
   is = inn.world
 
-  abbrev o : Outcome
+  abbrev o : StepOutcome
   o = plain_step w s
 
   abbrev changed : ℕ → Bool

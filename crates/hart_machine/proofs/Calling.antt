@@ -6,10 +6,10 @@ use Rattle.std.specs.Prelude.{slice_get}
 use Rattle.std.proofs.lemmas.Option.{slice_get-map}
 use Rattle.process_model.specs.Harts as model
 use Rattle.process_model.specs.Process.{Process}
-use Rattle.process_model.specs.World.{always, awaits_service, flat, is_unserved, Outcome, process_of_slot, refuses, World}
+use Rattle.process_model.specs.World.{always, awaits_service, flat, is_unserved, StepOutcome, process_of_slot, refuses, World}
 use Rattle.process_model.specs.declared.phase.Phase.{Phase}
 use Rattle.process_model.specs.declared.phase.Phase.TheVariants as phase
-use Rattle.process_model.specs.declared.step.Refusal.TheVariants.{Impossible}
+use Rattle.process_model.specs.declared.reply.Refusal.TheVariants.{Impossible}
 use Rattle.hart_machine.specs.Calls.{call_while, IsInKernel, waits_as}
 use Rattle.hart_machine.specs.Harts.{hart_of}
 use Rattle.hart_machine.specs.Worlds.{IsWorld}
@@ -42,7 +42,7 @@ not_differing false true e = absurd (cc)
 not_differing false false e = refl
 
 module _ (m : Machine) (w : World) (is : IsWorld m w) (h : ℕ) (p : Phase) (has : HasHart m w h p) (waits : Bool) where
-  pub not_in_kernel : (run : model.Hart → ℕ → Process → Outcome) → (model.is_kernel p ≡ false) ⊎ (not (beq (awaits_service w (hart_of has.hart)) waits) ≡ true)
+  pub not_in_kernel : (run : model.Hart → ℕ → Process → StepOutcome) → (model.is_kernel p ≡ false) ⊎ (not (beq (awaits_service w (hart_of has.hart)) waits) ≡ true)
       → call_while w h waits run ≡ refuses w (Impossible p)
   not_in_kernel run fails =
       impossible w h true (λ x. model.is_kernel x.phase && waits_as (awaits_service w x) waits) always _ (hart_of has.hart) has.in_model refl
@@ -73,7 +73,7 @@ module _ (m : Machine) (w : World) (is : IsWorld m w) (h s : ℕ) (waits : Bool)
   pub in_model : slice_get w.harts h ≡ Some (hart_of k.hart)
   in_model = ap (λ hs. slice_get hs h) (sym is.harts) ∙ slice_get-map hart_of m.harts.items h ∙ ap (option_map hart_of) k.there
 
-  pub call_runs : (run : model.Hart → ℕ → Process → Outcome) (p : Process) → slice_get w.slots s ≡ Some (Some p) → call_while w h waits run ≡ run (hart_of k.hart) s p
+  pub call_runs : (run : model.Hart → ℕ → Process → StepOutcome) (p : Process) → slice_get w.slots s ≡ Some (Some p) → call_while w h waits run ≡ run (hart_of k.hart) s p
   call_runs run p at =
       runs w h true (λ x. model.is_kernel x.phase && waits_as (awaits_service w x) waits) always _ (hart_of k.hart) in_model refl can refl ∙ its_process w (hart_of k.hart) _ s p k.on at where
         as_it_is : (b : Bool) → waits_as b b ≡ true

@@ -4,6 +4,7 @@ use Rattle.std.proofs.Common.{◌≡◌, inl, inr, ℕ, zero, suc, ◌+◌, ◌-
 use Rattle.std.specs.Prelude.{zip}
 use Rattle.std.proofs.lemmas.Bool.{cases_lt}
 use Rattle.std.proofs.lemmas.List.{length-append, length-drop, length-take-le, take-append-drop}
+use Rattle.fault_rules.specs.PageService.{Moment}
 use Rattle.frame_store.specs.Plain.{PlainState}
 use Rattle.frame_store.specs.View.{View}
 use Rattle.process_model.specs.Environment.{Environment, Progress}
@@ -15,12 +16,11 @@ use Rattle.process_model.specs.Files.{File}
 use Rattle.process_model.specs.ResidenceLaws.{granted_again, reached_serves}
 use Rattle.process_model.specs.Service.{environment_of}
 use Rattle.process_model.specs.World.{World}
-use Rattle.process_model.specs.declared.step.Refusal.{Refusal}
+use Rattle.process_model.specs.declared.reply.Refusal.{Refusal}
 use Rattle.sv39_entry.specs.Address.{page_of}
 use Rattle.sv39_entry.specs.declared.access.Access.TheVariants.{Load, Store}
 use Rattle.sv39_entry.specs.declared.rule.Rule.{Rule}
 use Rattle.user_copy.specs.FirstPageBytes.{is_near}
-use Rattle.user_copy.specs.ReachedPage.{Place}
 use Rattle.user_copy.specs.Runs.{CopiesIn, CopiesOut, IsRead, near, runs, runs_of, some_bytes, some_run}
 use Rattle.user_copy.specs.declared.short.Stop.TheVariants.{Denied, Unpromised}
 use Rattle.hart_machine.specs.Calls.{IsCaller}
@@ -147,13 +147,13 @@ option_some (Some q) r is = cc
 
 -- files in memory promise all that is asked
 
-pub never_in : (rs : List (ℕ × ℕ)) (a c : Place View PlainState (List File)) (done bytes : List ℕ) (e : Refusal) → CopiesIn plain_words rs a c done bytes (Some (Unpromised e)) → ⊥
+pub never_in : (rs : List (ℕ × ℕ)) (a c : Moment View PlainState (List File)) (done bytes : List ℕ) (e : Refusal) → CopiesIn plain_words rs a c done bytes (Some (Unpromised e)) → ⊥
 never_in [] a c done bytes e (at, same, none) = cc
 never_in (r ∷ rs) a c done bytes e (b, Ok tt, reached, (d, got, read, rest)) = never_in rs d c (done ++ got) bytes e rest
 never_in (r ∷ rs) a c done bytes e (b, Err (Denied rule), reached, (at, same, told)) = cc
 never_in (r ∷ rs) a c done bytes e (b, Err (Unpromised x), reached, stopped) = (reached.unpromised x refl).1
 
-pub never_out : (rs : List (ℕ × List ℕ)) (a c : Place View PlainState (List File)) (done count : ℕ) (e : Refusal) → CopiesOut plain_words rs a c done count (Some (Unpromised e)) → ⊥
+pub never_out : (rs : List (ℕ × List ℕ)) (a c : Moment View PlainState (List File)) (done count : ℕ) (e : Refusal) → CopiesOut plain_words rs a c done count (Some (Unpromised e)) → ⊥
 never_out [] a c done count e (at, same, none) = cc
 never_out (r ∷ rs) a c done count e (b, Ok tt, reached, (d, put, rest)) = never_out rs d c (done + length r.1) count e rest
 never_out (r ∷ rs) a c done count e (b, Err (Denied rule), reached, (at, same, told)) = cc
@@ -161,7 +161,7 @@ never_out (r ∷ rs) a c done count e (b, Err (Unpromised x), reached, stopped) 
 
 module _ (m : Machine) (w : World) (is : IsWorld m w) (h s : ℕ) (k : IsCaller m w h s) where
   abbrev Spot : Type 0
-  Spot = Place View PlainState (List File)
+  Spot = Moment View PlainState (List File)
 
   -- reading changes nothing
   same_spot : (a d : Spot) (address n : ℕ) (got : List ℕ) → IsRead plain_words a d address n got → a ≡ d

@@ -12,6 +12,7 @@ use Rattle.address_space.specs.PendingAccess.{agrees_pending}
 use Rattle.address_space.specs.Steps.{CanWrite}
 use Rattle.fault_rules.specs.Allowed.{can_reside}
 use Rattle.fault_rules.specs.MadeResident.{CanMakeResident, is_shared_by}
+use Rattle.fault_rules.specs.PageService.{Moment}
 use Rattle.fault_rules.specs.Serves.{IsEnd}
 use Rattle.fault_rules.specs.declared.service.Served.TheVariants as served
 use Rattle.frame_store.specs.Plain.{PlainState}
@@ -33,7 +34,7 @@ use Rattle.sv39_entry.specs.declared.rule.Rule.{Rule}
 use Rattle.sv39_entry.specs.declared.rule.Rule.TheVariants.{NoFrame}
 use Rattle.sv39_entry.specs.declared.access.Access.TheVariants as access
 use Rattle.table_walk.specs.Tables.{Tables, leaf_node}
-use Rattle.user_copy.specs.ReachedPage.{Place, Reaches}
+use Rattle.user_copy.specs.ReachedPage.{Reaches}
 use Rattle.user_copy.specs.Runs.{Puts}
 use Rattle.user_copy.specs.declared.short.Stop.TheVariants.{Denied}
 use Rattle.hart_machine.specs.Calls.{Follows, IsCaller}
@@ -103,7 +104,7 @@ request a address = record { access = a; address = address; width = 1; served = 
 
 module _ (m : Machine) (w : World) (is : IsWorld m w) (h s : ℕ) (k : IsCaller m w h s) where
   abbrev pub Spot : Type 0
-  Spot = Place View PlainState (List File)
+  Spot = Moment View PlainState (List File)
 
   abbrev pub tenant_at : Spot → SlotProcess
   tenant_at a = record { space = a.space; pending = None }
@@ -223,7 +224,7 @@ module _ (m : Machine) (w : World) (is : IsWorld m w) (h s : ℕ) (k : IsCaller 
               counts = λ f n on told. r.3 f n on told tt;
               slot_process = λ fresh. record {
                 agrees = agrees_pending _ _ _ _ _ (made_resident a.files fresh (is_shared_by r.1) g.process kind (page_of address)) (r.2.agrees fresh) None;
-                framed = rw e.trapframe slot_process.framed;
+                framed = rw e.place.trapframe slot_process.framed;
                 pending = refl;
                 wide = tt;
               };
@@ -273,7 +274,7 @@ module _ (m : Machine) (w : World) (is : IsWorld m w) (h s : ℕ) (k : IsCaller 
         must = record {
           slot_process = record {
             agrees = e.whole rule refl (u.world.tables s) g.process slot_process.agrees;
-            framed = rw e.trapframe slot_process.framed;
+            framed = rw e.place.trapframe slot_process.framed;
             pending = u.quiet;
             wide = subst HasPageBytes (sym u.quiet) tt;
           };

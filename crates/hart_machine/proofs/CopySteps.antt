@@ -1,34 +1,35 @@
--- Lemmas for the steps `CopyIn` and `CopyOut`: reply, world (the model's state), slots (places in the process table) to be
--- marked as stale and unchanged leaves are the model's; more than 256 bytes are refused.
+-- Lemmas for the steps `CopyIn` and `CopyOut`: reply, world (the model's state), slots to be marked as stale and unchanged
+-- leaves are the model's; more than 256 bytes are refused.
 use Rattle.std.proofs.Common.{◌≡◌, ℕ, ◌<◌, ◌≤◌, Bool, false, true, Option, None, Some, Bor, List, [], length, refl, ap, sym, subst, ◌∙◌, arith}
 use Rattle.std.specs.Prelude.{slice_get, slice_set}
 use Rattle.std.specs.Vec.{with_item}
 use Rattle.std.proofs.lemmas.Bool.{le-leb, lt-leb}
 use Rattle.address_space.specs.PendingAccess.{agrees_pending}
+use Rattle.fault_rules.specs.PageService.{Moment}
 use Rattle.frame_store.specs.Plain.{PlainState}
 use Rattle.frame_store.specs.View.{View}
 use Rattle.process_model.specs.Environment.{Progress}
 use Rattle.process_model.specs.Calls.{copy_in_outcome, copy_out_outcome}
-use Rattle.process_model.specs.Copies.{Copied, copied_in, copied_out, longest_copy, out_reply}
+use Rattle.process_model.specs.Copies.{Copied, copied_in, copied_out, out_reply}
 use Rattle.process_model.specs.CopyRuns.{so_far}
 use Rattle.process_model.specs.Files.{File}
 use Rattle.process_model.specs.Harts as harts
 use Rattle.process_model.specs.Process.{Process, regions, without_pending}
 use Rattle.process_model.specs.Service.{environment_of, initial_progress, with_progress}
 use Rattle.process_model.specs.Steps.{plain_step}
-use Rattle.process_model.specs.World.{kernel_call, Outcome, refuses, World}
-use Rattle.process_model.specs.declared.step.Refusal.TheVariants.{BadArgument}
-use Rattle.process_model.specs.declared.step.Reply.{Reply}
-use Rattle.process_model.specs.declared.step.Reply.TheVariants.{Refused}
+use Rattle.process_model.specs.World.{kernel_call, StepOutcome, refuses, World}
+use Rattle.process_model.specs.declared.reply.Refusal.TheVariants.{BadArgument}
+use Rattle.process_model.specs.declared.reply.Reply.{Reply}
+use Rattle.process_model.specs.declared.reply.ScalarReply.TheVariants.{Refused}
+use Rattle.process_model.specs.declared.reply.Reply.TheVariants.{Scalar}
 use Rattle.process_model.specs.declared.step.Step.TheVariants as step
 use Rattle.sv39_entry.specs.declared.access.Access.{Access}
 use Rattle.sv39_entry.specs.declared.access.Access.TheVariants.{Load, Store}
 use Rattle.sv39_entry.specs.declared.rule.Rule.{Rule}
 use Rattle.table_walk.specs.Tables.{Tables}
-use Rattle.user_copy.specs.ReachedPage.{Place}
 use Rattle.user_copy.specs.Runs.{runs, runs_of}
 use Rattle.hart_machine.specs.Calls.{IsCaller}
-use Rattle.hart_machine.specs.CopyEffect.{CopiesFrom, CopiesTo, place_of, sent_reply}
+use Rattle.hart_machine.specs.CopyEffect.{CopiesFrom, CopiesTo, moment_of, sent_reply}
 use Rattle.hart_machine.specs.Marks.{AreMarked, slot_if, TellsResidence}
 use Rattle.hart_machine.specs.SlotProcesses.{IsSlotProcess}
 use Rattle.hart_machine.specs.Worlds.{IsWorld, KeepsTables, IsModelOutcome}
@@ -43,6 +44,7 @@ use Rattle.hart_machine.proofs.HartSteps.{improper, refused, tenant_is}
 use Rattle.hart_machine.proofs.KeptLeaves.{followed_frames, followed_same, slot_keeps_by}
 use Rattle.hart_machine.proofs.MarkedCopies.{copied_in_regions, copied_in_told, copied_out_regions, copied_out_told, copied_in_scheme, copied_out_scheme}
 use Rattle.hart_machine.proofs.SlotMarks.{set_marks}
+use Rattle.process_model.specs.declared.limits.TheConstants.{LONGEST_COPY}
 
 sent_is : (sent : List ℕ) (stop : Option Rule) → out_reply sent stop ≡ sent_reply (length sent) stop
 sent_is sent None = refl
@@ -53,11 +55,11 @@ tells_quiet : (flag : Bool) (p q : Process) (kind : Access) (address : ℕ) → 
 tells_quiet flag p q kind address tells = record { some = tells.some; none = tells.none }
 
 module _ (m : Machine) (w : World) (is : IsWorld m w) (h s : ℕ) (k : IsCaller m w h s) (x y : SlotProcess) (place : slice_get m.slots.items s ≡ Some (Some x)) (b : PlainState) (fs : List File) where
-  abbrev spot : Place View PlainState (List File)
-  spot = place_of x m.frames m.files
+  abbrev spot : Moment View PlainState (List File)
+  spot = moment_of x m.frames m.files
 
   -- at first nothing is copied, and nothing is pending any more
-  under_way : IsUnderWay m w is h s k (place_of x m.frames m.files) (initial_progress w (without_pending k.process))
+  under_way : IsUnderWay m w is h s k (moment_of x m.frames m.files) (initial_progress w (without_pending k.process))
   under_way =
       let own = tenant_is m w is s x k.process place k.in_slot in
       let z : SlotProcess = record { space = x.space; pending = None } in
@@ -88,11 +90,11 @@ module _ (m : Machine) (w : World) (is : IsWorld m w) (h s : ℕ) (k : IsCaller 
   own = tenant_is m w is s x k.process place k.in_slot
 
   -- the process after a copy, of which nothing is pending
-  module _ (quiet : y.pending ≡ None) (j : Progress) (copied : IsCopied m w is h s k (place_of y b fs) j) where
+  module _ (quiet : y.pending ≡ None) (j : Progress) (copied : IsCopied m w is h s k (moment_of y b fs) j) where
     unfoldable tenant_after : IsSlotProcess y (copied.world.tables s) j.process
     tenant_after =
         subst (λ (o : Option Pending). let z : SlotProcess = record { space = y.space; pending = o } in IsSlotProcess z (copied.world.tables s) j.process) (sym quiet)
-        (tenant_in m w is h s k (place_of y b fs) j copied.world)
+        (tenant_in m w is h s k (moment_of y b fs) j copied.world)
 
     -- where each page has the copy number and the marks that it had, each leaf is what it was
     keeps_leaves : y.space.trapframe ≡ x.space.trapframe → j.process.scheme ≡ k.process.scheme → regions j.process ≡ regions k.process → KeepsTables m after w.slots (slice_set w.slots s (Some j.process))
@@ -104,20 +106,20 @@ module _ (m : Machine) (w : World) (is : IsWorld m w) (h s : ℕ) (k : IsCaller 
 
   -- from the process
 
-  module _ (address n : ℕ) (reply : Reply) (small : n ≤ longest_copy) (from : CopiesFrom x y m.frames b m.files fs address n reply) where
+  module _ (address n : ℕ) (reply : Reply) (small : n ≤ LONGEST_COPY) (from : CopiesFrom x y m.frames b m.files fs address n reply) where
     abbrev g : Progress
     g = initial_progress w (without_pending k.process)
 
     abbrev copy_in : Copied
     copy_in = copied_in (environment_of w s) g address n
 
-    ends_in : (j : Progress) × (copy_in ≡ so_far j from.bytes from.stop) × IsCopied m w is h s k (place_of y b fs) j
+    ends_in : (j : Progress) × (copy_in ≡ so_far j from.bytes from.stop) × IsCopied m w is h s k (moment_of y b fs) j
     ends_in =
-        let end = runs_end_in m w is h s k (runs address n) (are_runs address n small) (place_of x m.frames m.files) g under_way (place_of y b fs) [] from.bytes from.stop from.copies in
+        let end = runs_end_in m w is h s k (runs address n) (are_runs address n small) (moment_of x m.frames m.files) g under_way (moment_of y b fs) [] from.bytes from.stop from.copies in
         (end.0, as_runs_in (environment_of w s) g address n ∙ end.1, end.2)
 
-    unfoldable copied_from : IsCopied m w is h s k (place_of y b fs) copy_in.progress
-    copied_from = let end = ends_in in subst (λ (c : Copied). IsCopied m w is h s k (place_of y b fs) c.progress) (sym end.1) end.2
+    unfoldable copied_from : IsCopied m w is h s k (moment_of y b fs) copy_in.progress
+    copied_from = let end = ends_in in subst (λ (c : Copied). IsCopied m w is h s k (moment_of y b fs) c.progress) (sym end.1) end.2
 
     pub copies_in : IsModelOutcome after reply (copy_in_outcome w s copy_in)
     copies_in =
@@ -135,20 +137,20 @@ module _ (m : Machine) (w : World) (is : IsWorld m w) (h s : ℕ) (k : IsCaller 
 
   -- to the process
 
-  module _ (address : ℕ) (bytes : List ℕ) (reply : Reply) (small : length bytes ≤ longest_copy) (to : CopiesTo x y m.frames b m.files fs address bytes reply) where
+  module _ (address : ℕ) (bytes : List ℕ) (reply : Reply) (small : length bytes ≤ LONGEST_COPY) (to : CopiesTo x y m.frames b m.files fs address bytes reply) where
     abbrev begin : Progress
     begin = initial_progress w (without_pending k.process)
 
     abbrev copy_out : Copied
     copy_out = copied_out (environment_of w s) begin address bytes
 
-    ends_out : (j : Progress) × (sent : List ℕ) × (copy_out ≡ so_far j sent to.stop) × (length sent ≡ to.count) × IsCopied m w is h s k (place_of y b fs) j
+    ends_out : (j : Progress) × (sent : List ℕ) × (copy_out ≡ so_far j sent to.stop) × (length sent ≡ to.count) × IsCopied m w is h s k (moment_of y b fs) j
     ends_out =
-        let end = runs_end_out m w is h s k (runs_of address bytes) (are_given address bytes small) (place_of x m.frames m.files) begin under_way (place_of y b fs) [] to.count to.stop to.copies in
+        let end = runs_end_out m w is h s k (runs_of address bytes) (are_given address bytes small) (moment_of x m.frames m.files) begin under_way (moment_of y b fs) [] to.count to.stop to.copies in
         (end.0, end.1, as_runs_out (environment_of w s) begin address bytes ∙ end.2, end.3, end.4)
 
-    unfoldable copied_to : IsCopied m w is h s k (place_of y b fs) copy_out.progress
-    copied_to = let end = ends_out in subst (λ (c : Copied). IsCopied m w is h s k (place_of y b fs) c.progress) (sym end.2) end.4
+    unfoldable copied_to : IsCopied m w is h s k (moment_of y b fs) copy_out.progress
+    copied_to = let end = ends_out in subst (λ (c : Copied). IsCopied m w is h s k (moment_of y b fs) c.progress) (sym end.2) end.4
 
     pub copies_out : IsModelOutcome after reply (copy_out_outcome w s copy_out)
     copies_out =
@@ -169,35 +171,35 @@ module _ (m : Machine) (w : World) (is : IsWorld m w) (h s : ℕ) (k : IsCaller 
 
 module _ (m : Machine) (w : World) (is : IsWorld m w) (h : ℕ) where
   -- a copy that is too long is refused
-  pub long_in : (address n : ℕ) → longest_copy < n → plain_step w (step.CopyIn h address n) ≡ refuses w BadArgument
-  long_in address n long = improper w h _ _ _ _ (lt-leb n longest_copy long)
+  pub long_in : (address n : ℕ) → LONGEST_COPY < n → plain_step w (step.CopyIn h address n) ≡ refuses w BadArgument
+  long_in address n long = improper w h _ _ _ _ (lt-leb n LONGEST_COPY long)
 
-  pub long_out : (address : ℕ) (bytes : Bor (List ℕ)) → longest_copy < length bytes.now → plain_step w (step.CopyOut h address bytes) ≡ refuses w BadArgument
-  long_out address bytes long = improper w h _ _ _ _ (lt-leb (length bytes.now) longest_copy long)
+  pub long_out : (address : ℕ) (bytes : Bor (List ℕ)) → LONGEST_COPY < length bytes.now → plain_step w (step.CopyOut h address bytes) ≡ refuses w BadArgument
+  long_out address bytes long = improper w h _ _ _ _ (lt-leb (length bytes.now) LONGEST_COPY long)
 
-  pub too_long_in : (address n : ℕ) → longest_copy < n → IsModelOutcome m (Refused BadArgument) (plain_step w (step.CopyIn h address n))
+  pub too_long_in : (address n : ℕ) → LONGEST_COPY < n → IsModelOutcome m (Scalar (Refused BadArgument)) (plain_step w (step.CopyIn h address n))
   too_long_in address n long = refused m w is BadArgument _ (long_in address n long)
 
-  pub too_long_out : (address : ℕ) (bytes : Bor (List ℕ)) → longest_copy < length bytes.now → IsModelOutcome m (Refused BadArgument) (plain_step w (step.CopyOut h address bytes))
+  pub too_long_out : (address : ℕ) (bytes : Bor (List ℕ)) → LONGEST_COPY < length bytes.now → IsModelOutcome m (Scalar (Refused BadArgument)) (plain_step w (step.CopyOut h address bytes))
   too_long_out address bytes long = refused m w is BadArgument _ (long_out address bytes long)
 
-  abbrev pub copy_in_of : ℕ → ℕ → harts.Hart → ℕ → Process → Outcome
+  abbrev pub copy_in_of : ℕ → ℕ → harts.Hart → ℕ → Process → StepOutcome
   copy_in_of address n hart s p = copy_in_outcome w s (copied_in (environment_of w s) (initial_progress w (without_pending p)) address n)
 
-  abbrev pub copy_out_of : ℕ → List ℕ → harts.Hart → ℕ → Process → Outcome
+  abbrev pub copy_out_of : ℕ → List ℕ → harts.Hart → ℕ → Process → StepOutcome
   copy_out_of address bytes hart s p = copy_out_outcome w s (copied_out (environment_of w s) (initial_progress w (without_pending p)) address bytes)
 
-  pub proper_in : (address n : ℕ) → n ≤ longest_copy → plain_step w (step.CopyIn h address n) ≡ kernel_call w h true (copy_in_of address n)
-  proper_in address n small = ap (λ b. kernel_call w h b (copy_in_of address n)) (le-leb n longest_copy small)
+  pub proper_in : (address n : ℕ) → n ≤ LONGEST_COPY → plain_step w (step.CopyIn h address n) ≡ kernel_call w h true (copy_in_of address n)
+  proper_in address n small = ap (λ b. kernel_call w h b (copy_in_of address n)) (le-leb n LONGEST_COPY small)
 
-  pub proper_out : (address : ℕ) (bytes : Bor (List ℕ)) → length bytes.now ≤ longest_copy
+  pub proper_out : (address : ℕ) (bytes : Bor (List ℕ)) → length bytes.now ≤ LONGEST_COPY
       → plain_step w (step.CopyOut h address bytes) ≡ kernel_call w h true (copy_out_of address bytes.now)
-  proper_out address bytes small = ap (λ b. kernel_call w h b (copy_out_of address bytes.now)) (le-leb (length bytes.now) longest_copy small)
+  proper_out address bytes small = ap (λ b. kernel_call w h b (copy_out_of address bytes.now)) (le-leb (length bytes.now) LONGEST_COPY small)
 
   module _ (s : ℕ) (k : IsCaller m w h s) where
-    pub step_in : (address n : ℕ) → n ≤ longest_copy → plain_step w (step.CopyIn h address n) ≡ copy_in_outcome w s (copied_in (environment_of w s) (initial_progress w (without_pending k.process)) address n)
+    pub step_in : (address n : ℕ) → n ≤ LONGEST_COPY → plain_step w (step.CopyIn h address n) ≡ copy_in_outcome w s (copied_in (environment_of w s) (initial_progress w (without_pending k.process)) address n)
     step_in address n small = proper_in address n small ∙ call_runs m w is h s false k (copy_in_of address n) k.process k.in_slot
 
-    pub step_out : (address : ℕ) (bytes : Bor (List ℕ)) → length bytes.now ≤ longest_copy
+    pub step_out : (address : ℕ) (bytes : Bor (List ℕ)) → length bytes.now ≤ LONGEST_COPY
         → plain_step w (step.CopyOut h address bytes) ≡ copy_out_outcome w s (copied_out (environment_of w s) (initial_progress w (without_pending k.process)) address bytes.now)
     step_out address bytes small = proper_out address bytes small ∙ call_runs m w is h s false k (copy_out_of address bytes.now) k.process k.in_slot

@@ -1,6 +1,5 @@
 -- Lemmas for the end of a process: the machine is in the model's world (state) after the hart became idle (`idles`), and
--- after the slot (place in the process table) was emptied and the process's seat (an owner's capability at a frame store)
--- closed (`ends`).
+-- after the slot was emptied and the process's seat closed (`ends`).
 use Rattle.std.proofs.Common.{◌≡◌, ℕ, ◌≤◌, Bool, Option, None, Some, List, ◌∷◌, length, refl, ap, sym, subst, ◌∙◌, inl, inr}
 use Rattle.std.specs.Prelude.{slice_get, slice_set}
 use Rattle.std.specs.Vec.{with_item}
@@ -18,11 +17,11 @@ use Rattle.process_model.specs.Process.{Process}
 use Rattle.process_model.specs.Service.{ended}
 use Rattle.process_model.specs.World.{with_hart, World}
 use Rattle.process_model.specs.declared.phase.Phase.TheVariants as phase
-use Rattle.process_model.specs.declared.step.Reply.{Reply}
+use Rattle.process_model.specs.declared.reply.Reply.{Reply}
 use Rattle.table_walk.specs.Tables.{Tables}
 use Rattle.hart_machine.specs.Calls.{IsInKernel}
 use Rattle.hart_machine.specs.Harts.{hart_of}
-use Rattle.hart_machine.specs.Slots.{most_slots}
+use Rattle.process_model.specs.declared.limits.TheConstants.{MOST_SLOTS}
 use Rattle.hart_machine.specs.SlotProcesses.{view_of}
 use Rattle.hart_machine.specs.Worlds.{IsSlotContent, IsWorld, seats_of}
 use Rattle.hart_machine.specs.declared.hart.Hart.{Hart}
@@ -82,7 +81,7 @@ module _ (m : Machine) (w : World) (is : IsWorld m w) (s : ℕ) (x : SlotProcess
     policy = ruled ∙ is.policy;
     scheme = schemed ∙ is.scheme;
     schemes = λ i o at. is.schemes i o (left i o at);
-    few = subst (λ i. i ≤ most_slots) (sym (length-set w.slots s None)) is.few;
+    few = subst (λ i. i ≤ MOST_SLOTS) (sym (length-set w.slots s None)) is.few;
     frames = sized ∙ is.frames;
     rule = rw slots rule;
     of_kernel = subst (λ i. IsKernelTable n.kernel.scheme n.kernel.seat n.kernel.root.0 w.frames i is.stacks is.kernel) (sym (length-set w.slots s None)) table;

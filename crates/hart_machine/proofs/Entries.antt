@@ -9,8 +9,9 @@ use Rattle.frame_store.specs.Seats.{place_set_back}
 use Rattle.process_model.specs.Steps.{plain_step}
 use Rattle.process_model.specs.World.{World, always, answers, with_hart}
 use Rattle.process_model.specs.declared.phase.Phase.{Phase}
-use Rattle.process_model.specs.declared.step.Refusal.TheVariants.{BadArgument, NoEntry}
-use Rattle.process_model.specs.declared.step.Reply.TheVariants.{Done, Refused}
+use Rattle.process_model.specs.declared.reply.Refusal.TheVariants.{BadArgument, NoEntry}
+use Rattle.process_model.specs.declared.reply.ScalarReply.TheVariants.{Done, Refused}
+use Rattle.process_model.specs.declared.reply.Reply.TheVariants.{Scalar}
 use Rattle.process_model.specs.declared.step.Step.TheVariants as step
 use Rattle.hart_machine.specs.Harts.{hart_of, key_of}
 use Rattle.hart_machine.specs.Worlds.{IsWorld, IsModelOutcome}
@@ -39,7 +40,7 @@ module _ (m : Machine) (w : World) (is : IsWorld m w) (h : ℕ) where
   hart_within within x read = has_hart m w is h x.phase (ap (option_map (λ x. x.phase)) (sym (slice_get_read m.harts.items (vec_len m.harts) h x m.harts.ok.0 within read)))
 
 module _ (m : Machine) (w : World) (is : IsWorld m w) (h n : ℕ) where
-  pub evicts_nowhere : vec_len m.harts ≤ h → IsModelOutcome m (Refused BadArgument) (plain_step w (step.Evict h n))
+  pub evicts_nowhere : vec_len m.harts ≤ h → IsModelOutcome m (Scalar (Refused BadArgument)) (plain_step w (step.Evict h n))
   evicts_nowhere beyond = refused m w is BadArgument _ (without_hart w h true _ _ _ (no_hart_beyond m w is h beyond))
 
   module _ (p : Phase) (has : HasHart m w h p) (x : Hart) (read : x ≡ get_or m.harts.items h x) where
@@ -49,17 +50,17 @@ module _ (m : Machine) (w : World) (is : IsWorld m w) (h n : ℕ) where
     keys_are : nat_lt n (length (map key_of has.hart.buffer)) ≡ nat_lt n (length x.buffer)
     keys_are = ap (nat_lt n) (length-map has.hart.buffer key_of) ∙ ap (λ (z : Hart). nat_lt n (length z.buffer)) (sym is_hart)
 
-    pub evicts : n < length x.buffer → (y : Hart) → y ≡ record x { buffer = remove x.buffer n } → IsModelOutcome (record m { harts = with_item m.harts h y }) Done (plain_step w (step.Evict h n))
+    pub evicts : n < length x.buffer → (y : Hart) → y ≡ record x { buffer = remove x.buffer n } → IsModelOutcome (record m { harts = with_item m.harts h y }) (Scalar Done) (plain_step w (step.Evict h n))
     evicts within y made =
-        subst (λ (z : Hart). IsModelOutcome (record m { harts = with_item m.harts h z }) Done (plain_step w (step.Evict h n))) (sym (made ∙ ap (λ (z : Hart). record z { buffer = remove z.buffer n }) is_hart))
-        (makes _ Done _ _ (hart_changes m w is h has.hart (record has.hart { buffer = remove has.hart.buffer n }) has.there (λ s on. is.hosted h s has.hart has.there on) (λ s on k z at also. is.alone s k h z has.hart at has.there also on) (λ none. is.idle h has.hart has.there none)
+        subst (λ (z : Hart). IsModelOutcome (record m { harts = with_item m.harts h z }) (Scalar Done) (plain_step w (step.Evict h n))) (sym (made ∙ ap (λ (z : Hart). record z { buffer = remove z.buffer n }) is_hart))
+        (makes _ (Scalar Done) _ _ (hart_changes m w is h has.hart (record has.hart { buffer = remove has.hart.buffer n }) has.there (λ s on. is.hosted h s has.hart has.there on) (λ s on k z at also. is.alone s k h z has.hart at has.there also on) (λ none. is.idle h has.hart has.there none)
         (λ e there. is.local h has.hart e has.there (in_remove has.hart.buffer n e there)))
         (runs w h true always (λ z. nat_lt n (length z.keys)) _ (hart_of has.hart) has.in_model refl refl (keys_are ∙ grind (arith, within))
-        ∙ ap (λ ks. answers (with_hart w h (record (hart_of has.hart) { keys = ks })) Done) (sym (map-remove key_of has.hart.buffer n))))
+        ∙ ap (λ ks. answers (with_hart w h (record (hart_of has.hart) { keys = ks })) (Scalar Done)) (sym (map-remove key_of has.hart.buffer n))))
 
-    pub evicts_nothing : (n < length x.buffer → ⊥) → (y : Hart) → y ≡ x → IsModelOutcome (record m { harts = with_item m.harts h y }) (Refused NoEntry) (plain_step w (step.Evict h n))
+    pub evicts_nothing : (n < length x.buffer → ⊥) → (y : Hart) → y ≡ x → IsModelOutcome (record m { harts = with_item m.harts h y }) (Scalar (Refused NoEntry)) (plain_step w (step.Evict h n))
     evicts_nothing beyond y same =
-        subst (λ (z : Hart). IsModelOutcome (record m { harts = with_item m.harts h z }) (Refused NoEntry) (plain_step w (step.Evict h n))) (sym (same ∙ is_hart))
+        subst (λ (z : Hart). IsModelOutcome (record m { harts = with_item m.harts h z }) (Scalar (Refused NoEntry)) (plain_step w (step.Evict h n))) (sym (same ∙ is_hart))
         (refused _ w (subst (λ (v : World). IsWorld (record m { harts = with_item m.harts h has.hart }) v) (ap (λ hs. record w { harts = hs }) (place_set_back w.harts h (hart_of has.hart) has.in_model))
         (hart_changes m w is h has.hart has.hart has.there (λ s on. is.hosted h s has.hart has.there on) (λ s on k z at also. is.alone s k h z has.hart at has.there also on) (λ none. is.idle h has.hart has.there none) (λ e. is.local h has.hart e has.there))) NoEntry _
         (without_entry w h true always (λ z. nat_lt n (length z.keys)) _ (hart_of has.hart) has.in_model refl refl (keys_are ∙ let past : length x.buffer ≤ n = omega (arith, beyond) in grind (arith, past))))

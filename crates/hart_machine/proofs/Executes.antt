@@ -18,12 +18,13 @@ use Rattle.process_model.specs.Mappings.{all_written_back}
 use Rattle.process_model.specs.Process.{Process}
 use Rattle.process_model.specs.Service.{is_dry}
 use Rattle.process_model.specs.Steps.{plain_step}
-use Rattle.process_model.specs.World.{free, Outcome, refuses, with_process, World}
+use Rattle.process_model.specs.World.{free, StepOutcome, refuses, with_process, World}
 use Rattle.process_model.specs.declared.image.BadImage.{BadImage}
 use Rattle.process_model.specs.declared.image.Image.{Image}
-use Rattle.process_model.specs.declared.step.Refusal.{Refusal}
-use Rattle.process_model.specs.declared.step.Refusal.TheVariants as refusal
-use Rattle.process_model.specs.declared.step.Reply.TheVariants.{Done, Refused}
+use Rattle.process_model.specs.declared.reply.Refusal.{Refusal}
+use Rattle.process_model.specs.declared.reply.Refusal.TheVariants as refusal
+use Rattle.process_model.specs.declared.reply.ScalarReply.TheVariants.{Done, Refused}
+use Rattle.process_model.specs.declared.reply.Reply.TheVariants.{Scalar}
 use Rattle.process_model.specs.declared.step.Step.TheVariants as step
 use Rattle.table_walk.specs.Tables.{leaf_node, Tables}
 use Rattle.hart_machine.specs.Calls.{done_or_refused, Follows, IsCaller}
@@ -56,7 +57,7 @@ module _ (m : Machine) (w : World) (is : IsWorld m w) (h s : ℕ) (caller : IsCa
   pub bad_image : (e : BadImage) → image_loads w.scheme image ≡ Err e → plain_step w (step.Exec h image) ≡ refuses w (refusal.BadImage e)
   bad_image e bad = exec_step caller.process caller.in_slot ∙ ap (replaced w s caller.process) bad
 
-  pub no_image : (e : BadImage) → image_loads w.scheme image ≡ Err e → IsModelOutcome m (Refused (refusal.BadImage e)) (plain_step w (step.Exec h image))
+  pub no_image : (e : BadImage) → image_loads w.scheme image ≡ Err e → IsModelOutcome m (Scalar (Refused (refusal.BadImage e))) (plain_step w (step.Exec h image))
   no_image e bad = refused m w is (refusal.BadImage e) _ (bad_image e bad)
 
   module _ (ls : List LoadSegment) (accepted : image_loads w.scheme image ≡ Ok ls) (x y : SlotProcess) (place : slice_get m.slots.items s ≡ Some (Some x)) (b : PlainState) (files : List File) where
@@ -67,7 +68,7 @@ module _ (m : Machine) (w : World) (is : IsWorld m w) (h s : ℕ) (caller : IsCa
     dries enough = let all = free_is m w is in le-ltb (free w) (exec_need w.scheme ls) (omega (arith, enough, all))
 
     pub exec_sets : (p : Process) → slice_get w.slots s ≡ Some (Some p) → exec_need w.scheme ls ≤ m.frames.free → ((plain_step w (step.Exec h image)).world).slots ≡ slice_set w.slots s (Some (process_of w.scheme w.counter ls))
-    exec_sets p at enough = ap (λ (o : Outcome). (o.world).slots) (replaces p at ∙ ap (replaced_unless w s p ls) (dries enough))
+    exec_sets p at enough = ap (λ (o : StepOutcome). (o.world).slots) (replaces p at ∙ ap (replaced_unless w s p ls) (dries enough))
 
     pub exec_dry : m.frames.free < exec_need w.scheme ls → plain_step w (step.Exec h image) ≡ refuses w refusal.NoFrame
     exec_dry few =
@@ -103,7 +104,7 @@ module _ (m : Machine) (w : World) (is : IsWorld m w) (h s : ℕ) (caller : IsCa
         let n : Machine = record m { frames = b; slots = with_item m.slots s (Some y); files = files } in
         let after = call_changes m w is s x y q.0 (process_of w.scheme w.counter ls) has.tables place q.1 (subst (λ k. IsSlotProcess y has.tables (process_of k w.counter ls)) (is.schemes s q.0 q.1) (has.slot_process w.counter)) (w.counter + length (image_pages ls))
         (each_new q.0 has (is.schemes s q.0 q.1)) b keeps (loaded_scheme w.scheme w.counter ls) files in
-        subst (λ (o : Outcome). IsModelOutcome n Done o) (sym (replaces q.0 q.1 ∙ ap (replaced_unless w s q.0 ls) wet)) (
+        subst (λ (o : StepOutcome). IsModelOutcome n (Scalar Done) o) (sym (replaces q.0 q.1 ∙ ap (replaced_unless w s q.0 ls) wet)) (
           refl,
           subst (λ (fs : List File). IsWorld n (record (with_process w s (process_of w.scheme w.counter ls)) { counter = w.counter + length (image_pages ls); files = fs }))
               (has.files ∙ ap (λ (fs : List File). all_written_back fs q.0) is.files) after,
@@ -117,7 +118,7 @@ module _ (m : Machine) (w : World) (is : IsWorld m w) (h s : ℕ) (caller : IsCa
         let after = bytes_change m w is s x y q.0 q.0 place q.1 q.2 (whole (is.tables s) q.0 q.2) b keeps (λ k z there. (z, there, refl)) refl in
         let back : IsWorld (record m { frames = b; slots = with_item m.slots s (Some y) }) w =
         subst (λ (v : World). IsWorld (record m { frames = b; slots = with_item m.slots s (Some y) }) v) (ap (λ (ps : List (Option Process)). let v : World = record w { slots = ps } in v) (place_set_back w.slots s (Some q.0) q.1)) after in
-        subst (λ (o : Outcome). IsModelOutcome n (Refused e) o) (sym (replaces q.0 q.1 ∙ ap (replaced_unless w s q.0 ls) short)) (
-          ap Refused dry.0,
+        subst (λ (o : StepOutcome). IsModelOutcome n (Scalar (Refused e)) o) (sym (replaces q.0 q.1 ∙ ap (replaced_unless w s q.0 ls) short)) (
+          ap (λ x. Scalar (Refused x)) dry.0,
           rw stay back,
         )

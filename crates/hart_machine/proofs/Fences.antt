@@ -1,4 +1,4 @@
--- A lemma (`all_fenced`): a fence for every ASID and every address removes all entries of a buffer (TLB).
+-- A lemma (`all_fenced`): a fence for every ASID and every address removes all entries of a TLB.
 use Rattle.std.proofs.Common.{◌≡◌, List, [], ◌∷◌, not, None, refl, filter}
 use Rattle.hart_tlb.specs.Entries.{is_fenced}
 use Rattle.hart_tlb.specs.declared.entry.TlbEntry.{TlbEntry}

@@ -10,12 +10,13 @@ use Rattle.frame_store.specs.Plain.{PlainStateRule}
 use Rattle.frame_store.specs.View.{View}
 use Rattle.hart_tlb.specs.declared.entry.TlbEntry.{TlbEntry}
 use Rattle.process_model.specs.Harts as model
-use Rattle.process_model.specs.Harts.{buffer_size, Key, present_asid, with_key}
+use Rattle.process_model.specs.Harts.{Key, present_asid, with_key}
 use Rattle.process_model.specs.Steps.{filled, plain_step}
 use Rattle.process_model.specs.World.{World, always, answers, with_hart}
 use Rattle.process_model.specs.declared.config.Policy.{Policy}
-use Rattle.process_model.specs.declared.step.Refusal.TheVariants.{BadArgument}
-use Rattle.process_model.specs.declared.step.Reply.TheVariants.{Filled, Refused}
+use Rattle.process_model.specs.declared.reply.Refusal.TheVariants.{BadArgument}
+use Rattle.process_model.specs.declared.reply.ScalarReply.TheVariants.{Filled, Refused}
+use Rattle.process_model.specs.declared.reply.Reply.TheVariants.{Scalar}
 use Rattle.process_model.specs.declared.step.Step.TheVariants as step
 use Rattle.sv39_entry.specs.Address.{page_of}
 use Rattle.sv39_entry.specs.declared.scheme.Scheme.{Scheme}
@@ -29,8 +30,8 @@ use Rattle.table_walk.specs.LowPages.{tables_of_scheme}
 use Rattle.hart_machine.specs.Worlds.{IsSlotContent, IsWorld, IsModelOutcome, seats_of}
 use Rattle.hart_machine.specs.declared.hart.Hart.{Hart}
 use Rattle.hart_machine.specs.declared.machine.Machine.{Machine}
-use Rattle.hart_machine.specs.declared.tables.SatpTable.{SatpTable}
-use Rattle.hart_machine.specs.declared.tables.SatpTable.TheVariants.{OfKernel, OfProcess}
+use Rattle.hart_machine.specs.declared.translation.SatpTable.{SatpTable}
+use Rattle.hart_machine.specs.declared.translation.SatpTable.TheVariants.{OfKernel, OfProcess}
 use Rattle.hart_machine.specs.declared.slot_process.SlotProcess.{SlotProcess}
 use Rattle.hart_machine.proofs.AccessingEntries.{leaf_on_page, same_hart}
 use Rattle.hart_machine.proofs.Fills.{in_newest, kept_is, number_is}
@@ -38,6 +39,7 @@ use Rattle.hart_machine.proofs.HartSteps.{hart_changes, HasHart, makes, no_hart,
 use Rattle.address_space.specs.ProcessLeaves.{process_local, process_there}
 use Rattle.hart_machine.proofs.Leaves.{kernel_local, kernel_there}
 use Rattle.hart_machine.proofs.PresentTables.{present_there}
+use Rattle.process_model.specs.declared.limits.TheConstants.{BUFFER_SIZE}
 
 -- an entry that is made by a table tells what the table says
 pub entry_is : (scheme : Scheme) (t : Tables) (asid a : ℕ) → IsEntryOf scheme t asid (entry_for scheme t asid a)
@@ -106,13 +108,13 @@ module _ (m : Machine) (w : World) (is : IsWorld m w) (asid a : ℕ) (x y : Hart
       (subst (λ k. LeavesAreLocal k (is.tables s)) same (process_local _ _ _ p.0 shows (p.2).framed)) ∙ ap (λ k. with_entry x (entry_for k (is.tables s) asid a)) of_machine)
 
 module _ (m : Machine) (w : World) (is : IsWorld m w) (h a : ℕ) where
-  pub fills_nowhere : None ≡ option_map present_table (slice_get m.harts.items h) → IsModelOutcome m (Refused BadArgument) (plain_step w (step.Fill h a))
+  pub fills_nowhere : None ≡ option_map present_table (slice_get m.harts.items h) → IsModelOutcome m (Scalar (Refused BadArgument)) (plain_step w (step.Fill h a))
   fills_nowhere none = refused m w is BadArgument _ (without_hart w h true _ _ _ (no_hart m w is h (go (slice_get m.harts.items h) none))) where
     go : (o : Option Hart) → None ≡ option_map present_table o → None ≡ option_map (λ x. x.phase) o
     go None none = refl
     go (Some x) none = absurd (cc)
 
-  module _ (x : Hart) (at : slice_get m.harts.items h ≡ Some x) (few : length x.buffer ≤ buffer_size) where
+  module _ (x : Hart) (at : slice_get m.harts.items h ≡ Some x) (few : length x.buffer ≤ BUFFER_SIZE) where
     abbrev asid : ℕ
     asid = present_asid m.policy (hart_of x)
 
@@ -122,24 +124,24 @@ module _ (m : Machine) (w : World) (is : IsWorld m w) (h a : ℕ) where
     abbrev key : Key
     key = record { page = page_of a; asid = asid }
 
-    step_is : plain_step w (step.Fill h a) ≡ answers (with_hart w h (record (hart_of x) { keys = with_key (hart_of x).keys key })) (Filled (length (with_key (hart_of x).keys key) - 1))
+    step_is : plain_step w (step.Fill h a) ≡ answers (with_hart w h (record (hart_of x) { keys = with_key (hart_of x).keys key })) (Scalar (Filled (length (with_key (hart_of x).keys key) - 1)))
     step_is = runs w h true always always (filled w h a) (hart_of x) (has_at m w is h x at).in_model refl refl refl
-        ∙ ap (λ (q : Policy). let ks = with_key (hart_of x).keys (record { page = page_of a; asid = present_asid q (hart_of x) }) in answers (with_hart w h (record (hart_of x) { keys = ks })) (Filled (length ks - 1))) (sym is.policy)
+        ∙ ap (λ (q : Policy). let ks = with_key (hart_of x).keys (record { page = page_of a; asid = present_asid q (hart_of x) }) in answers (with_hart w h (record (hart_of x) { keys = ks })) (Scalar (Filled (length ks - 1)))) (sym is.policy)
 
-    fills_at : (y : Hart) → y ≡ with_entry x entry → (n : ℕ) → n ≡ next_number x.buffer → IsModelOutcome (record m { harts = with_item m.harts h y }) (Filled n) (plain_step w (step.Fill h a))
+    fills_at : (y : Hart) → y ≡ with_entry x entry → (n : ℕ) → n ≡ next_number x.buffer → IsModelOutcome (record m { harts = with_item m.harts h y }) (Scalar (Filled n)) (plain_step w (step.Fill h a))
     fills_at y made n number =
-        subst (λ (z : Hart). IsModelOutcome (record m { harts = with_item m.harts h z }) (Filled n) (plain_step w (step.Fill h a))) (sym made)
-        (makes _ (Filled n) _ _ (hart_changes m w is h x (with_entry x entry) at (λ s on. is.hosted h s x at on) (λ s on k z there also. is.alone s k h z x there at also on) (λ none. is.idle h x at none) local)
+        subst (λ (z : Hart). IsModelOutcome (record m { harts = with_item m.harts h z }) (Scalar (Filled n)) (plain_step w (step.Fill h a))) (sym made)
+        (makes _ (Scalar (Filled n)) _ _ (hart_changes m w is h x (with_entry x entry) at (λ s on. is.hosted h s x at on) (λ s on k z there also. is.alone s k h z x there at also on) (λ none. is.idle h x at none) local)
         (step_is ∙ rw (number ∙ number_is x.buffer few key, kept_is x entry few) refl)) where
           local : (e : TlbEntry) → Contains (with_entry x entry).buffer e → e.global ≡ false
           local e there = elim (in_newest x.buffer entry e there) [ inl old ↦ is.local h x e at old | inr new ↦ rw new refl ]
 
   -- the hart that is read keeps an entry of the table that its satp has
-  pub fills : (x : Hart) → slice_get m.harts.items h ≡ Some x → (t : SatpTable) → t ≡ present_table x → (z : Hart) → z ≡ get_or m.harts.items h z → length z.buffer ≤ buffer_size → (i : ℕ) → i ≡ present_asid m.policy (hart_of z)
-      → (y : Hart) → y ≡ with_entry z (entry_for m.kernel.scheme (tables_of is.tables is.kernel t) i a) → (n : ℕ) → n ≡ next_number z.buffer → IsModelOutcome (record m { harts = with_item m.harts h y }) (Filled n) (plain_step w (step.Fill h a))
+  pub fills : (x : Hart) → slice_get m.harts.items h ≡ Some x → (t : SatpTable) → t ≡ present_table x → (z : Hart) → z ≡ get_or m.harts.items h z → length z.buffer ≤ BUFFER_SIZE → (i : ℕ) → i ≡ present_asid m.policy (hart_of z)
+      → (y : Hart) → y ≡ with_entry z (entry_for m.kernel.scheme (tables_of is.tables is.kernel t) i a) → (n : ℕ) → n ≡ next_number z.buffer → IsModelOutcome (record m { harts = with_item m.harts h y }) (Scalar (Filled n)) (plain_step w (step.Fill h a))
   fills x at t present z read few i tagged y made n number =
       let same : z ≡ x = same_hart m.harts.items h x z read at in
-      fills_at x at (subst (λ (u : Hart). length u.buffer ≤ buffer_size) same few) y
+      fills_at x at (subst (λ (u : Hart). length u.buffer ≤ BUFFER_SIZE) same few) y
       (made ∙ ap (λ (j : ℕ). with_entry z (entry_for m.kernel.scheme (tables_of is.tables is.kernel t) j a)) tagged ∙ ap (λ (u : Hart). with_entry u (entry_for m.kernel.scheme (tables_of is.tables is.kernel t) (present_asid m.policy (hart_of u)) a)) same
       ∙ ap (λ (u : SatpTable). with_entry x (entry_for m.kernel.scheme (tables_of is.tables is.kernel u) (present_asid m.policy (hart_of x)) a)) present) n
       (number ∙ ap (λ (u : Hart). next_number u.buffer) same)

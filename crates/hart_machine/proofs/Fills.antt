@@ -1,5 +1,5 @@
--- Lemmas on a fill of a hart's buffer (TLB): which entries it then has, that keys and the new entry's number are the
--- model's, and so is the hart (`kept_is`).
+-- Lemmas on a fill of a hart's TLB: which entries it then has, that keys and the new entry's number are the model's, and so
+-- is the hart (`kept_is`).
 use Rattle.std.proofs.Common.{◌≡◌, ◌⊎◌, ℕ, zero, suc, ◌+◌, ◌-◌, ◌<◌, ◌≤◌, nat_lt, length, true, false, List, [], ◌∷◌, ◌++◌, map, drop, refl, ap, sym, ◌∙◌, inl, inr, arith}
 use Rattle.std.specs.Prelude.{Contains}
 use Rattle.std.proofs.lemmas.Bool.{cases_lt}
@@ -7,9 +7,10 @@ use Rattle.std.proofs.lemmas.List.{drop-map, length-append, length-drop, length-
 use Rattle.std.proofs.Math.Nat.{min-eq_left, min-eq_right}
 use Rattle.hart_tlb.specs.Buffer.{newest_entries}
 use Rattle.hart_tlb.specs.declared.entry.TlbEntry.{TlbEntry}
-use Rattle.process_model.specs.Harts.{buffer_size, Key, with_key}
+use Rattle.process_model.specs.Harts.{Key, with_key}
 use Rattle.hart_machine.specs.Harts.{hart_of, key_of, next_number, with_entry}
 use Rattle.hart_machine.specs.declared.hart.Hart.{Hart}
+use Rattle.process_model.specs.declared.limits.TheConstants.{BUFFER_SIZE}
 
 module _ {A : Type 0} where
   -- what is left of a list is in it
@@ -33,39 +34,39 @@ module _ {A : Type 0} where
   drop_of_snoc (suc n) [] y few = absurd (omega (arith, few))
   drop_of_snoc (suc n) (x ∷ xs) y few = drop_of_snoc n xs y (omega (arith, few))
 
-pub in_newest : (es : List TlbEntry) (e d : TlbEntry) → Contains (newest_entries buffer_size (es ++ e ∷ [])) d → Contains es d ⊎ (d ≡ e)
-in_newest es e d there = in_snoc es e d (in_drop (length (es ++ e ∷ []) - buffer_size) (es ++ e ∷ []) d there)
+pub in_newest : (es : List TlbEntry) (e d : TlbEntry) → Contains (newest_entries BUFFER_SIZE (es ++ e ∷ [])) d → Contains es d ⊎ (d ≡ e)
+in_newest es e d there = in_snoc es e d (in_drop (length (es ++ e ∷ []) - BUFFER_SIZE) (es ++ e ∷ []) d there)
 
 -- so many are dropped
-dropped : (es : List TlbEntry) (e : TlbEntry) (n : ℕ) → length es + 1 - buffer_size ≡ n → n ≤ length es → map key_of (newest_entries buffer_size (es ++ e ∷ [])) ≡ drop n (map key_of es) ++ key_of e ∷ []
+dropped : (es : List TlbEntry) (e : TlbEntry) (n : ℕ) → length es + 1 - BUFFER_SIZE ≡ n → n ≤ length es → map key_of (newest_entries BUFFER_SIZE (es ++ e ∷ [])) ≡ drop n (map key_of es) ++ key_of e ∷ []
 dropped es e n so few =
-    ap (map key_of) (ap (λ (k : ℕ). drop (k - buffer_size) (es ++ e ∷ [])) (length-append es (e ∷ [])) ∙ ap (λ (k : ℕ). drop k (es ++ e ∷ [])) so ∙ drop_of_snoc n es e few)
+    ap (map key_of) (ap (λ (k : ℕ). drop (k - BUFFER_SIZE) (es ++ e ∷ [])) (length-append es (e ∷ [])) ∙ ap (λ (k : ℕ). drop k (es ++ e ∷ [])) so ∙ drop_of_snoc n es e few)
     ∙ map-append key_of (drop n es) (e ∷ []) ∙ ap (λ (ks : List Key). ks ++ key_of e ∷ []) (sym (drop-map key_of n es))
 
-module _ (es : List TlbEntry) (few : length es ≤ buffer_size) where
+module _ (es : List TlbEntry) (few : length es ≤ BUFFER_SIZE) where
   same_length : length (map key_of es) ≡ length es
   same_length = length-map es key_of
 
-  room : length es < buffer_size → nat_lt (length (map key_of es)) buffer_size ≡ true
+  room : length es < BUFFER_SIZE → nat_lt (length (map key_of es)) BUFFER_SIZE ≡ true
   room less = rw same_length (grind (arith, less))
 
-  no_room : buffer_size ≤ length es → nat_lt (length (map key_of es)) buffer_size ≡ false
+  no_room : BUFFER_SIZE ≤ length es → nat_lt (length (map key_of es)) BUFFER_SIZE ≡ false
   no_room full = rw same_length (grind (arith, full))
 
   -- the keys of the buffer are those of the model
-  pub keys_are : (e : TlbEntry) → map key_of (newest_entries buffer_size (es ++ e ∷ [])) ≡ with_key (map key_of es) (key_of e)
-  keys_are e = elim (cases_lt (length es) buffer_size) [
+  pub keys_are : (e : TlbEntry) → map key_of (newest_entries BUFFER_SIZE (es ++ e ∷ [])) ≡ with_key (map key_of es) (key_of e)
+  keys_are e = elim (cases_lt (length es) BUFFER_SIZE) [
     | inl less ↦ rw (room less) (dropped es e 0 (omega (arith, less)) (omega arith))
     | inr full ↦ rw (no_room full) (dropped es e 1 (omega (arith, few, full)) (omega (arith, full)))
   ]
 
   -- and the new entry is the last
   pub number_is : (k : Key) → next_number es ≡ length (with_key (map key_of es) k) - 1
-  number_is k = elim (cases_lt (length es) buffer_size) [
-    | inl less ↦ rw (room less) (rw (length-append (map key_of es) (k ∷ []), same_length) (let least = min-eq_left {n = length es} {m = buffer_size - 1} (omega (arith, less)) in omega (arith, least)))
-    | inr full ↦ rw (no_room full) (rw (length-append (drop 1 (map key_of es)) (k ∷ []), length-drop 1 (map key_of es), same_length) (let least = min-eq_right {n = buffer_size - 1} {m = length es} (omega (arith, full)) in omega (arith, least, few, full)))
+  number_is k = elim (cases_lt (length es) BUFFER_SIZE) [
+    | inl less ↦ rw (room less) (rw (length-append (map key_of es) (k ∷ []), same_length) (let least = min-eq_left {n = length es} {m = BUFFER_SIZE - 1} (omega (arith, less)) in omega (arith, least)))
+    | inr full ↦ rw (no_room full) (rw (length-append (drop 1 (map key_of es)) (k ∷ []), length-drop 1 (map key_of es), same_length) (let least = min-eq_right {n = BUFFER_SIZE - 1} {m = length es} (omega (arith, full)) in omega (arith, least, few, full)))
   ]
 
 -- the hart is the model's with another key
-pub kept_is : (x : Hart) (e : TlbEntry) → length x.buffer ≤ buffer_size → hart_of (with_entry x e) ≡ record (hart_of x) { keys = with_key (hart_of x).keys (key_of e) }
+pub kept_is : (x : Hart) (e : TlbEntry) → length x.buffer ≤ BUFFER_SIZE → hart_of (with_entry x e) ≡ record (hart_of x) { keys = with_key (hart_of x).keys (key_of e) }
 kept_is x e few = ap (λ (ks : List Key). record (hart_of x) { keys = ks }) (keys_are x.buffer few e)

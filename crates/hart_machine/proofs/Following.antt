@@ -1,5 +1,5 @@
 -- Lemmas: the machine is in the model's world (state) after a call that gave one process other tables and pages, by its own
--- seat (an owner's capability at a frame store), if each of its pages was there before or is new (`call_changes`).
+-- seat, if each of its pages was there before or is new (`call_changes`).
 use Rattle.std.proofs.Common.{◌≡◌, ◌⊎◌, ◌↔◌, ℕ, ◌<◌, ◌≤◌, Option, None, Some, List, ◌∷◌, refl, ap, sym, subst, ◌∙◌, inl, inr, arith}
 use Rattle.std.specs.Prelude.{slice_get, slice_set}
 use Rattle.std.specs.Vec.{with_item}
@@ -19,7 +19,7 @@ use Rattle.process_model.specs.World.{with_process, World}
 use Rattle.table_walk.specs.Tables.{leaf_node, Tables}
 use Rattle.hart_machine.specs.Calls.{Follows, KeepsPage}
 use Rattle.hart_machine.specs.SlotProcesses.{IsSlotProcess, view_of}
-use Rattle.hart_machine.specs.Slots.{most_slots}
+use Rattle.process_model.specs.declared.limits.TheConstants.{MOST_SLOTS}
 use Rattle.hart_machine.specs.Worlds.{AreCounted, HaveCopies, IsSlotContent, IsWorld, seats_of}
 use Rattle.hart_machine.specs.declared.hart.Hart.{Hart}
 use Rattle.hart_machine.specs.declared.machine.Machine.{Machine}
@@ -191,7 +191,7 @@ module _ (m : Machine) (w : World) (is : IsWorld m w) (s : ℕ) (x y : SlotProce
     policy = is.policy;
     scheme = is.scheme;
     schemes = λ k r there. elim (this_or_other k r there) [ inl new ↦ ap (λ (z : Process). z.scheme) (sym new.1) ∙ schemed | inr old ↦ is.schemes k r old.1 ];
-    few = subst (λ n. n ≤ most_slots) (sym (length-set w.slots s (Some q))) is.few;
+    few = subst (λ n. n ≤ MOST_SLOTS) (sym (length-set w.slots s (Some q))) is.few;
     frames = is.frames;
     rule = rule;
     of_kernel = subst (λ n. IsKernelTable m.kernel.scheme m.kernel.seat m.kernel.root.0 w.frames n is.stacks is.kernel) (sym (length-set w.slots s (Some q))) is.of_kernel;

@@ -14,9 +14,10 @@ use Rattle.process_model.specs.Process.{Process}
 use Rattle.process_model.specs.Residence.{child_of, marked}
 use Rattle.process_model.specs.Service.{is_dry}
 use Rattle.process_model.specs.Steps.{plain_step}
-use Rattle.process_model.specs.World.{free, free_slot, Outcome, refuses, World}
-use Rattle.process_model.specs.declared.step.Refusal.TheVariants.{NoFrame, NoSlot}
-use Rattle.process_model.specs.declared.step.Reply.TheVariants.{Forked, Refused}
+use Rattle.process_model.specs.World.{free, free_slot, StepOutcome, refuses, World}
+use Rattle.process_model.specs.declared.reply.Refusal.TheVariants.{NoFrame, NoSlot}
+use Rattle.process_model.specs.declared.reply.ScalarReply.TheVariants.{Forked, Refused}
+use Rattle.process_model.specs.declared.reply.Reply.TheVariants.{Scalar}
 use Rattle.process_model.specs.declared.step.Step.TheVariants as step
 use Rattle.table_walk.specs.Tables.{Tables}
 use Rattle.hart_machine.specs.Calls.{IsCaller}
@@ -40,7 +41,7 @@ module _ (m : Machine) (w : World) (is : IsWorld m w) (h s : ℕ) (caller : IsCa
   pub no_slot : free_slot w ≡ None → plain_step w (step.Fork h) ≡ refuses w NoSlot
   no_slot none = fork_step caller.process caller.in_slot ∙ ap (forked w s caller.process) none
 
-  pub without_slot : free_slot w ≡ None → IsModelOutcome m (Refused NoSlot) (plain_step w (step.Fork h))
+  pub without_slot : free_slot w ≡ None → IsModelOutcome m (Scalar (Refused NoSlot)) (plain_step w (step.Fork h))
   without_slot none = refused m w is NoSlot _ (no_slot none)
 
   module _ (x y : SlotProcess) (place : slice_get m.slots.items s ≡ Some (Some x)) (b : PlainState) (e : ℕ) (to : free_slot w ≡ Some e) where
@@ -61,11 +62,11 @@ module _ (m : Machine) (w : World) (is : IsWorld m w) (h s : ℕ) (caller : IsCa
           | inl few ↦ absurd (enough few)
           | inr many ↦ le-ltb (free w) (fork_need p) (omega (arith, many, all))
         ] in
-        ap (λ (o : Outcome). (o.world).slots) (splits p at ∙ ap (forked_unless w s p e) wet)
+        ap (λ (o : StepOutcome). (o.world).slots) (splits p at ∙ ap (forked_unless w s p e) wet)
 
     -- too few frames are free
     pub forks_dry : ((t : Tables) (p : Process) → IsSlotProcess x t p → m.frames.free < fork_need p) → ((t : Tables) (p : Process) → IsSlotProcess x t p → IsSlotProcess y t p)
-        → KeepsSeats PlainStateRule m.frames (view_of x) b (view_of y) → IsModelOutcome (record m { frames = b; slots = with_item m.slots s (Some y) }) (Refused NoFrame) (plain_step w (step.Fork h))
+        → KeepsSeats PlainStateRule m.frames (view_of x) b (view_of y) → IsModelOutcome (record m { frames = b; slots = with_item m.slots s (Some y) }) (Scalar (Refused NoFrame)) (plain_step w (step.Fork h))
     forks_dry short whole keeps =
         let q = process_at m w is s x place in
         let few = short (is.tables s) q.0 q.2 in
@@ -73,7 +74,7 @@ module _ (m : Machine) (w : World) (is : IsWorld m w) (h s : ℕ) (caller : IsCa
         let dry : is_dry w (fork_need q.0) ≡ true = lt-ltb (free w) (fork_need q.0) (omega (arith, few, all)) in
         let n : Machine = record m { frames = b; slots = with_item m.slots s (Some y) } in
         let after = bytes_change m w is s x y q.0 q.0 place q.1 q.2 (whole (is.tables s) q.0 q.2) b keeps (λ k z there. (z, there, refl)) refl in
-        subst (λ (o : Outcome). IsModelOutcome n (Refused NoFrame) o) (sym (splits q.0 q.1 ∙ ap (forked_unless w s q.0 e) dry)) (
+        subst (λ (o : StepOutcome). IsModelOutcome n (Scalar (Refused NoFrame)) o) (sym (splits q.0 q.1 ∙ ap (forked_unless w s q.0 e) dry)) (
           refl,
           subst (λ (v : World). IsWorld n v) (ap (λ (ps : List (Option Process)). let v : World = record w { slots = ps } in v) (place_set_back w.slots s (Some q.0) q.1)) after,
         )
@@ -82,7 +83,7 @@ module _ (m : Machine) (w : World) (is : IsWorld m w) (h s : ℕ) (caller : IsCa
     pub forks_wet : (z : SlotProcess) → ((t : Tables) (p : Process) → IsSlotProcess x t p → HasForkedProcess y z t p)
         → ((t : Tables) (p : Process) → IsSlotProcess x t p → m.frames.free < fork_need p → ⊥)
         → ((others : List View) → PlainStateRule m.frames (view_of x ∷ others) → PlainStateRule b (view_of y ∷ view_of z ∷ others))
-        → IsModelOutcome (record m { frames = b; slots = with_item (with_item m.slots s (Some y)) e (Some z) }) (Forked e) (plain_step w (step.Fork h))
+        → IsModelOutcome (record m { frames = b; slots = with_item (with_item m.slots s (Some y)) e (Some z) }) (Scalar (Forked e)) (plain_step w (step.Fork h))
     forks_wet z told enough keeps =
         let q = process_at m w is s x place in
         let has = told (is.tables s) q.0 q.2 in
@@ -93,7 +94,7 @@ module _ (m : Machine) (w : World) (is : IsWorld m w) (h s : ℕ) (caller : IsCa
         ] in
         let empty = free_place m w is e to in
         let n : Machine = record m { frames = b; slots = with_item (with_item m.slots s (Some y)) e (Some z) } in
-        subst (λ (o : Outcome). IsModelOutcome n (Forked e) o) (sym (splits q.0 q.1 ∙ ap (forked_unless w s q.0 e) wet)) (
+        subst (λ (o : StepOutcome). IsModelOutcome n (Scalar (Forked e)) o) (sym (splits q.0 q.1 ∙ ap (forked_unless w s q.0 e) wet)) (
           refl,
           forks m w is s e x y z q.0 has.after has.of_child place q.1 empty (free_is_empty w e to) has.parent has.child has.on_parent has.on_child b
               (seats_split m.frames b m.kernel.seat m.slots.items s e x y z place empty keeps is.rule),

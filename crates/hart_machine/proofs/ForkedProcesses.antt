@@ -1,6 +1,5 @@
--- Lemmas for a fork of the process in a slot (place in the process table): if no reference count is full, its only error is
--- `NoFrame`; and a frame to which the child's seat (an owner's capability at a frame store) has a reference is numbered
--- below 2^16.
+-- Lemmas for a fork of the process in a slot: if no reference count is full, its only error is `NoFrame`; and a frame to
+-- which the child's seat has a reference is numbered below 2^16.
 use Rattle.std.proofs.Common.{◌≡◌, ℕ, ◌<◌, ◌^◌, List, [], ◌∷◌, refl, arith}
 use Rattle.std.specs.Prelude.{Err, Result}
 use Rattle.cow_fork.specs.Forks.{IsSharersFullError}

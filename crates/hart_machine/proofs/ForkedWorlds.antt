@@ -1,5 +1,5 @@
--- Lemmas: the machine is in the model's world (state) after a fork, with marked parent and child (`forks`): each page of
--- both is one that the parent had. And on the seats (an owner's capability at a frame store) of the two.
+-- Lemmas: the machine is in the model's world (state) after a fork, with marked parent and child (`forks`): each page of both
+-- is one that the parent had. And on the seats of the two.
 use Rattle.std.proofs.Common.{◌≡◌, ◌↔◌, ℕ, ◌<◌, ◌≤◌, Option, None, Some, List, [], ◌∷◌, refl, ap, sym, subst, ◌∙◌, inl, inr}
 use Rattle.std.specs.Prelude.{slice_get, slice_set}
 use Rattle.std.specs.Vec.{with_item}
@@ -19,7 +19,7 @@ use Rattle.process_model.specs.Residence.{child_of, child_page, marked, marked_p
 use Rattle.process_model.specs.World.{with_process, World}
 use Rattle.table_walk.specs.Tables.{Tables}
 use Rattle.hart_machine.specs.SlotProcesses.{IsSlotProcess, view_of}
-use Rattle.hart_machine.specs.Slots.{most_slots}
+use Rattle.process_model.specs.declared.limits.TheConstants.{MOST_SLOTS}
 use Rattle.hart_machine.specs.Worlds.{AreCounted, HaveCopies, IsSlotContent, IsWorld, seats_of}
 use Rattle.hart_machine.specs.declared.hart.Hart.{Hart}
 use Rattle.hart_machine.specs.declared.machine.Machine.{Machine}
@@ -170,7 +170,7 @@ module _ (m : Machine) (w : World) (is : IsWorld m w) (s e : ℕ) (x y z : SlotP
     policy = is.policy;
     scheme = is.scheme;
     schemes = schemes;
-    few = subst (λ n. n ≤ most_slots) (sym (length-set (slice_set w.slots s (Some (marked p))) e (Some (child_of p)) ∙ length-set w.slots s (Some (marked p)))) is.few;
+    few = subst (λ n. n ≤ MOST_SLOTS) (sym (length-set (slice_set w.slots s (Some (marked p))) e (Some (child_of p)) ∙ length-set w.slots s (Some (marked p)))) is.few;
     frames = is.frames;
     rule = rule;
     of_kernel = subst (λ n. IsKernelTable m.kernel.scheme m.kernel.seat m.kernel.root.0 w.frames n is.stacks is.kernel) (sym (length-set (slice_set w.slots s (Some (marked p))) e (Some (child_of p)) ∙ length-set w.slots s (Some (marked p)))) is.of_kernel;

@@ -16,27 +16,29 @@ use Rattle.process_model.specs.Harts as model
 use Rattle.process_model.specs.Process.{Process}
 use Rattle.process_model.specs.Steps.{plain_step}
 use Rattle.process_model.specs.declared.step.Step.TheVariants as step
-use Rattle.process_model.specs.World.{World, Outcome, always, answers, can_go_on, can_run, flat, has_slot, on_hart, on_hart_at, process_in, refuses, with_hart, with_its_process, with_process_of, with_slot_of}
+use Rattle.process_model.specs.World.{World, StepOutcome, always, answers, can_go_on, can_run, flat, has_slot, on_hart, on_hart_at, process_in, refuses, with_hart, with_its_process, with_process_of, with_slot_of}
 use Rattle.process_model.specs.declared.config.Policy.{Policy}
 use Rattle.process_model.specs.declared.config.Policy.TheVariants.{Asid, Full}
 use Rattle.process_model.specs.declared.phase.Phase.{Phase}
 use Rattle.process_model.specs.declared.phase.Phase.TheVariants as phase
-use Rattle.process_model.specs.declared.step.Refusal.TheVariants.{BadArgument, Impossible, NoEntry}
-use Rattle.process_model.specs.declared.step.Reply.{Reply}
-use Rattle.process_model.specs.declared.step.Reply.TheVariants.{Done, Refused}
-use Rattle.process_model.specs.declared.step.Refusal.{Refusal}
+use Rattle.process_model.specs.declared.reply.Refusal.TheVariants.{BadArgument, Impossible, NoEntry}
+use Rattle.process_model.specs.declared.reply.Reply.{Reply}
+use Rattle.process_model.specs.declared.reply.ScalarReply.TheVariants.{Done, Refused}
+use Rattle.process_model.specs.declared.reply.Reply.TheVariants.{Scalar}
+use Rattle.process_model.specs.declared.reply.Refusal.{Refusal}
 use Rattle.hart_machine.specs.Harts.{advanced, cleaned, cleaned_for, cleaned_if, emptied, fenced, hart_of, is_before_user, key_of}
-use Rattle.hart_machine.specs.Slots.{marks_of, most_slots}
+use Rattle.hart_machine.specs.Slots.{marks_of}
 use Rattle.hart_machine.specs.SlotProcesses.{IsSlotProcess}
 use Rattle.hart_machine.specs.Worlds.{IsSlotContent, IsWorld, IsModelOutcome}
 use Rattle.hart_machine.specs.declared.hart.Hart.{Hart}
 use Rattle.hart_machine.specs.declared.machine.Machine.{Machine}
 use Rattle.hart_machine.specs.declared.slot_process.SlotProcess.{SlotProcess}
 use Rattle.hart_machine.proofs.Filtered.{in_filter, later}
+use Rattle.process_model.specs.declared.limits.TheConstants.{MOST_SLOTS}
 
 -- refusals
 
-module _ (w : World) (h : ℕ) (proper : Bool) (possible entry : model.Hart → Bool) (run : model.Hart → Outcome) where
+module _ (w : World) (h : ℕ) (proper : Bool) (possible entry : model.Hart → Bool) (run : model.Hart → StepOutcome) where
   pub without_hart : slice_get w.harts h ≡ None → on_hart w h proper possible entry run ≡ refuses w BadArgument
   unfolding on_hart
   without_hart is = ap (on_hart_at w proper possible entry run) is
@@ -63,18 +65,18 @@ module _ (w : World) (h : ℕ) (proper : Bool) (possible entry : model.Hart → 
 
 -- the process of a hart
 
-module _ (w : World) (x : model.Hart) (run : ℕ → Process → Outcome) where
+module _ (w : World) (x : model.Hart) (run : ℕ → Process → StepOutcome) where
   pub its_process : (s : ℕ) (p : Process) → x.slot ≡ Some s → slice_get w.slots s ≡ Some (Some p) → with_its_process w x run ≡ run s p
   unfolding with_its_process
   its_process s p on at = ap (with_slot_of w x.phase run) on ∙ ap (λ o. with_process_of w x.phase run s (flat o)) at
 
 -- what is answered
 
-pub refused : (m : Machine) (w : World) → IsWorld m w → (r : Refusal) (o : Outcome) → o ≡ refuses w r → IsModelOutcome m (Refused r) o
-refused m w is r o e = subst (λ (x : Outcome). IsModelOutcome m (Refused r) x) (sym e) (refl, is)
+pub refused : (m : Machine) (w : World) → IsWorld m w → (r : Refusal) (o : StepOutcome) → o ≡ refuses w r → IsModelOutcome m (Scalar (Refused r)) o
+refused m w is r o e = subst (λ (x : StepOutcome). IsModelOutcome m (Scalar (Refused r)) x) (sym e) (refl, is)
 
-pub makes : (m : Machine) (reply : Reply) (w : World) (o : Outcome) → IsWorld m w → o ≡ answers w reply → IsModelOutcome m reply o
-makes m reply w o is e = subst (λ (x : Outcome). IsModelOutcome m reply x) (sym e) (refl, is)
+pub makes : (m : Machine) (reply : Reply) (w : World) (o : StepOutcome) → IsWorld m w → o ≡ answers w reply → IsModelOutcome m reply o
+makes m reply w o is e = subst (λ (x : StepOutcome). IsModelOutcome m reply x) (sym e) (refl, is)
 
 -- harts and processes of a machine
 
@@ -159,7 +161,7 @@ module _ (m : Machine) (w : World) (is : IsWorld m w) where
         on_any (x ∷ hs) = ap (λ b. has_slot s x.slot || b) (on_any hs)
 
   -- the slot of a hart is one of those that there may be
-  pub slot_low : (h : ℕ) (x : Hart) → slice_get m.harts.items h ≡ Some x → (s : ℕ) → x.slot ≡ Some s → s < most_slots
+  pub slot_low : (h : ℕ) (x : Hart) → slice_get m.harts.items h ≡ Some x → (s : ℕ) → x.slot ≡ Some s → s < MOST_SLOTS
   slot_low h x at s on =
       let t = is.hosted h s x at on in
       let p = process_at s t.0 t.1 in
@@ -248,15 +250,15 @@ switched x slot = record x { phase = model.phase_for slot; slot = slot }
 
 module _ (m : Machine) (w : World) (is : IsWorld m w) (h : ℕ) (slot : Option ℕ) where
   module _ (p : Phase) (has : HasHart m w h p) where
-    pub switch_refused : (model.may_switch p ≡ false) ⊎ (can_run w slot ≡ false) → IsModelOutcome m (Refused (Impossible p)) (plain_step w (step.Switch h slot))
+    pub switch_refused : (model.may_switch p ≡ false) ⊎ (can_run w slot ≡ false) → IsModelOutcome m (Scalar (Refused (Impossible p))) (plain_step w (step.Switch h slot))
     switch_refused fails = refused m w is (Impossible p) _
         (impossible w h true (λ x. model.may_switch x.phase && can_run w slot) always _ (hart_of has.hart) has.in_model refl
         (ap (λ q. model.may_switch q && can_run w slot) has.phased ∙ not_both (model.may_switch p) (can_run w slot) fails)
         ∙ ap (λ q. refuses w (Impossible q)) has.phased)
 
     pub switches : (x y : Hart) → x ≡ get_or m.harts.items h x → y ≡ switched x slot → model.may_switch p ≡ true → can_run w slot ≡ true
-        → IsModelOutcome (record m { harts = with_item m.harts h y }) Done (plain_step w (step.Switch h slot))
-    switches x y read made may can = subst (λ (z : Hart). IsModelOutcome (record m { harts = with_item m.harts h z }) Done (plain_step w (step.Switch h slot))) (sym (made ∙ ap (λ z. switched z slot) (hart_read m w is h p has x read))) (makes _ Done _ _ (hart_changes m w is h has.hart (switched has.hart slot) has.there (hosts slot can) (lone slot can) (idles slot) (λ e. is.local h has.hart e has.there))
+        → IsModelOutcome (record m { harts = with_item m.harts h y }) (Scalar Done) (plain_step w (step.Switch h slot))
+    switches x y read made may can = subst (λ (z : Hart). IsModelOutcome (record m { harts = with_item m.harts h z }) (Scalar Done) (plain_step w (step.Switch h slot))) (sym (made ∙ ap (λ z. switched z slot) (hart_read m w is h p has x read))) (makes _ (Scalar Done) _ _ (hart_changes m w is h has.hart (switched has.hart slot) has.there (hosts slot can) (lone slot can) (idles slot) (λ e. is.local h has.hart e has.there))
         (runs w h true (λ x. model.may_switch x.phase && can_run w slot) always _ (hart_of has.hart) has.in_model refl (rw (has.phased, may, can) refl) refl)) where
           hosts : (o : Option ℕ) → can_run w o ≡ true → (s : ℕ) → o ≡ Some s → (t : SlotProcess) × (slice_get m.slots.items s ≡ Some (Some t))
           hosts None can s e = absurd (cc)
@@ -375,14 +377,14 @@ fenced_slot Asid x = go (is_before_user x.phase) x.slot where
   go false o = refl
 
 module _ (m : Machine) (w : World) (is : IsWorld m w) (h : ℕ) (p : Phase) (has : HasHart m w h p) where
-  pub next_refused : can_go_on w (hart_of has.hart) ≡ false → IsModelOutcome m (Refused (Impossible p)) (plain_step w (step.Next h))
+  pub next_refused : can_go_on w (hart_of has.hart) ≡ false → IsModelOutcome m (Scalar (Refused (Impossible p))) (plain_step w (step.Next h))
   next_refused fails = refused m w is (Impossible p) _
       (impossible w h true (can_go_on w) always _ (hart_of has.hart) has.in_model refl fails ∙ ap (λ q. refuses w (Impossible q)) has.phased)
 
   pub goes_on : (x y : Hart) → x ≡ get_or m.harts.items h x → y ≡ advanced m.policy x → can_go_on w (hart_of has.hart) ≡ true
-      → IsModelOutcome (record m { harts = with_item m.harts h y }) Done (plain_step w (step.Next h))
-  goes_on x y read made can = subst (λ (z : Hart). IsModelOutcome (record m { harts = with_item m.harts h z }) Done (plain_step w (step.Next h))) (sym (made ∙ ap (advanced m.policy) (hart_read m w is h p has x read)))
-      (makes _ Done _ _ (hart_changes m w is h has.hart (advanced m.policy has.hart) has.there (λ s on. is.hosted h s has.hart has.there (sym slot_is ∙ on))
+      → IsModelOutcome (record m { harts = with_item m.harts h y }) (Scalar Done) (plain_step w (step.Next h))
+  goes_on x y read made can = subst (λ (z : Hart). IsModelOutcome (record m { harts = with_item m.harts h z }) (Scalar Done) (plain_step w (step.Next h))) (sym (made ∙ ap (advanced m.policy) (hart_read m w is h p has x read)))
+      (makes _ (Scalar Done) _ _ (hart_changes m w is h has.hart (advanced m.policy has.hart) has.there (λ s on. is.hosted h s has.hart has.there (sym slot_is ∙ on))
       (λ s on k z at also. is.alone s k h z has.hart at has.there also (sym slot_is ∙ on)) idles (λ e there. local e (in_fenced m.policy has.hart e there)))
       (runs w h true (can_go_on w) always _ (hart_of has.hart) has.in_model refl can refl ∙ rw (← is.policy, ← advanced_is m.policy has.hart local) refl)) where
         local : HasLocal has.hart

@@ -10,9 +10,9 @@ use Rattle.process_model.specs.Mappings.{Mapped, Unmapped}
 use Rattle.process_model.specs.Process.{Pending, Process}
 use Rattle.process_model.specs.Service.{access_step, Answer, served, served_or_ended, access_outcome_if, user_access}
 use Rattle.process_model.specs.Steps.{plain_step}
-use Rattle.process_model.specs.World.{always, can_go_on, can_serve, free_slot, kernel_call, Outcome, refuses, World}
+use Rattle.process_model.specs.World.{always, can_go_on, can_serve, free_slot, kernel_call, StepOutcome, refuses, World}
 use Rattle.process_model.specs.declared.image.BadImage.{BadImage}
-use Rattle.process_model.specs.declared.step.Refusal.{Refusal}
+use Rattle.process_model.specs.declared.reply.Refusal.{Refusal}
 use Rattle.process_model.specs.declared.step.Step.{Step}
 use Rattle.process_model.specs.declared.step.Step.TheVariants as step
 use Rattle.process_model.specs.Stale.{with_stale_slots}
@@ -24,7 +24,7 @@ use Rattle.sv39_entry.specs.declared.rule.Rule.{Rule}
 use Rattle.hart_machine.proofs.StepShapes.{kernel_call_is, on_hart_is, with_its_process_is}
 
 module _ (w : World) where
-  abbrev Stays : Outcome → Type 0
+  abbrev Stays : StepOutcome → Type 0
   Stays o = ((o.world).policy ≡ w.policy) × ((o.world).scheme ≡ w.scheme)
 
   refused_stays : (r : Refusal) → Stays (refuses w r)
@@ -83,7 +83,7 @@ module _ (w : World) where
   serve_stays h hart t p None = (refl, refl)
   serve_stays h hart t p (Some a) = served_stays h hart t p a _
 
-  call_stays : (h : ℕ) (proper : Bool) (run : Hart → ℕ → Process → Outcome) → ((hart : Hart) (t : ℕ) (p : Process) → Stays (run hart t p)) → Stays (kernel_call w h proper run)
+  call_stays : (h : ℕ) (proper : Bool) (run : Hart → ℕ → Process → StepOutcome) → ((hart : Hart) (t : ℕ) (p : Process) → Stays (run hart t p)) → Stays (kernel_call w h proper run)
   call_stays h proper run same = kernel_call_is w h proper run Stays refused_stays (λ hart t p there kernel on lives. same hart t p)
 
   pub rules_stay : (s : Step) → Stays (plain_step w s)
@@ -114,6 +114,6 @@ module _ (w : World) where
   scheme_stays s = (rules_stay s).1
 
 -- marks change neither
-pub stale_scheme : (policy : Policy) (w : World) (o : Outcome) → ((with_stale_slots policy w o).world).scheme ≡ (o.world).scheme
+pub stale_scheme : (policy : Policy) (w : World) (o : StepOutcome) → ((with_stale_slots policy w o).world).scheme ≡ (o.world).scheme
 stale_scheme Full w o = refl
 stale_scheme Asid w o = refl

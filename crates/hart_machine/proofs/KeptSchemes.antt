@@ -6,7 +6,7 @@ use Rattle.process_model.specs.Mappings.{Mapped, mapped, mapped_unless, Unmapped
 use Rattle.process_model.specs.Process.{Page, Process, regions}
 use Rattle.process_model.specs.Regions.{first_rule, Region}
 use Rattle.process_model.specs.Service.{AccessRequest, if_resident, if_settled, unless_denied, user_access}
-use Rattle.process_model.specs.declared.step.Refusal.{Refusal}
+use Rattle.process_model.specs.declared.reply.Refusal.{Refusal}
 use Rattle.sv39_entry.specs.declared.rule.Rule.{Rule}
 
 module _ (p : Process) (a : AccessRequest) where

@@ -1,5 +1,5 @@
--- Lemmas: a machine keeps its page tables (`KeepsTables`, `SameTables`, `KeepsOtherSlots`) if no slot (place in the process
--- table) changed, or only one did: its process is by the same tables, ended, or started; and so over two such changes.
+-- Lemmas: a machine keeps its page tables (`KeepsTables`, `SameTables`, `KeepsOtherSlots`) if no slot changed, or only one
+-- did: its process is by the same tables, ended, or started; and so over two such changes.
 use Rattle.std.proofs.Common.{◌≡◌, ℕ, length, Option, None, Some, List, refl, ap, sym, subst, ◌∙◌, inl, inr}
 use Rattle.std.specs.Prelude.{slice_get, slice_set}
 use Rattle.std.proofs.lemmas.Bool.{cases_eq}

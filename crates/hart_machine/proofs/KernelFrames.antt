@@ -1,5 +1,5 @@
--- Lemmas: the frames that the kernel's seat (an owner's capability at a frame store) holds are frame 0, the stacks and the
--- tables, as a list with one entry for each reference, as many as the model counts (`HasKernel`, `kernel_has`).
+-- Lemmas: the frames that the kernel's seat holds are frame 0, the stacks and the tables, as a list with one entry for each
+-- reference, as many as the model counts (`HasKernel`, `kernel_has`).
 use Rattle.std.proofs.Common.{◌≡◌, ℕ, zero, suc, ◌+◌, ◌<◌, ◌==◌, ◌⊎◌, Bool, true, false, cond, inl, inr, refl, ap, sym, ◌∙◌, arith, List, [], ◌∷◌, ◌++◌, length, Some}
 use Rattle.std.specs.Prelude.{◌&&◌, ◌||◌, is_some, nat_le, nat_lt, slice_get}
 use Rattle.std.specs.FinMap as finite

@@ -1,12 +1,12 @@
--- Lemmas for `Machine::run`: replies, world (the model's state) and buffers (TLBs) after some steps of a list (`HasRun`),
--- after one more, and after all.
+-- Lemmas for `Machine::run`: replies, world (the model's state) and TLBs after some steps of a list (`HasRun`), after one
+-- more, and after all.
 use Rattle.std.proofs.Common.{◌≡◌, ℕ, ◌<◌, ◌≤◌, ◌+◌, get_or, length, drop, List, [], ◌∷◌, ◌++◌, ap, refl, sym, subst, ◌∙◌}
 use Rattle.std.proofs.lemmas.List.{append-nil, append_assoc, at_drop_more, drop_all}
 use Rattle.process_model.specs.Stale.{with_stale_slots}
 use Rattle.process_model.specs.Steps.{plain_step, run, step}
-use Rattle.process_model.specs.World.{Outcome, World}
+use Rattle.process_model.specs.World.{StepOutcome, World}
 use Rattle.process_model.specs.declared.config.Policy.{Policy}
-use Rattle.process_model.specs.declared.step.Reply.{Reply}
+use Rattle.process_model.specs.declared.reply.Reply.{Reply}
 use Rattle.process_model.specs.declared.step.Step.{Step}
 use Rattle.process_model.specs.declared.config.Policy.TheVariants.{Asid, Full}
 use Rattle.hart_machine.specs.Buffers.{BuffersAre}
@@ -26,7 +26,7 @@ pub record HasRun (first m : Machine) (all left : List Step) (replies : List Rep
   pub ruled : world.policy ≡ w.policy
   pub buffers : (new : Machine) → BuffersFollow m world left new → BuffersFollow first w all new
 
-marks_policy : (policy : Policy) (w : World) (o : Outcome) → ((with_stale_slots policy w o).world).policy ≡ (o.world).policy
+marks_policy : (policy : Policy) (w : World) (o : StepOutcome) → ((with_stale_slots policy w o).world).policy ≡ (o.world).policy
 marks_policy Full w o = refl
 marks_policy Asid w o = refl
 

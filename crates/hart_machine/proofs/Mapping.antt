@@ -23,9 +23,10 @@ use Rattle.process_model.specs.Process.{Page, Process, without_pending}
 use Rattle.process_model.specs.Regions.{Region}
 use Rattle.process_model.specs.ReleaseLaws.{was_settled}
 use Rattle.process_model.specs.Steps.{plain_step}
-use Rattle.process_model.specs.World.{Outcome, refuses, World}
-use Rattle.process_model.specs.declared.step.Refusal.{Refusal}
-use Rattle.process_model.specs.declared.step.Reply.TheVariants.{Refused}
+use Rattle.process_model.specs.World.{StepOutcome, refuses, World}
+use Rattle.process_model.specs.declared.reply.Refusal.{Refusal}
+use Rattle.process_model.specs.declared.reply.ScalarReply.TheVariants.{Refused}
+use Rattle.process_model.specs.declared.reply.Reply.TheVariants.{Scalar}
 use Rattle.process_model.specs.declared.step.Step.TheVariants as step
 use Rattle.sv39_entry.specs.Address.{page_of}
 use Rattle.table_walk.specs.Tables.{leaf_node, Tables}
@@ -111,7 +112,7 @@ module _ (m : Machine) (w : World) (is : IsWorld m w) (h s : ℕ) (caller : IsCa
   -- mmap
 
   module _ (len protection flags n : ℕ) (r : Result ℕ Refusal) (view : view_of y ≡ view_of x) where
-    abbrev outcome : List File → Process → Outcome
+    abbrev outcome : List File → Process → StepOutcome
     outcome files p = mapped_to w s (mapped files p len protection flags n)
 
     module _ (p : Process) (at : slice_get w.slots s ≡ Some (Some p)) (slot_process : IsSlotProcess x (is.tables s) p) where
@@ -140,7 +141,7 @@ module _ (m : Machine) (w : World) (is : IsWorld m w) (h s : ℕ) (caller : IsCa
         → IfErr r (λ _. y ≡ x) → IsModelOutcome (record m { slots = with_item m.slots s (Some y) }) (mapped_or_refused r) (plain_step w (step.Mmap h len protection flags n))
     maps answer after refused =
         let q = process_at m w is s x place in
-        subst (λ (o : Outcome). IsModelOutcome (record m { slots = with_item m.slots s (Some y) }) (mapped_or_refused r) o) (sym (map_step q.0 q.1 q.2))
+        subst (λ (o : StepOutcome). IsModelOutcome (record m { slots = with_item m.slots s (Some y) }) (mapped_or_refused r) o) (sym (map_step q.0 q.1 q.2))
         (map_comes q.0 q.1 q.2 (mapped m.files q.0 len protection flags n) refl (answer (is.tables s) q.0 q.2) (of_ok r after) refused) where
           of_ok : (o : Result ℕ Refusal) → IfOk o (λ _. (t : Tables) (p : Process) → IsSlotProcess x t p → IsSlotProcess y t (without_pending (process_mapped p (mapped m.files p len protection flags n))))
               → IfOk o (λ _. IsSlotProcess y (is.tables s) (without_pending (process_mapped (process_at m w is s x place).0 (mapped m.files (process_at m w is s x place).0 len protection flags n))))
@@ -157,7 +158,7 @@ module _ (m : Machine) (w : World) (is : IsWorld m w) (h s : ℕ) (caller : IsCa
     unmap_refused e refused = let q = process_at m w is s x place in unmap_step q.0 q.1 ∙ ap (unmapped_to w s) (refused (is.tables s) q.0 q.2)
 
     pub unmap_sets : (p : Process) → slice_get w.slots s ≡ Some (Some p) → (u : Unmapped) → unmapped m.files p address len ≡ Ok u → ((plain_step w (step.Munmap h address len)).world).slots ≡ slice_set w.slots s (Some (without_pending u.process))
-    unmap_sets p at u told = ap (λ (o : Outcome). (o.world).slots) (unmap_step p at ∙ ap (unmapped_to w s) told)
+    unmap_sets p at u told = ap (λ (o : StepOutcome). (o.world).slots) (unmap_step p at ∙ ap (unmapped_to w s) told)
 
     follows : (p : Process) → slice_get w.slots s ≡ Some (Some p) → (has : HasUnmapped y (is.tables s) p m.files files address len)
         → Follows (view_of y) (is.tables s) has.tables p (without_pending has.what.process) w.counter w.counter
@@ -175,12 +176,12 @@ module _ (m : Machine) (w : World) (is : IsWorld m w) (h s : ℕ) (caller : IsCa
     unmaps {A = A} (Ok a) told refused same files_stay frames_stay keeps =
         let q = process_at m w is s x place in
         let has = told (is.tables s) q.0 q.2 in
-        subst (λ (o : Outcome). IsModelOutcome (record m { frames = b; slots = with_item m.slots s (Some y); files = files }) (done_or_refused (done_with a)) o) (sym (unmap_step q.0 q.1 ∙ ap (unmapped_to w s) has.is)) (
+        subst (λ (o : StepOutcome). IsModelOutcome (record m { frames = b; slots = with_item m.slots s (Some y); files = files }) (done_or_refused (done_with a)) o) (sym (unmap_step q.0 q.1 ∙ ap (unmapped_to w s) has.is)) (
           refl,
           subst (λ (fs : List File). IsWorld (record m { frames = b; slots = with_item m.slots s (Some y); files = fs }) (unmapped_to w s (Ok has.what)).world) (sym has.files)
               (call_changes m w is s x y q.0 (without_pending has.what.process) has.tables place q.1 has.slot_process w.counter (follows q.0 q.1 has) b keeps (unmapped_scheme m.files q.0 address len has.what has.is ∙ is.schemes s q.0 q.1) has.what.files),
         )
     unmaps {A = A} (Err e) told refused same files_stay frames_stay keeps =
         let q = process_at m w is s x place in
-        subst (λ (o : Outcome). IsModelOutcome (record m { frames = b; slots = with_item m.slots s (Some y); files = files }) (Refused e) o) (sym (unmap_step q.0 q.1 ∙ ap (unmapped_to w s) (refused (is.tables s) q.0 q.2)))
+        subst (λ (o : StepOutcome). IsModelOutcome (record m { frames = b; slots = with_item m.slots s (Some y); files = files }) (Scalar (Refused e)) o) (sym (unmap_step q.0 q.1 ∙ ap (unmapped_to w s) (refused (is.tables s) q.0 q.2)))
         (refl, rw (same, files_stay, frames_stay) (put_back m w is s x place))

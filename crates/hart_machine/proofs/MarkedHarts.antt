@@ -1,5 +1,5 @@
--- Lemmas for `Machine::mark`: the harts of a list are marked as stale for a slot (place in the process table) one after
--- another, in the end all, and each keeps its buffer (TLB).
+-- Lemmas for `Machine::mark`: the harts of a list are marked as stale for a slot one after another, in the end all, and each
+-- keeps its TLB.
 use Rattle.std.proofs.Common.{◌≡◌, ℕ, zero, suc, ◌≤◌, length, map, Some, List, [], ◌∷◌, refl, ap, sym, ◌∙◌, arith}
 use Rattle.std.specs.Prelude.{slice_get, slice_set}
 use Rattle.std.proofs.lemmas.Option.{same_Some}

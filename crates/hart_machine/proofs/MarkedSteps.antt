@@ -1,5 +1,5 @@
--- Lemmas for a step and the stale marks after it: reply, world (the model's state) and each buffer (TLB) are the model's,
--- only fills add entries, and under policy `asid` no entry of a living process is stale on an unmarked hart (`true_after`).
+-- Lemmas for a step and the stale marks after it: reply, world (the model's state) and each TLB are the model's, only fills
+-- add entries, and under policy `asid` no entry of a living process is stale on an unmarked hart (`true_after`).
 use Rattle.std.proofs.Common.{◌≡◌, ℕ, List, Option, map, refl, ap, sym, subst, ◌∙◌}
 use Rattle.process_model.specs.Process.{Process}
 use Rattle.process_model.specs.Stale.{with_stale_slots}
@@ -8,7 +8,7 @@ use Rattle.process_model.specs.Steps.{plain_step}
 use Rattle.process_model.specs.World.{World}
 use Rattle.process_model.specs.declared.config.Policy.{Policy}
 use Rattle.process_model.specs.declared.config.Policy.TheVariants.{Asid, Full}
-use Rattle.process_model.specs.declared.step.Reply.{Reply}
+use Rattle.process_model.specs.declared.reply.Reply.{Reply}
 use Rattle.process_model.specs.declared.step.Step.{Step}
 use Rattle.hart_machine.specs.Buffers.{BuffersAre, OnlyFillsAdd, SameBuffers}
 use Rattle.hart_machine.specs.Harts.{hart_of, marked_harts}

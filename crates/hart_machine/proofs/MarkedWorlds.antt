@@ -1,5 +1,5 @@
--- Lemmas: if a step names the slots (places in the process table) that it changed, the machine marked for these is in the
--- model's world (state) with its stale marks (`marks_follow`); the slots named are below 64.
+-- Lemmas: if a step names the slots that it changed, the machine marked for these is in the model's world (state) with its
+-- stale marks (`marks_follow`); the slots named are below 64.
 use Rattle.std.proofs.Common.{◌≡◌, ℕ, ◌<◌, ◌≤◌, ◌||◌, Bool, true, false, map, length, None, Option, option_map, Some, List, [], ◌∷◌, refl, ap, sym, subst, ◌∙◌, arith}
 use Rattle.std.specs.Prelude.{Contains, slice_get}
 use Rattle.std.proofs.Math.Path.{fun_ext}
@@ -9,13 +9,13 @@ use Rattle.hart_tlb.specs.declared.entry.TlbEntry.{TlbEntry}
 use Rattle.process_model.specs.Harts as model
 use Rattle.process_model.specs.Process.{Process}
 use Rattle.process_model.specs.Stale.{changed_slots, with_stale, with_stale_slots}
-use Rattle.process_model.specs.World.{has_slot, Outcome, World}
+use Rattle.process_model.specs.World.{has_slot, StepOutcome, World}
 use Rattle.process_model.specs.declared.config.Policy.{Policy}
 use Rattle.process_model.specs.declared.config.Policy.TheVariants.{Asid, Full}
 use Rattle.hart_machine.specs.Buffers.{SameBuffers}
 use Rattle.hart_machine.specs.Harts.{hart_of, marked, marked_harts}
 use Rattle.hart_machine.specs.Marks.{AreMarked}
-use Rattle.hart_machine.specs.Slots.{most_slots}
+use Rattle.process_model.specs.declared.limits.TheConstants.{MOST_SLOTS}
 use Rattle.hart_machine.specs.Worlds.{IsWorld}
 use Rattle.hart_machine.specs.declared.hart.Hart.{Hart}
 use Rattle.hart_machine.specs.declared.machine.Machine.{Machine}
@@ -24,7 +24,7 @@ use Rattle.process_laws.specs.Words.{changed_at}
 use Rattle.hart_machine.proofs.MapElements.{from_map}
 
 -- a slot that is named is one of those that there are
-named_there : (w : World) (o : Outcome) (s : ℕ) → changed_at (slice_get w.slots s) (slice_get (o.world).slots s) ≡ true → s < length w.slots
+named_there : (w : World) (o : StepOutcome) (s : ℕ) → changed_at (slice_get w.slots s) (slice_get (o.world).slots s) ≡ true → s < length w.slots
 named_there w o s named = go (slice_get w.slots s) refl named where
   go : (c : Option (Option Process)) → slice_get w.slots s ≡ c → changed_at c (slice_get (o.world).slots s) ≡ true → s < length w.slots
   go None at named = absurd (cc)
@@ -38,13 +38,13 @@ or_right : (a b : Bool) → b ≡ true → (a || b) ≡ true
 or_right true b e = refl
 or_right false b e = e
 
-module _ (w : World) (o : Outcome) (changed born : Option ℕ) (marks : AreMarked w o changed born) (few : length w.slots ≤ most_slots) where
-  pub changed_low : (s : ℕ) → changed ≡ Some s → s < most_slots
+module _ (w : World) (o : StepOutcome) (changed born : Option ℕ) (marks : AreMarked w o changed born) (few : length w.slots ≤ MOST_SLOTS) where
+  pub changed_low : (s : ℕ) → changed ≡ Some s → s < MOST_SLOTS
   changed_low s is =
       let low = named_there w o s (marks s ∙ or_true (has_slot s changed) (has_slot s born) (ap (has_slot s) is ∙ eq-eqb s s refl)) in
       omega (arith, low, few)
 
-  pub born_low : (s : ℕ) → born ≡ Some s → s < most_slots
+  pub born_low : (s : ℕ) → born ≡ Some s → s < MOST_SLOTS
   born_low s is =
       let low = named_there w o s (marks s ∙ or_right (has_slot s changed) (has_slot s born) (ap (has_slot s) is ∙ eq-eqb s s refl)) in
       omega (arith, low, few)
@@ -74,7 +74,7 @@ map_same : {A B : Type 0} (f g : A → B) (xs : List A) → ((x : A) → f x ≡
 map_same f g [] same = refl
 map_same f g (x ∷ xs) same = λ i. same x i ∷ map_same f g xs same i
 
-module _ (w : World) (o : Outcome) (changed born : Option ℕ) (marks : AreMarked w o changed born) where
+module _ (w : World) (o : StepOutcome) (changed born : Option ℕ) (marks : AreMarked w o changed born) where
   as_model : (x : model.Hart) → with_both changed born x ≡ with_stale (changed_slots 0 w.slots (o.world).slots) x
   as_model x = ap (λ (f : ℕ → Bool). let y : model.Hart = record x { stale = f } in y) (fun_ext (λ n.
       same_marks (has_slot n changed) (has_slot n born) (x.stale n)

@@ -1,5 +1,5 @@
--- Lemmas: what a seat (an owner's capability at a frame store) knows of the tables below a root says which leaves there are,
--- so two descriptions of them have the same leaves (`one_tables`), and every access has the same outcome (`one_answer`).
+-- Lemmas: what a seat knows of the tables below a root says which leaves there are, so two descriptions of them have the same
+-- leaves (`one_tables`), and every access has the same outcome (`one_answer`).
 use Rattle.std.proofs.Common.{◌≡◌, ℕ, zero, suc, ◌+◌, ◌*◌, ◌/◌, ◌%◌, ◌≤◌, nat_lt, true, false, Option, None, Some, option_map, refl, ap, sym, subst, ◌∙◌, inl, inr, arith, if◌then◌else◌}
 use Rattle.std.specs.Prelude.{unwrap_or}
 use Rattle.std.specs.FinMap.{get}

@@ -1,5 +1,5 @@
--- Lemmas on the page table that a hart's `satp` names: it is there, and the hart's buffer (TLB) may have its entries in this
--- phase, so that a fill by it is allowed (`present_serves`) and a walk of it is a translation (`present_served`).
+-- Lemmas on the page table that a hart's `satp` names: it is there, and the hart's TLB may have its entries in this phase, so
+-- that a fill by it is allowed (`present_serves`) and a walk of it is a translation (`present_served`).
 use Rattle.std.proofs.Common.{◌≡◌, ◌⊎◌, ℕ, ◌<◌, get_or, Option, None, Some, true, refl, ap, sym, subst, ◌∙◌, inl, inr}
 use Rattle.std.specs.Prelude.{slice_get}
 use Rattle.std.specs.Vec.{vec_len}
@@ -18,8 +18,8 @@ use Rattle.table_walk.specs.Leaves.{walk_answer}
 use Rattle.hart_machine.specs.BufferEntries.{IsEntryByPhase, may_have_kernel, may_have_process}
 use Rattle.hart_machine.specs.declared.hart.Hart.{Hart}
 use Rattle.hart_machine.specs.declared.machine.Machine.{Machine}
-use Rattle.hart_machine.specs.declared.tables.SatpTable.{SatpTable}
-use Rattle.hart_machine.specs.declared.tables.SatpTable.TheVariants.{OfKernel, OfProcess}
+use Rattle.hart_machine.specs.declared.translation.SatpTable.{SatpTable}
+use Rattle.hart_machine.specs.declared.translation.SatpTable.TheVariants.{OfKernel, OfProcess}
 use Rattle.hart_machine.specs.declared.slot_process.SlotProcess.{SlotProcess}
 use Rattle.hart_machine.proofs.AccessingWorlds.{slot_has}
 

@@ -13,7 +13,7 @@ use Rattle.process_model.specs.Process.{Page, Process}
 use Rattle.process_model.specs.World.{World, with_process}
 use Rattle.address_space.specs.PendingAccess.{agrees_pending}
 use Rattle.address_space.specs.Kernel.{IsKernelTable}
-use Rattle.hart_machine.specs.Slots.{most_slots}
+use Rattle.process_model.specs.declared.limits.TheConstants.{MOST_SLOTS}
 use Rattle.hart_machine.specs.SlotProcesses.{IsSlotProcess, view_of}
 use Rattle.hart_machine.specs.Worlds.{IsSlotContent, IsWorld, seats_of}
 use Rattle.hart_machine.specs.declared.hart.Hart.{Hart}
@@ -52,7 +52,7 @@ module _ (m : Machine) (w : World) (is : IsWorld m w) (s : ℕ) (x y : SlotProce
       scheme = is.scheme;
       schemes = λ k r there. at_each w.slots p q at k (Some (Some r)) there (λ (c : Option (Option Process)). (c ≡ Some (Some r) → r.scheme ≡ w.scheme))
           (λ same e. ap (λ (z : Process). z.scheme) (sym (same_Some q r (same_Some _ _ e))) ∙ schemed ∙ is.schemes s p at) (λ apart old e. is.schemes k r old) refl;
-      few = subst (λ n. n ≤ most_slots) (sym (length-set w.slots s (Some q))) is.few;
+      few = subst (λ n. n ≤ MOST_SLOTS) (sym (length-set w.slots s (Some q))) is.few;
       frames = is.frames;
       rule = rule;
       of_kernel = subst (λ n. IsKernelTable m.kernel.scheme m.kernel.seat m.kernel.root.0 w.frames n is.stacks is.kernel) (sym (length-set w.slots s (Some q))) is.of_kernel;

@@ -10,8 +10,8 @@ use Rattle.process_model.specs.Heap.{resized, resized_unless, sbrk_result, size_
 use Rattle.process_model.specs.Order.{HasOrder}
 use Rattle.process_model.specs.PageMap.{get}
 use Rattle.process_model.specs.Process.{Page, Process}
-use Rattle.process_model.specs.declared.step.Refusal.{Refusal}
-use Rattle.process_model.specs.declared.step.Refusal.TheVariants.{BadSize}
+use Rattle.process_model.specs.declared.reply.Refusal.{Refusal}
+use Rattle.process_model.specs.declared.reply.Refusal.TheVariants.{BadSize}
 use Rattle.hart_machine.proofs.ChangedSlots.{changed}
 use Rattle.sv39_entry.specs.Schemes.{trapframe_page}
 

@@ -1,5 +1,5 @@
--- Lemmas: the frames that a process's seat (an owner's capability at a frame store) holds are frame 0, its trapframe, its
--- tables and those of its pages, as a list with one entry for each reference (`HasFrames`, `process_frames`).
+-- Lemmas: the frames that a process's seat holds are frame 0, its trapframe, its tables and those of its pages, as a list
+-- with one entry for each reference (`HasFrames`, `process_frames`).
 use Rattle.std.proofs.Common.{◌≡◌, ℕ, ◌<◌, ◌≤◌, inl, inr, ap, sym, subst, ◌∙◌, arith, List, ◌∷◌, ◌++◌, map, length, Some}
 use Rattle.std.specs.Prelude.{is_some}
 use Rattle.std.specs.FinMap as finite

@@ -1,5 +1,5 @@
--- Lemmas for what is seen of a machine: page tables that a seat (an owner's capability at the frame store) knows are in the memory; and
--- the harts of machine and world are there together.
+-- Lemmas for what is seen of a machine: page tables that a seat knows are in the memory; and the harts of machine and world
+-- are there together.
 use Rattle.std.proofs.Common.{◌≡◌, ℕ, ◌+◌, ◌*◌, ◌<◌, Option, Some, None, true, false, List, refl, ap, sym, subst, ◌∙◌, arith, length}
 use Rattle.std.specs.Prelude.{is_some, option_map, slice_get, slice_index}
 use Rattle.std.proofs.lemmas.Option.{slice_get-get_or, slice_get-map}

@@ -1,5 +1,5 @@
--- Lemmas for serving a fault of the process in a slot (place in the process table): its pending access in the model, that no
--- file changes, and the rule of the result: none if it was served, else the one that denies the access, or `NoFrame`.
+-- Lemmas for serving a fault of the process in a slot: its pending access in the model, that no file changes, and the rule of
+-- the result: none if it was served, else the one that denies the access, or `NoFrame`.
 use Rattle.std.proofs.Common.{◌≡◌, ℕ, ◌<◌, ◌⊎◌, Option, None, Some, List, true, refl, ap, sym, subst, ◌∙◌, inl, inr}
 use Rattle.std.proofs.lemmas.Option.{same_Some}
 use Rattle.fault_rules.specs.MadeResident.{moves_for, moves_from}

@@ -1,6 +1,6 @@
--- Lemmas for the step `Serve` (and for a page that a kernel copy reaches): the machine is in the model's world (state) if
--- the page was made resident (`is_served`) or the process has to end by a rule (`is_ending`); and which slot (place in the
--- process table) is named to be marked as stale, and leaves that stay.
+-- Lemmas for the step `Serve` (and for a page that a kernel copy reaches): the machine is in the model's world (state) if the
+-- page was made resident (`is_served`) or the process has to end by a rule (`is_ending`); and which slot is named to be
+-- marked as stale, and leaves that stay.
 use Rattle.std.proofs.Common.{◌≡◌, ℕ, ◌+◌, ◌-◌, ◌<◌, ◌≤◌, ◌==◌, ◌⊎◌, Bool, true, false, not, Option, None, Some, List, refl, ap, sym, subst, ◌∙◌, inl, inr, arith, slice_index, is_some}
 use Rattle.std.specs.Prelude.{Ok, Err, IfErr, IfOk, Result, slice_get, slice_set}
 use Rattle.std.specs.FinMap as finite
@@ -22,8 +22,9 @@ use Rattle.process_model.specs.ResidenceLaws.{made_settles}
 use Rattle.process_model.specs.Residence.{is_resident, made_resident}
 use Rattle.process_model.specs.Service.{environment_of, initial_progress, is_dry, served, served_or_ended, with_progress}
 use Rattle.process_model.specs.Stale.{is_changed}
-use Rattle.process_model.specs.World.{free, is_unserved_access, others_have, Outcome, with_process, World}
-use Rattle.process_model.specs.declared.step.Reply.TheVariants.{Ready}
+use Rattle.process_model.specs.World.{free, is_unserved_access, others_have, StepOutcome, with_process, World}
+use Rattle.process_model.specs.declared.reply.ScalarReply.TheVariants.{Ready}
+use Rattle.process_model.specs.declared.reply.Reply.TheVariants.{Scalar}
 use Rattle.sv39_entry.specs.Address.{page_of}
 use Rattle.sv39_entry.specs.Word.{ppn}
 use Rattle.sv39_entry.specs.declared.access.Access.{Access}
@@ -318,10 +319,10 @@ module _ (m : Machine) (w : World) (is : IsWorld m w) (h s : ℕ) (k : IsInKerne
   serves_by r e = ap (served w h (hart_of k.hart) s k.process) waits ∙ ap (served_or_ended w h (hart_of k.hart) s k.process a) e
 
   pub is_served : HasServed x y (is.tables s) k.process a (was_served a) m.files m.frames b
-      → IsModelOutcome (record m { frames = b; slots = with_item m.slots s (Some y) }) Ready (served w h (hart_of k.hart) s k.process (k.process).pending)
+      → IsModelOutcome (record m { frames = b; slots = with_item m.slots s (Some y) }) (Scalar Ready) (served w h (hart_of k.hart) s k.process (k.process).pending)
   is_served has =
       let made = is_reached m w is h s true k x y place b keeps a (was_served a) has in
-      subst (λ (o : Outcome). IsModelOutcome (record m { frames = b; slots = with_item m.slots s (Some y) }) Ready o) (sym (serves_by (Ok made.0) made.1)) (refl, made.2)
+      subst (λ (o : StepOutcome). IsModelOutcome (record m { frames = b; slots = with_item m.slots s (Some y) }) (Scalar Ready) o) (sym (serves_by (Ok made.0) made.1)) (refl, made.2)
 
   -- of the slots, it makes one another
   module _ (has : HasServed x y (is.tables s) k.process a (was_served a) m.files m.frames b) where
@@ -331,7 +332,7 @@ module _ (m : Machine) (w : World) (is : IsWorld m w) (h s : ℕ) (k : IsInKerne
     served_sets : (served w h (hart_of k.hart) s k.process (k.process).pending).world.slots ≡ slice_set w.slots s (Some now_served)
     served_sets =
         let made = is_reached m w is h s true k x y place b keeps a (was_served a) has in
-        ap (λ (o : Outcome). (o.world).slots) (serves_by (Ok made.0) made.1) ∙ ap (λ (q : Process). slice_set w.slots s (Some (record q { pending = was_served a }))) (sym made.4)
+        ap (λ (o : StepOutcome). (o.world).slots) (serves_by (Ok made.0) made.1) ∙ ap (λ (q : Process). slice_set w.slots s (Some (record q { pending = was_served a }))) (sym made.4)
 
     pub is_marked : (told : Bool) → told ≡ not (is_resident k.process a.access (page_of a.address)) → AreMarked w (served w h (hart_of k.hart) s k.process (k.process).pending) (slot_if s told) None
     is_marked told e =
@@ -366,12 +367,12 @@ module _ (m : Machine) (s : ℕ) (x y : SlotProcess) (place : (w : World) (h : �
   files_are P it = subst (λ (fs : List File). P (record m { frames = b; slots = with_item m.slots s (Some y); files = fs })) (sym stay) it
 
   pub served_by : (r : Result Bool Rule) → IfOk r (λ _. (t : Tables) (p : Process) (a : Pending) → IsSlotProcess x t p → p.pending ≡ Some a → HasServed x y t p a (was_served a) m.files m.frames b)
-      → IfOk r (λ _. (w : World) (h : ℕ) → IsWorld m w → (k : IsInKernel m w h s true) → IsModelOutcome after Ready (served w h (hart_of k.hart) s k.process (k.process).pending))
+      → IfOk r (λ _. (w : World) (h : ℕ) → IsWorld m w → (k : IsInKernel m w h s true) → IsModelOutcome after (Scalar Ready) (served w h (hart_of k.hart) s k.process (k.process).pending))
   served_by (Err e) told = tt
   served_by (Ok u) told = λ w h is k.
       let a = some_pending (k.process).pending k.unserved in
       let at = place w h k in
-      files_are (λ n. IsModelOutcome n Ready (served w h (hart_of k.hart) s k.process (k.process).pending))
+      files_are (λ n. IsModelOutcome n (Scalar Ready) (served w h (hart_of k.hart) s k.process (k.process).pending))
       (is_served m w is h s k x y at b keeps a.0 a.1 (told (is.tables s) k.process a.0 (tenant_is m w is s x k.process at k.in_slot) a.1))
 
   pub marked_by : (r : Result Bool Rule) → IfOk r (λ _. (t : Tables) (p : Process) (a : Pending) → IsSlotProcess x t p → p.pending ≡ Some a → HasServed x y t p a (was_served a) m.files m.frames b)

@@ -14,9 +14,10 @@ use Rattle.process_model.specs.PageMap.{PageMap}
 use Rattle.process_model.specs.Process.{Page, Process, without_pending}
 use Rattle.process_model.specs.ReleaseLaws.{was_settled}
 use Rattle.process_model.specs.Steps.{plain_step}
-use Rattle.process_model.specs.World.{Outcome, refuses, with_process, World}
-use Rattle.process_model.specs.declared.step.Refusal.{Refusal}
-use Rattle.process_model.specs.declared.step.Reply.TheVariants.{OldSize, Refused}
+use Rattle.process_model.specs.World.{StepOutcome, refuses, with_process, World}
+use Rattle.process_model.specs.declared.reply.Refusal.{Refusal}
+use Rattle.process_model.specs.declared.reply.ScalarReply.TheVariants.{OldSize, Refused}
+use Rattle.process_model.specs.declared.reply.Reply.TheVariants.{Scalar}
 use Rattle.process_model.specs.declared.step.Step.TheVariants as step
 use Rattle.table_walk.specs.Tables.{Tables}
 use Rattle.hart_machine.specs.Calls.{Follows, HasResized, IsCaller, size_of, size_or_refused}
@@ -62,7 +63,7 @@ module _ (m : Machine) (w : World) (is : IsWorld m w) (h s : ℕ) (caller : IsCa
   size_refused e answer = let q = process_at m w is s x place in size_step q.0 q.1 ∙ ap (resized_to w s q.0) (refusal_is q.0 e (sbrk_result q.0 delta) (answer (is.tables s) q.0 q.2))
 
   pub size_sets : (p q : Process) → slice_get w.slots s ≡ Some (Some p) → sbrk_result p delta ≡ Ok q → ((plain_step w (step.Sbrk h delta)).world).slots ≡ slice_set w.slots s (Some (without_pending q))
-  size_sets p q at told = ap (λ (o : Outcome). (o.world).slots) (size_step p at ∙ ap (resized_to w s p) told)
+  size_sets p q at told = ap (λ (o : StepOutcome). (o.world).slots) (size_step p at ∙ ap (resized_to w s p) told)
 
   follows : (p : Process) → slice_get w.slots s ≡ Some (Some p) → (has : HasResized y (is.tables s) p delta) → Follows (view_of y) (is.tables s) has.tables p (without_pending has.process) w.counter w.counter
   follows p at has = keeps_follow (view_of y) (is.tables s) has.tables p (without_pending has.process) w.counter
@@ -81,12 +82,12 @@ module _ (m : Machine) (w : World) (is : IsWorld m w) (h s : ℕ) (caller : IsCa
       let q = process_at m w is s x place in
       let has = told (is.tables s) q.0 q.2 in
       let after = call_changes m w is s x y q.0 (without_pending has.process) has.tables place q.1 has.slot_process w.counter (follows q.0 q.1 has) b keeps (sbrk_scheme q.0 delta has.process has.is ∙ is.schemes s q.0 q.1) m.files in
-      subst (λ (o : Outcome). IsModelOutcome (record m { frames = b; slots = with_item m.slots s (Some y) }) (OldSize n) o) (sym (size_step q.0 q.1 ∙ ap (resized_to w s q.0) has.is)) (
-        ap OldSize (size_is q.0 has.process n (sbrk_result q.0 delta) (answer (is.tables s) q.0 q.2) has.is),
+      subst (λ (o : StepOutcome). IsModelOutcome (record m { frames = b; slots = with_item m.slots s (Some y) }) (Scalar (OldSize n)) o) (sym (size_step q.0 q.1 ∙ ap (resized_to w s q.0) has.is)) (
+        ap (λ x. Scalar (OldSize x)) (size_is q.0 has.process n (sbrk_result q.0 delta) (answer (is.tables s) q.0 q.2) has.is),
         subst (λ (fs : List File). IsWorld (record m { frames = b; slots = with_item m.slots s (Some y) }) (record (with_process w s (without_pending has.process)) { files = fs })) is.files after,
       )
   sizes (Err e) answer told same frames_stay keeps =
       let q = process_at m w is s x place in
       let refuses = refusal_is q.0 e (sbrk_result q.0 delta) (answer (is.tables s) q.0 q.2) in
-      subst (λ (o : Outcome). IsModelOutcome (record m { frames = b; slots = with_item m.slots s (Some y) }) (Refused e) o) (sym (size_step q.0 q.1 ∙ ap (resized_to w s q.0) refuses))
+      subst (λ (o : StepOutcome). IsModelOutcome (record m { frames = b; slots = with_item m.slots s (Some y) }) (Scalar (Refused e)) o) (sym (size_step q.0 q.1 ∙ ap (resized_to w s q.0) refuses))
       (refl, rw (same, frames_stay) (put_back m w is s x place))

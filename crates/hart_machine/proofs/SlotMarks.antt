@@ -1,5 +1,5 @@
--- Lemmas: which slots (places in the process table) a call names as changed (`AreMarked`): none if it is refused or a
--- process ended, the slot whose process it set if its leaves changed, and the slot in which one started or was forked.
+-- Lemmas: which slots a call names as changed (`AreMarked`): none if it is refused or a process ended, the slot whose process
+-- it set if its leaves changed, and the slot in which one started or was forked.
 use Rattle.std.proofs.Common.{◌≡◌, ℕ, Bool, true, false, Option, None, Some, List, refl, ap, sym, ◌∙◌, inl, inr}
 use Rattle.std.specs.Prelude.{◌==◌, ◌&&◌, ◌||◌, slice_get, slice_set}
 use Rattle.std.proofs.lemmas.Bool.{cases_eq, eq-eqb, ne_eqb}
@@ -7,14 +7,14 @@ use Rattle.std.proofs.lemmas.Option.{slice_get_within}
 use Rattle.frame_store.specs.Seats.{place_set_other, place_set_same, places_apart}
 use Rattle.process_model.specs.Process.{Process}
 use Rattle.process_model.specs.Stale.{is_changed}
-use Rattle.process_model.specs.World.{has_slot, Outcome, refuses, World}
-use Rattle.process_model.specs.declared.step.Refusal.{Refusal}
+use Rattle.process_model.specs.World.{has_slot, StepOutcome, refuses, World}
+use Rattle.process_model.specs.declared.reply.Refusal.{Refusal}
 use Rattle.hart_machine.specs.Marks.{AreMarked, slot_if}
 use Rattle.process_laws.specs.Words.{changed_at}
 use Rattle.hart_machine.proofs.StepShapes.{refused_quiet, same_at}
 
-pub refused_as : (w : World) (o : Outcome) (e : Refusal) → o ≡ refuses w e → AreMarked w o None None
-refused_as w o e is n = ap (λ (v : Outcome). changed_at (slice_get w.slots n) (slice_get (v.world).slots n)) is ∙ refused_quiet w e n
+pub refused_as : (w : World) (o : StepOutcome) (e : Refusal) → o ≡ refuses w e → AreMarked w o None None
+refused_as w o e is n = ap (λ (v : StepOutcome). changed_at (slice_get w.slots n) (slice_get (v.world).slots n)) is ∙ refused_quiet w e n
 
 -- one place is another
 pub set_at : (xs : List (Option Process)) (s n : ℕ) (p : Option Process) (q : Process) → slice_get xs s ≡ Some p → changed_at (slice_get xs n) (slice_get (slice_set xs s (Some q)) n) ≡ (s == n && is_changed p (Some q))
@@ -39,12 +39,12 @@ if_slot s n false = with_false (s == n) where
   with_false false = refl
 
 -- the process of a slot is another, by a call that tells whether a leaf of it changed
-pub set_marks : (w : World) (o : Outcome) (s : ℕ) (p q : Process) (b : Bool) → slice_get w.slots s ≡ Some (Some p) → (o.world).slots ≡ slice_set w.slots s (Some q) → b ≡ is_changed (Some p) (Some q) → AreMarked w o (slot_if s b) None
+pub set_marks : (w : World) (o : StepOutcome) (s : ℕ) (p q : Process) (b : Bool) → slice_get w.slots s ≡ Some (Some p) → (o.world).slots ≡ slice_set w.slots s (Some q) → b ≡ is_changed (Some p) (Some q) → AreMarked w o (slot_if s b) None
 set_marks w o s p q b at slots tells n =
     ap (λ xs. changed_at (slice_get w.slots n) (slice_get xs n)) slots ∙ set_at w.slots s n (Some p) q at ∙ ap (λ (c : Bool). s == n && c) (sym tells) ∙ if_slot s n b
 
 -- the process of a slot ended
-pub gone_marks : (w : World) (o : Outcome) (s : ℕ) (p : Process) → slice_get w.slots s ≡ Some (Some p) → (o.world).slots ≡ slice_set w.slots s None → AreMarked w o None None
+pub gone_marks : (w : World) (o : StepOutcome) (s : ℕ) (p : Process) → slice_get w.slots s ≡ Some (Some p) → (o.world).slots ≡ slice_set w.slots s None → AreMarked w o None None
 gone_marks w o s p at slots n = ap (λ xs. changed_at (slice_get w.slots n) (slice_get xs n)) slots ∙ elim (cases_eq n s) [
   | inl same ↦
       ap (λ a. changed_at a (slice_get (slice_set w.slots s None) n)) (ap (slice_get w.slots) same ∙ at)
@@ -53,14 +53,14 @@ gone_marks w o s p at slots n = ap (λ xs. changed_at (slice_get w.slots n) (sli
 ]
 
 -- a process begins in a slot
-pub born_marks : (w : World) (o : Outcome) (s : ℕ) (q : Process) → slice_get w.slots s ≡ Some None → (o.world).slots ≡ slice_set w.slots s (Some q) → AreMarked w o None (Some s)
+pub born_marks : (w : World) (o : StepOutcome) (s : ℕ) (q : Process) → slice_get w.slots s ≡ Some None → (o.world).slots ≡ slice_set w.slots s (Some q) → AreMarked w o None (Some s)
 born_marks w o s q at slots n = ap (λ xs. changed_at (slice_get w.slots n) (slice_get xs n)) slots ∙ set_at w.slots s n None q at ∙ with_true (s == n) where
   with_true : (c : Bool) → (c && true) ≡ c
   with_true true = refl
   with_true false = refl
 
 -- the process of a slot is another, and one begins in an empty slot
-pub fork_marks : (w : World) (o : Outcome) (s e : ℕ) (p q c : Process) (b : Bool) → slice_get w.slots s ≡ Some (Some p) → slice_get w.slots e ≡ Some None
+pub fork_marks : (w : World) (o : StepOutcome) (s e : ℕ) (p q c : Process) (b : Bool) → slice_get w.slots s ≡ Some (Some p) → slice_get w.slots e ≡ Some None
     → (o.world).slots ≡ slice_set (slice_set w.slots s (Some q)) e (Some c) → b ≡ is_changed (Some p) (Some q) → AreMarked w o (slot_if s b) (Some e)
 fork_marks w o s e p q c b at empty slots tells n =
     let between = slice_set w.slots s (Some q) in

@@ -1,6 +1,5 @@
--- Lemmas on the kernel's seat (an owner's capability at a frame store) when processes start and end: each count is below
--- 65,535, so it can share frame 0; and it still has the kernel's table after it took in a seat that holds frame 0 alone, or
--- nothing.
+-- Lemmas on the kernel's seat when processes start and end: each count is below 65,535, so it can share frame 0; and it still
+-- has the kernel's table after it took in a seat that holds frame 0 alone, or nothing.
 use Rattle.std.proofs.Common.{◌≡◌, ℕ, suc, ◌-◌, ◌<◌, ◌≤◌, IsTrue, Option, None, Some, List, [], ◌∷◌, length, inl, inr, refl, slice_index, ap, sym, ◌∙◌, subst, arith}
 use Rattle.std.specs.FinMap as finite
 use Rattle.std.specs.Ordering.{nat_cmp}

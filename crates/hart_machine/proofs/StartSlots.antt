@@ -1,5 +1,5 @@
--- Lemmas for `free_slot`: the lowest slot (place in the process table) without a process is empty in machine and model, and
--- the loop that searches for it finds the model's, or none.
+-- Lemmas for `free_slot`: the lowest slot without a process is empty in machine and model, and the loop that searches for it
+-- finds the model's, or none.
 use Rattle.std.proofs.Common.{◌≡◌, ℕ, zero, suc, ◌+◌, ◌<◌, ap, sym, subst, ◌∙◌, refl, true, false, inl, inr, is_some, Option, None, Some, List, [], ◌∷◌, length, get_or, arith}
 use Rattle.std.specs.Prelude.{slice_get}
 use Rattle.std.specs.Vec.{vec_len}

@@ -1,5 +1,5 @@
--- Lemmas on the seats (an owner's capability at a frame store) of a machine while a process starts: the kernel's, from which
--- the new one is opened with frame 0, and the others'; and the new one becomes that of the process in an empty slot.
+-- Lemmas on the seats of a machine while a process starts: the kernel's, from which the new one is opened with frame 0, and
+-- the others'; and the new one becomes that of the process in an empty slot.
 use Rattle.std.proofs.Common.{◌≡◌, ℕ, ◌^◌, ◌<◌, ◌≤◌, inl, inr, false, refl, ap, ◌∙◌, arith, List, [], ◌∷◌, Option, None, Some, zero, suc, slice_index}
 use Rattle.std.specs.Prelude.{slice_get, slice_set}
 use Rattle.std.proofs.lemmas.Bool.{cases_lt}

@@ -1,5 +1,4 @@
--- `tables_with`, a function: the page tables of each slot (place in the process table) with those of one slot replaced; and
--- two lemmas on it.
+-- `tables_with`, a function: the page tables of each slot with those of one slot replaced; and two lemmas on it.
 use Rattle.std.proofs.Common.{◌≡◌, ℕ, ◌==◌, cond, ap}
 use Rattle.std.proofs.lemmas.Bool.{eq-eqb, ne_eqb}
 use Rattle.table_walk.specs.Tables.{Tables}

@@ -16,14 +16,15 @@ use Rattle.process_model.specs.Frames.{start_need}
 use Rattle.process_model.specs.Images.{image_loads, LoadSegment}
 use Rattle.process_model.specs.ImageProcess.{process_of}
 use Rattle.process_model.specs.Service.{is_dry}
-use Rattle.process_model.specs.World.{free, free_slot, Outcome, refuses, World}
+use Rattle.process_model.specs.World.{free, free_slot, StepOutcome, refuses, World}
 use Rattle.process_model.specs.declared.image.Image as model
-use Rattle.process_model.specs.declared.step.Refusal.TheVariants.{NoFrame}
-use Rattle.process_model.specs.declared.step.Reply.TheVariants.{Refused, Started}
+use Rattle.process_model.specs.declared.reply.Refusal.TheVariants.{NoFrame}
+use Rattle.process_model.specs.declared.reply.ScalarReply.TheVariants.{Refused, Started}
+use Rattle.process_model.specs.declared.reply.Reply.TheVariants.{Scalar}
 use Rattle.process_model.specs.Process.{Process}
 use Rattle.table_walk.specs.Tables.{Tables, leaf_node}
 use Rattle.hart_machine.specs.SlotProcesses.{IsSlotProcess, body_in, view_of}
-use Rattle.hart_machine.specs.Slots.{most_slots}
+use Rattle.process_model.specs.declared.limits.TheConstants.{MOST_SLOTS}
 use Rattle.hart_machine.specs.Worlds.{IsSlotContent, IsWorld, IsModelOutcome, seats_of}
 use Rattle.hart_machine.specs.declared.hart.Hart.{Hart}
 use Rattle.hart_machine.specs.declared.machine.Machine.{Machine}
@@ -82,7 +83,7 @@ module _ (m n : Machine) (w : World) (is : IsWorld m w) (s : ℕ) (place : slice
       | inl new ↦ ap (λ (q : Process). q.scheme) (sym new.1) ∙ loaded_scheme w.scheme w.counter ls
       | inr old ↦ is.schemes k r old.1
     ];
-    few = subst (λ k. k ≤ most_slots) (sym (length-set w.slots s (Some (process_of w.scheme w.counter ls)))) is.few;
+    few = subst (λ k. k ≤ MOST_SLOTS) (sym (length-set w.slots s (Some (process_of w.scheme w.counter ls)))) is.few;
     frames = sized ∙ is.frames;
     rule = subst (λ (xs : List (Option SlotProcess)). PlainStateRule n.frames (n.kernel.seat ∷ seats_of xs)) (sym slots) (seat_comes n.frames n.kernel.seat m.slots.items s y place rule);
     of_kernel = subst (λ k. IsKernelTable n.kernel.scheme n.kernel.seat n.kernel.root.0 w.frames k is.stacks is.kernel) (sym (length-set w.slots s (Some (process_of w.scheme w.counter ls)))) table;
@@ -137,24 +138,24 @@ module _ (w : World) (s : ℕ) (image : model.Image) (ls : List LoadSegment) (to
     pub makes_started : (y : SlotProcess) (t : Tables) → n.slots.items ≡ slice_set m.slots.items s (Some y)
         → IsSpace (body_in y) t (process_of w.scheme w.counter ls) → OwnsAlone (view_of y) t → y.pending ≡ None
         → PlainStateRule n.frames (n.kernel.seat ∷ view_of y ∷ seats_of m.slots.items) → start_need w.scheme ls ≤ m.frames.free
-        → IsModelOutcome n (Started s) (started w (image_loads w.scheme image) (free_slot w))
+        → IsModelOutcome n (Scalar (Started s)) (started w (image_loads w.scheme image) (free_slot w))
     makes_started y t slots agrees alone pending rule enough =
         let was = free_is m w is in
         let wet : is_dry w (start_need w.scheme ls) ≡ false = le-ltb (free w) (start_need w.scheme ls) (omega (arith, enough, was)) in
-        subst (λ (o : Outcome). IsModelOutcome n (Started s) o) (sym (started_wet wet))
+        subst (λ (o : StepOutcome). IsModelOutcome n (Scalar (Started s)) o) (sym (started_wet wet))
         (refl, starts m n w is s (free_place m w is s to) (free_is_empty w s to) ls y t sized slots harts filed ruled schemed agrees alone pending rule table)
 
     -- too few are
     pub makes_refused : n.slots ≡ m.slots → PlainStateRule n.frames (n.kernel.seat ∷ seats_of m.slots.items) → (start_need w.scheme ls ≤ m.frames.free → ⊥)
-        → IsModelOutcome n (Refused NoFrame) (started w (image_loads w.scheme image) (free_slot w))
+        → IsModelOutcome n (Scalar (Refused NoFrame)) (started w (image_loads w.scheme image) (free_slot w))
     makes_refused slots rule few =
         let was = free_is m w is in
         let dry : is_dry w (start_need w.scheme ls) ≡ true = lt-ltb (free w) (start_need w.scheme ls) (lt_of_not-le (λ le. few (omega (arith, was, le)))) in
-        subst (λ (o : Outcome). IsModelOutcome n (Refused NoFrame) o) (sym (started_dry dry)) (refl, stays m n w is sized slots harts filed ruled schemed rule table)
+        subst (λ (o : StepOutcome). IsModelOutcome n (Scalar (Refused NoFrame)) o) (sym (started_dry dry)) (refl, stays m n w is sized slots harts filed ruled schemed rule table)
 
   module _ (m : Machine) (is : IsWorld m w) where
     pub start_sets : start_need w.scheme ls ≤ m.frames.free → ((started w (image_loads w.scheme image) (free_slot w)).world).slots ≡ slice_set w.slots s (Some (process_of w.scheme w.counter ls))
-    start_sets enough = let was = free_is m w is in ap (λ (o : Outcome). (o.world).slots) (started_wet (le-ltb (free w) (start_need w.scheme ls) (omega (arith, enough, was))))
+    start_sets enough = let was = free_is m w is in ap (λ (o : StepOutcome). (o.world).slots) (started_wet (le-ltb (free w) (start_need w.scheme ls) (omega (arith, enough, was))))
 
     pub start_dry : (start_need w.scheme ls ≤ m.frames.free → ⊥) → started w (image_loads w.scheme image) (free_slot w) ≡ refuses w NoFrame
     start_dry few = let was = free_is m w is in started_dry (lt-ltb (free w) (start_need w.scheme ls) (lt_of_not-le (λ le. few (omega (arith, was, le)))))

@@ -1,6 +1,6 @@
--- Lemmas on every step of the model, whatever it replies: how phase, slot (place in the process table) and stale marks of
--- each hart may change (`harts_go`), which steps change no leaf (`quiet_slots`), and that leaves change only for a process
--- of a hart in phase `Kernel` (`changed_in_kernel`).
+-- Lemmas on every step of the model, whatever it replies: how phase, slot and stale marks of each hart may change
+-- (`harts_go`), which steps change no leaf (`quiet_slots`), and that leaves change only for a process of a hart in phase
+-- `Kernel` (`changed_in_kernel`).
 use Rattle.std.proofs.Common.{◌≡◌, ◌⊎◌, ℕ, zero, suc, Bool, true, false, not, ◌+◌, ◌≤◌, inl, inr, refl, ap, sym, subst, ◌∙◌, arith, List, [], ◌∷◌, Option, None, Some, Result, Ok, Err, ℤ}
 use Rattle.std.specs.Prelude.{is_some, slice_get, slice_set, unwrap_or, ◌&&◌}
 use Rattle.std.proofs.lemmas.Bool.{and_parts, cases_eq, true≢false}
@@ -19,16 +19,17 @@ use Rattle.process_model.specs.Residence.{child_of, marked}
 use Rattle.process_model.specs.Service.{Answer, AccessRequest, access_step, served, served_or_ended, access_outcome_if, user_access}
 use Rattle.process_model.specs.Stale.{is_changed}
 use Rattle.process_model.specs.Steps.{filled, plain_step}
-use Rattle.process_model.specs.World.{Outcome, World, always, awaits_service, can_call, can_go_on, can_run, can_serve, flat, free_slot, kernel_call, lowest_free, on_hart, on_hart_at, refuses, unless_refused, with_its_process, with_process_of, with_slot_of}
+use Rattle.process_model.specs.World.{StepOutcome, World, always, awaits_service, can_call, can_go_on, can_run, can_serve, flat, free_slot, kernel_call, lowest_free, on_hart, on_hart_at, refuses, unless_refused, with_its_process, with_process_of, with_slot_of}
 use Rattle.process_model.specs.declared.config.Policy.{Policy}
 use Rattle.process_model.specs.declared.config.Policy.TheVariants.{Full, Asid}
 use Rattle.process_model.specs.declared.image.BadImage.{BadImage}
 use Rattle.process_model.specs.declared.phase.Phase.{Phase}
 use Rattle.process_model.specs.declared.phase.Phase.TheVariants.{Idle, User, Enter0, Enter1, Enter2, Kernel, Leave1, Leave2}
-use Rattle.process_model.specs.declared.step.Refusal.{Refusal}
-use Rattle.process_model.specs.declared.step.Refusal.TheVariants.{BadArgument, Impossible, NoEntry}
-use Rattle.process_model.specs.declared.step.Reply.{Reply}
-use Rattle.process_model.specs.declared.step.Reply.TheVariants.{Done, Ended, Exited, InFrame, Ready}
+use Rattle.process_model.specs.declared.reply.Refusal.{Refusal}
+use Rattle.process_model.specs.declared.reply.Refusal.TheVariants.{BadArgument, Impossible, NoEntry}
+use Rattle.process_model.specs.declared.reply.Reply.{Reply}
+use Rattle.process_model.specs.declared.reply.ScalarReply.TheVariants.{Done, Ended, Exited, InFrame, Ready}
+use Rattle.process_model.specs.declared.reply.Reply.TheVariants.{Scalar}
 use Rattle.process_model.specs.Steps.{is_refused}
 use Rattle.process_model.specs.declared.step.Step.{Step}
 use Rattle.process_model.specs.declared.step.Step.TheVariants as step
@@ -38,7 +39,7 @@ use Rattle.sv39_entry.specs.declared.rule.Rule.{Rule}
 
 -- ---- a step on a hart is refused, or it runs
 
-unless_ran : (w : World) (run : Hart → Outcome) (hart : Hart) (P : Outcome → Type 0) (a b c : Bool) (x y z : Refusal) → ((r : Refusal) → P (refuses w r)) → (b ≡ true → P (run hart))
+unless_ran : (w : World) (run : Hart → StepOutcome) (hart : Hart) (P : StepOutcome → Type 0) (a b c : Bool) (x y z : Refusal) → ((r : Refusal) → P (refuses w r)) → (b ≡ true → P (run hart))
     → P (unless_refused w run hart (first_true ((not a, x) ∷ (not b, y) ∷ (not c, z) ∷ [])))
 unless_ran w run hart P true true true x y z refused ran = ran refl
 unless_ran w run hart P true true false x y z refused ran = refused z
@@ -46,7 +47,7 @@ unless_ran w run hart P true false c x y z refused ran = refused y
 unless_ran w run hart P false b c x y z refused ran = refused x
 
 -- what holds of every refusal, and of what runs where the hart is there and the step is possible, holds of the step
-pub on_hart_is : (w : World) (h : ℕ) (proper : Bool) (possible entry : Hart → Bool) (run : Hart → Outcome) (P : Outcome → Type 0) → ((r : Refusal) → P (refuses w r))
+pub on_hart_is : (w : World) (h : ℕ) (proper : Bool) (possible entry : Hart → Bool) (run : Hart → StepOutcome) (P : StepOutcome → Type 0) → ((r : Refusal) → P (refuses w r))
     → ((hart : Hart) → slice_get w.harts h ≡ Some hart → possible hart ≡ true → P (run hart)) → P (on_hart w h proper possible entry run)
 unfolding on_hart
 on_hart_is w h proper possible entry run P refused ran = by (slice_get w.harts h) refl
@@ -56,7 +57,7 @@ on_hart_is w h proper possible entry run P refused ran = by (slice_get w.harts h
     by (Some hart) there = unless_ran w run hart P proper (possible hart) (entry hart) BadArgument (Impossible hart.phase) NoEntry refused (ran hart there)
 
 -- the same of what is done for the process of a hart
-pub with_its_process_is : (w : World) (hart : Hart) (run : ℕ → Process → Outcome) (P : Outcome → Type 0) → ((r : Refusal) → P (refuses w r))
+pub with_its_process_is : (w : World) (hart : Hart) (run : ℕ → Process → StepOutcome) (P : StepOutcome → Type 0) → ((r : Refusal) → P (refuses w r))
     → ((s : ℕ) (p : Process) → hart.slot ≡ Some s → slice_get w.slots s ≡ Some (Some p) → P (run s p)) → P (with_its_process w hart run)
 unfolding with_its_process
 with_its_process_is w hart run P refused ran = by hart.slot refl
@@ -91,7 +92,7 @@ user_phase Leave1 is = absurd cc
 user_phase Leave2 is = absurd cc
 
 -- and of a call of the kernel
-pub kernel_call_is : (w : World) (h : ℕ) (proper : Bool) (run : Hart → ℕ → Process → Outcome) (P : Outcome → Type 0) → ((r : Refusal) → P (refuses w r))
+pub kernel_call_is : (w : World) (h : ℕ) (proper : Bool) (run : Hart → ℕ → Process → StepOutcome) (P : StepOutcome → Type 0) → ((r : Refusal) → P (refuses w r))
     → ((hart : Hart) (s : ℕ) (p : Process) → slice_get w.harts h ≡ Some hart → hart.phase ≡ Kernel → hart.slot ≡ Some s → slice_get w.slots s ≡ Some (Some p) → P (run hart s p))
     → P (kernel_call w h proper run)
 kernel_call_is w h proper run P refused ran = on_hart_is w h proper (can_call w) always (λ hart. with_its_process w hart (run hart)) P refused
@@ -217,7 +218,7 @@ module _ (w : World) where
     abbrev pub AllGo : Reply → List Hart → Type 0
     AllGo r hs = (k : ℕ) (y : Hart) → slice_get hs k ≡ Some y → (x : Hart) × (slice_get w.harts k ≡ Some x) × Goes r k x y
 
-    abbrev pub HartsGo : Outcome → Type 0
+    abbrev pub HartsGo : StepOutcome → Type 0
     HartsGo o = AllGo o.reply (o.world).harts
 
     none_go : (r : Reply) → AllGo r w.harts
@@ -251,39 +252,39 @@ module _ (w : World) where
         set_hart r h hart (record hart { phase = Idle; slot = None }) there (inl (switches (kernel_switches hart.phase kernel) refl, refl))
 
     served_harts : (h : ℕ) (hart : Hart) (t : ℕ) (p : Process) (a : Pending) (r : Result Progress Rule) → slice_get w.harts h ≡ Some hart → hart.phase ≡ Kernel → HartsGo (served_or_ended w h hart t p a r)
-    served_harts h hart t p a (Err r) there kernel = ended_goes (Ended r) h hart there kernel
-    served_harts h hart t p a (Ok g) there kernel = none_go Ready
+    served_harts h hart t p a (Err r) there kernel = ended_goes (Scalar (Ended r)) h hart there kernel
+    served_harts h hart t p a (Ok g) there kernel = none_go (Scalar Ready)
 
     serve_harts : (h : ℕ) (hart : Hart) (t : ℕ) (p : Process) (o : Option Pending) → slice_get w.harts h ≡ Some hart → hart.phase ≡ Kernel → HartsGo (served w h hart t p o)
     serve_harts h hart t p None there kernel = refused_harts (Impossible hart.phase)
     serve_harts h hart t p (Some a) there kernel = served_harts h hart t p a _ there kernel
 
-    call_harts : (h : ℕ) (proper : Bool) (run : Hart → ℕ → Process → Outcome) → ((hart : Hart) (t : ℕ) (p : Process) → ((run hart t p).world).harts ≡ w.harts) → HartsGo (kernel_call w h proper run)
+    call_harts : (h : ℕ) (proper : Bool) (run : Hart → ℕ → Process → StepOutcome) → ((hart : Hart) (t : ℕ) (p : Process) → ((run hart t p).world).harts ≡ w.harts) → HartsGo (kernel_call w h proper run)
     call_harts h proper run same = kernel_call_is w h proper run HartsGo refused_harts (λ hart t p there kernel on lives. same_harts (run hart t p).reply ((run hart t p).world).harts (same hart t p))
 
   -- each hart after a step was there before it, and went on in one of these ways
   pub harts_go : (s : Step) → HartsGo s (plain_step w s)
   harts_go (step.Start image) = same_harts (step.Start image) (started w (image_loads w.scheme image) (free_slot w)).reply _ (start_harts (image_loads w.scheme image) (free_slot w))
   harts_go (step.Switch h slot) = on_hart_is w h true _ always _ (HartsGo (step.Switch h slot)) (refused_harts (step.Switch h slot))
-      (λ hart there can. set_hart (step.Switch h slot) Done h hart (record hart { phase = phase_for slot; slot = slot }) there
+      (λ hart there can. set_hart (step.Switch h slot) (Scalar Done) h hart (record hart { phase = phase_for slot; slot = slot }) there
       (inl (switches (and_parts (may_switch hart.phase) (can_run w slot) can).0 (phase_for_switches slot), refl)))
   harts_go (step.Trap h) = on_hart_is w h true _ always _ (HartsGo (step.Trap h)) (refused_harts (step.Trap h))
       (λ hart there user. with_its_process_is w hart _ (HartsGo (step.Trap h)) (refused_harts (step.Trap h))
-      (λ t p on lives. set_hart (step.Trap h) Done h hart (record hart { phase = Enter0 }) there (inl (enters (user_phase hart.phase user) refl refl, refl))))
+      (λ t p on lives. set_hart (step.Trap h) (Scalar Done) h hart (record hart { phase = Enter0 }) there (inl (enters (user_phase hart.phase user) refl refl, refl))))
   harts_go (step.Next h) = on_hart_is w h true (can_go_on w) always _ (HartsGo (step.Next h)) (refused_harts (step.Next h))
       (λ hart there can.
       let next = there_is (next_phase hart.phase) (and_parts (is_some (next_phase hart.phase)) (not (is_kernel hart.phase && awaits_service w hart)) can).0 in
-      set_hart (step.Next h) Done h hart (record (fenced w.policy hart) { phase = unwrap_or (next_phase hart.phase) hart.phase }) there
+      set_hart (step.Next h) (Scalar Done) h hart (record (fenced w.policy hart) { phase = unwrap_or (next_phase hart.phase) hart.phase }) there
       (inr (record { is_next = refl; done = refl; after = next.0; next = next.1; phased = ap (λ o. unwrap_or o hart.phase) next.1; slotted = fenced_slot w.policy hart; stale = refl })))
   harts_go (step.Fill h address) = on_hart_is w h true always always _ (HartsGo (step.Fill h address)) (refused_harts (step.Fill h address))
       (λ hart there can. set_hart (step.Fill h address) (filled w h address hart).reply h hart _ there (inl (stays refl refl, refl)))
   harts_go (step.Evict h n) = on_hart_is w h true always _ _ (HartsGo (step.Evict h n)) (refused_harts (step.Evict h n))
-      (λ hart there can. set_hart (step.Evict h n) Done h hart _ there (inl (stays refl refl, refl)))
+      (λ hart there can. set_hart (step.Evict h n) (Scalar Done) h hart _ there (inl (stays refl refl, refl)))
   harts_go (step.Fetch h address via) = access_harts (step.Fetch h address via) h access.Fetch address 4 0 via
   harts_go (step.Load h address width via) = access_harts (step.Load h address width via) h access.Load address width 0 via
   harts_go (step.Store h address width value via) = access_harts (step.Store h address width value via) h access.Store address width value via
   harts_go (step.TrampolineFetch h offset via) = on_hart_is w h _ _ _ _ (HartsGo (step.TrampolineFetch h offset via)) (refused_harts (step.TrampolineFetch h offset via))
-      (λ hart there can. none_go (step.TrampolineFetch h offset via) (InFrame 0))
+      (λ hart there can. none_go (step.TrampolineFetch h offset via) (Scalar (InFrame 0)))
   harts_go (step.Serve h) = on_hart_is w h true (can_serve w) always _ (HartsGo (step.Serve h)) (refused_harts (step.Serve h))
       (λ hart there can. with_its_process_is w hart _ (HartsGo (step.Serve h)) (refused_harts (step.Serve h))
       (λ t p on lives. serve_harts (step.Serve h) h hart t p p.pending there (kernel_phase hart.phase (and_parts (is_kernel hart.phase) (awaits_service w hart) can).0)))
@@ -295,7 +296,7 @@ module _ (w : World) where
   harts_go (step.CopyIn h address n) = call_harts (step.CopyIn h address n) h _ _ (λ hart t p. refl)
   harts_go (step.CopyOut h address bytes) = call_harts (step.CopyOut h address bytes) h _ _ (λ hart t p. refl)
   harts_go (step.Exit h status) = kernel_call_is w h true _ (HartsGo (step.Exit h status)) (refused_harts (step.Exit h status))
-      (λ hart t p there kernel on lives. ended_goes (step.Exit h status) (Exited status) h hart there kernel)
+      (λ hart t p there kernel on lives. ended_goes (step.Exit h status) (Scalar (Exited status)) h hart there kernel)
 
 -- a slot that stays as it is does not change
 pub same_at : (o : Option (Option Process)) → changed_at o o ≡ false
@@ -308,7 +309,7 @@ same_at (Some (Some p)) = same_settled p p refl
 abbrev AllStay : World → List (Option Process) → Type 0
 AllStay w slots = (n : ℕ) → changed_at (slice_get w.slots n) (slice_get slots n) ≡ false
 
-abbrev pub IsQuiet : World → Outcome → Type 0
+abbrev pub IsQuiet : World → StepOutcome → Type 0
 IsQuiet w o = (n : ℕ) → changed_at (slice_get w.slots n) (slice_get (o.world).slots n) ≡ false
 
 module _ (w : World) where
@@ -504,7 +505,7 @@ module _ (w : World) where
     serve_in p None = none_in
     serve_in p (Some a) = served_in p a _
 
-  abbrev StaysIn : Outcome → Type 0
+  abbrev StaysIn : StepOutcome → Type 0
   StaysIn o = InKernel (o.world).slots
 
   refused_in : (r : Refusal) → StaysIn (refuses w r)

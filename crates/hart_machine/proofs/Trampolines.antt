@@ -1,5 +1,5 @@
 -- Lemmas for the step `TrampolineFetch`: the kernel's table and each process's map TRAMPOLINE's page to the kernel's code in
--- frame 0, a fetch by a walk or by a buffer (TLB) entry finds it, and refusals and reply are the model's.
+-- frame 0, a fetch by a walk or by a TLB entry finds it, and refusals and reply are the model's.
 use Rattle.std.proofs.Common.{◌≡◌, ℕ, ◌+◌, ◌*◌, ◌/◌, ◌%◌, ◌<◌, ◌≤◌, ◌==◌, ◌&&◌, nat_lt, Bool, true, false, Option, None, Some, List, refl, ap, sym, ◌∙◌, inl, inr, arith, subst}
 use Rattle.std.specs.Prelude.{slice_get}
 use Rattle.std.specs.FinMap.{get}
@@ -12,9 +12,10 @@ use Rattle.process_model.specs.Process.{Process}
 use Rattle.process_model.specs.Steps.{plain_step}
 use Rattle.process_model.specs.World.{World, answers, refuses}
 use Rattle.process_model.specs.declared.phase.Phase.{Phase}
-use Rattle.process_model.specs.declared.step.Refusal.{Refusal}
-use Rattle.process_model.specs.declared.step.Refusal.TheVariants.{BadArgument, Impossible, NoEntry}
-use Rattle.process_model.specs.declared.step.Reply.TheVariants.{InFrame, Refused}
+use Rattle.process_model.specs.declared.reply.Refusal.{Refusal}
+use Rattle.process_model.specs.declared.reply.Refusal.TheVariants.{BadArgument, Impossible, NoEntry}
+use Rattle.process_model.specs.declared.reply.ScalarReply.TheVariants.{InFrame, Refused}
+use Rattle.process_model.specs.declared.reply.Reply.TheVariants.{Scalar}
 use Rattle.process_model.specs.declared.step.Step.TheVariants as step
 use Rattle.sv39_entry.specs.Address.{page_of}
 use Rattle.sv39_entry.specs.Frame.{frame_at, ppn_of}
@@ -154,7 +155,7 @@ is_proper offset aligned low = rw (eq-eqb (offset % 4) 0 aligned) (grind (arith,
 
 module _ (m : Machine) (w : World) (is : IsWorld m w) (h offset : ℕ) (via : Option ℕ) where
   abbrev fetches : Refusal → Type 0
-  fetches r = IsModelOutcome m (Refused r) (plain_step w (step.TrampolineFetch h offset via))
+  fetches r = IsModelOutcome m (Scalar (Refused r)) (plain_step w (step.TrampolineFetch h offset via))
 
   pub nowhere : slice_get w.harts h ≡ None → fetches BadArgument
   nowhere none = refused m w is BadArgument _ (without_hart w h _ _ _ _ none)
@@ -174,13 +175,13 @@ module _ (m : Machine) (w : World) (is : IsWorld m w) (h offset : ℕ) (via : Op
         (impossible w h _ (λ x. model.in_trampoline x.phase) _ _ (hart_of has.hart) has.in_model (is_proper offset aligned low) (ap model.in_trampoline has.phased ∙ fails) ∙ ap (λ q. refuses w (Impossible q)) has.phased)
 
     module _ (inside : model.in_trampoline p ≡ true) (n : Machine) (after : IsWorld n w) where
-      pub no_entry : entry_serves m.policy (hart_of has.hart) (4096 * trampoline_page w.scheme + offset) via ≡ false → IsModelOutcome n (Refused NoEntry) (plain_step w (step.TrampolineFetch h offset via))
+      pub no_entry : entry_serves m.policy (hart_of has.hart) (4096 * trampoline_page w.scheme + offset) via ≡ false → IsModelOutcome n (Scalar (Refused NoEntry)) (plain_step w (step.TrampolineFetch h offset via))
       no_entry fails = refused n w after NoEntry _
           (without_entry w h _ (λ x. model.in_trampoline x.phase) (λ x. entry_serves w.policy x (4096 * trampoline_page w.scheme + offset) via) _ (hart_of has.hart) has.in_model (is_proper offset aligned low)
           (ap model.in_trampoline has.phased ∙ inside) (ap (λ q. entry_serves q (hart_of has.hart) (4096 * trampoline_page w.scheme + offset) via) (sym is.policy) ∙ fails))
 
       pub fetches_code : entry_serves m.policy (hart_of has.hart) (4096 * trampoline_page w.scheme + offset) via ≡ true → (f : FrameNo) → Some f ≡ Some (record { 0 = 0 })
-          → IsModelOutcome n (InFrame f.0) (plain_step w (step.TrampolineFetch h offset via))
-      fetches_code serves f found = rw (same_Some _ _ found) (makes n (InFrame 0) w _ after
-          (runs w h _ (λ x. model.in_trampoline x.phase) (λ x. entry_serves w.policy x (4096 * trampoline_page w.scheme + offset) via) (λ x. answers w (InFrame 0)) (hart_of has.hart) has.in_model (is_proper offset aligned low)
+          → IsModelOutcome n (Scalar (InFrame f.0)) (plain_step w (step.TrampolineFetch h offset via))
+      fetches_code serves f found = rw (same_Some _ _ found) (makes n (Scalar (InFrame 0)) w _ after
+          (runs w h _ (λ x. model.in_trampoline x.phase) (λ x. entry_serves w.policy x (4096 * trampoline_page w.scheme + offset) via) (λ x. answers w (Scalar (InFrame 0))) (hart_of has.hart) has.in_model (is_proper offset aligned low)
           (ap model.in_trampoline has.phased ∙ inside) (ap (λ q. entry_serves q (hart_of has.hart) (4096 * trampoline_page w.scheme + offset) via) (sym is.policy) ∙ serves)))

@@ -1,5 +1,4 @@
--- A lemma (`outcome_is`): the entry that a fill adds to a buffer (TLB) is the outcome of a walk of the page tables of a seat
--- (an owner's capability at a frame store).
+-- A lemma (`outcome_is`): the entry that a fill adds to a TLB is the outcome of a walk of the page tables of a seat.
 use Rattle.std.proofs.Common.{◌≡◌, ℕ, true, false, is_some, Option, None, option_map, Some, refl, ap, sym, ◌∙◌, inl, inr}
 use Rattle.std.proofs.lemmas.Bool.{cases_Bool}
 use Rattle.std.specs.FinMap.{get}

@@ -1,6 +1,6 @@
--- Lemmas on what `leaf_changes` reads of the process in a slot (place in the process table): settled pages (those in memory),
--- copy-on-write marks (the next store takes the page over), accesses that are granted, and whether residence (an access
--- succeeds without a fault) changed.
+-- Lemmas on what `leaf_changes` reads of the process in a slot: settled pages (those in memory), copy-on-write marks (the
+-- next store takes the page over), accesses that are granted, and whether residence (an access succeeds without a fault)
+-- changed.
 use Rattle.std.proofs.Common.{◌≡◌, ◌⊎◌, ◌↔◌, ℕ, Bool, true, false, ◌+◌, ◌<◌, ◌≤◌, inl, inr, refl, ap, subst, sym, ◌∙◌, arith, Option, None, Some}
 use Rattle.std.specs.Prelude.{if◌then◌else◌, is_some, min, not, ◌&&◌}
 use mathlib.Core.Bool.{beq}

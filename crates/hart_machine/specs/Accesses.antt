@@ -3,8 +3,9 @@
 use Rattle.std.specs.Prelude.{◌≡◌, ℕ, IfSome, Option, None, Some}
 use Rattle.process_model.specs.Process as of_model
 use Rattle.process_model.specs.Service as service
-use Rattle.process_model.specs.declared.step.Reply.{Reply}
-use Rattle.process_model.specs.declared.step.Reply.TheVariants.{Fault}
+use Rattle.process_model.specs.declared.reply.Reply.{Reply}
+use Rattle.process_model.specs.declared.reply.ScalarReply.TheVariants.{Fault}
+use Rattle.process_model.specs.declared.reply.Reply.TheVariants.{Scalar}
 use Rattle.sv39_entry.specs.declared.access.Access.{Access}
 use Rattle.sv39_entry.specs.declared.access.Mode.TheVariants.{User}
 use Rattle.sv39_entry.specs.declared.scheme.Scheme.{Scheme}
@@ -14,7 +15,7 @@ use Rattle.table_walk.specs.declared.walk.Walk.{Walk}
 
 -- after a fault the access is pending, not served; after any other reply none is
 abbrev pub pending_after : service.AccessRequest → Reply → Option of_model.Pending
-pending_after x (Fault cause) = Some (service.pending_of x)
+pending_after x (Scalar (Fault cause)) = Some (service.pending_of x)
 pending_after x _ = None
 
 -- an outcome by a buffer entry, if there is one, is that of the user's walk

@@ -1,7 +1,7 @@
--- Which entries a hart's buffer (TLB) may have, under policy `full` (by the phase) and under policy `asid` (by ASID and
--- stale marks). A machine in a world (state) of the model whose buffers have only these (`IsInWorld`), and what follows
--- under policy `asid`: no entry of a living process is stale unless its hart is marked for the slot, a place in the process
--- table (`AreEntriesCurrent`).
+-- Which entries a hart's TLB may have, under policy `full` (by the phase) and under policy `asid` (by ASID and stale marks).
+-- A machine in a world (state) of the model whose buffers have only these (`IsInWorld`), and what follows under policy
+-- `asid`: no entry of a living process is stale unless its hart is marked for the slot, a place in the process table
+-- (`AreEntriesCurrent`).
 use Rattle.std.specs.Prelude.{◌≡◌, ◌⊎◌, ℕ, ◌+◌, Bool, true, false, Option, Some, List, slice_get, Contains}
 use Rattle.address_space.specs.Agreement.{code_rights}
 use Rattle.hart_tlb.specs.declared.entry.TlbEntry.{TlbEntry}

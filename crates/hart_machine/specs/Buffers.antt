@@ -1,13 +1,13 @@
--- The buffers (TLBs) of a machine, and how a step changes them: no buffer (`SameBuffers`), no entry added but by a fill
+-- The TLBs of a machine, and how a step changes them: no buffer (`SameBuffers`), no entry added but by a fill
 -- (`OnlyFillsAdd`), and each buffer exactly (`BuffersAre`, by `buffer_after`, the buffer of the step's hart after it).
 use Rattle.std.specs.Prelude.{◌≡◌, ◌⊎◌, ◌==◌, ◌&&◌, ℕ, Bool, false, not, Option, Some, List, [], ◌∷◌, ◌++◌, Contains, option_map, remove}
 use Rattle.std.specs.Prelude.{slice_get, if◌then◌else◌}
 use Rattle.hart_tlb.specs.Buffer.{newest_entries}
 use Rattle.hart_tlb.specs.declared.entry.TlbEntry.{TlbEntry}
-use Rattle.process_model.specs.Harts.{buffer_size, present_asid}
+use Rattle.process_model.specs.Harts.{present_asid}
 use Rattle.process_model.specs.Steps.{is_refused}
 use Rattle.process_model.specs.declared.config.Policy.{Policy}
-use Rattle.process_model.specs.declared.step.Reply.{Reply}
+use Rattle.process_model.specs.declared.reply.Reply.{Reply}
 use Rattle.process_model.specs.declared.step.Step.{Step}
 use Rattle.process_model.specs.declared.step.Step.TheVariants as step
 use Rattle.table_walk.specs.Tables.{Tables}
@@ -17,6 +17,7 @@ use Rattle.hart_machine.specs.WalkEntries.{entry_for}
 use Rattle.hart_machine.specs.declared.hart.Hart.{Hart}
 use Rattle.hart_machine.specs.declared.machine.Machine.{Machine}
 use Rattle.sv39_entry.specs.declared.scheme.Scheme.{Scheme}
+use Rattle.process_model.specs.declared.limits.TheConstants.{BUFFER_SIZE}
 
 -- the entries of a hart's buffer, in the order of filling; `None` if there is no such hart
 abbrev pub buffer_of : Machine → ℕ → Option (List TlbEntry)
@@ -54,7 +55,7 @@ is_about s k = false
 -- covers, by the policy
 abbrev pub buffer_after : Scheme → Policy → (ℕ → Tables) → Tables → Step → Hart → List TlbEntry
 buffer_after z policy tables kernel (step.Fill h address) x =
-    newest_entries buffer_size (x.buffer ++ entry_for z (tables_of tables kernel (present_table x)) (present_asid policy (hart_of x)) address ∷ [])
+    newest_entries BUFFER_SIZE (x.buffer ++ entry_for z (tables_of tables kernel (present_table x)) (present_asid policy (hart_of x)) address ∷ [])
 buffer_after z policy tables kernel (step.Evict h n) x = remove x.buffer n
 buffer_after z policy tables kernel (step.Next h) x = (fenced policy x).buffer
 buffer_after z policy tables kernel s x = x.buffer

@@ -11,11 +11,12 @@ use Rattle.process_model.specs.Heap.{sbrk_result}
 use Rattle.process_model.specs.Mappings.{Unmapped, unmapped}
 use Rattle.process_model.specs.PageMap as pages
 use Rattle.process_model.specs.Process.{Page, Process, without_pending}
-use Rattle.process_model.specs.World.{always, awaits_service, is_unserved_access, on_hart, Outcome, with_its_process, World}
+use Rattle.process_model.specs.World.{always, awaits_service, is_unserved_access, on_hart, StepOutcome, with_its_process, World}
 use Rattle.process_model.specs.declared.phase.Phase.TheVariants as phase
-use Rattle.process_model.specs.declared.step.Refusal.{Refusal}
-use Rattle.process_model.specs.declared.step.Reply.{Reply}
-use Rattle.process_model.specs.declared.step.Reply.TheVariants.{Done, MappedAt, OldSize, Refused}
+use Rattle.process_model.specs.declared.reply.Refusal.{Refusal}
+use Rattle.process_model.specs.declared.reply.Reply.{Reply}
+use Rattle.process_model.specs.declared.reply.ScalarReply.TheVariants.{Done, MappedAt, OldSize, Refused}
+use Rattle.process_model.specs.declared.reply.Reply.TheVariants.{Scalar}
 use Rattle.sv39_entry.specs.Address.{page_of}
 use Rattle.table_walk.specs.Tables.{Tables}
 use Rattle.address_space.specs.Agreement.{IsFrameOfPage}
@@ -74,22 +75,22 @@ waits_as b false = not b
 
 -- what the kernel does (`run`) for the process of hart h if it may: the hart is in phase `Kernel`, and an access waits for
 -- service exactly as `waits` says; else the refusal
-abbrev pub call_while : World → ℕ → Bool → (harts.Hart → ℕ → Process → Outcome) → Outcome
+abbrev pub call_while : World → ℕ → Bool → (harts.Hart → ℕ → Process → StepOutcome) → StepOutcome
 call_while w h waits run = on_hart w h true (λ x. harts.is_kernel x.phase && waits_as (awaits_service w x) waits) always (λ x. with_its_process w x (run x))
 
 -- replies
 
 abbrev pub mapped_or_refused : Result ℕ Refusal → Reply
-mapped_or_refused (Ok address) = MappedAt address
-mapped_or_refused (Err e) = Refused e
+mapped_or_refused (Ok address) = Scalar (MappedAt address)
+mapped_or_refused (Err e) = Scalar (Refused e)
 
 abbrev pub done_or_refused : {A : Type 0} → Result A Refusal → Reply
-done_or_refused (Ok x) = Done
-done_or_refused (Err e) = Refused e
+done_or_refused (Ok x) = Scalar Done
+done_or_refused (Err e) = Scalar (Refused e)
 
 abbrev pub size_or_refused : {A : Type 0} → Result (ℕ × A) Refusal → Reply
-size_or_refused (Ok x) = OldSize x.0
-size_or_refused (Err e) = Refused e
+size_or_refused (Ok x) = Scalar (OldSize x.0)
+size_or_refused (Err e) = Scalar (Refused e)
 
 abbrev pub size_of : {A : Type 0} → Result (ℕ × A) Refusal → Result ℕ Refusal
 size_of (Ok x) = Ok x.0

@@ -1,4 +1,4 @@
--- `HasExecuted`, a relation: the process in a slot (place in the process table) after exec, and the files.
+-- `HasExecuted`, a relation: the process in a slot after exec, and the files.
 use Rattle.std.specs.Prelude.{◌≡◌, ℕ, List}
 use Rattle.address_space.specs.Parts.{OwnsAlone}
 use Rattle.process_model.specs.Files.{File}

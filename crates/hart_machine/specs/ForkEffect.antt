@@ -4,9 +4,10 @@ use Rattle.std.specs.Prelude.{◌≡◌, ℕ, Err, None, Ok, Result, Some}
 use Rattle.process_model.specs.PageMap as pages
 use Rattle.process_model.specs.Process.{Page, Process}
 use Rattle.process_model.specs.Residence.{child_of, marked}
-use Rattle.process_model.specs.declared.step.Refusal.{Refusal}
-use Rattle.process_model.specs.declared.step.Reply.{Reply}
-use Rattle.process_model.specs.declared.step.Reply.TheVariants.{Forked, Refused}
+use Rattle.process_model.specs.declared.reply.Refusal.{Refusal}
+use Rattle.process_model.specs.declared.reply.Reply.{Reply}
+use Rattle.process_model.specs.declared.reply.ScalarReply.TheVariants.{Forked, Refused}
+use Rattle.process_model.specs.declared.reply.Reply.TheVariants.{Scalar}
 use Rattle.table_walk.specs.Tables.{Tables}
 use Rattle.address_space.specs.Agreement.{IsFrameOfPage}
 use Rattle.address_space.specs.Layouts.{Layout}
@@ -17,8 +18,8 @@ use Rattle.hart_machine.specs.declared.slot_process.SlotProcess.{SlotProcess}
 
 -- the reply to a fork, by its result: the child's slot, or the refusal
 abbrev pub forked_or_refused : {A : Type 0} → Result (ℕ × A) Refusal → Reply
-forked_or_refused (Ok x) = Forked x.0
-forked_or_refused (Err e) = Refused e
+forked_or_refused (Ok x) = Scalar (Forked x.0)
+forked_or_refused (Err e) = Scalar (Refused e)
 
 -- a child with this layout, as the process in a slot; no access is pending
 abbrev pub in_slot : Child View → Layout → SlotProcess

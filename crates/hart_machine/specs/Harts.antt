@@ -7,7 +7,6 @@ use Rattle.hart_tlb.specs.Buffer.{newest_entries}
 use Rattle.hart_tlb.specs.Entries.{is_fenced}
 use Rattle.hart_tlb.specs.declared.entry.TlbEntry.{TlbEntry}
 use Rattle.process_model.specs.Harts as model
-use Rattle.process_model.specs.Harts.{buffer_size}
 use Rattle.process_model.specs.declared.config.Policy.{Policy}
 use Rattle.process_model.specs.declared.config.Policy.TheVariants.{Full, Asid}
 use Rattle.process_model.specs.declared.phase.Phase.{Phase}
@@ -57,7 +56,7 @@ advanced policy h = record (fenced policy h) { phase = unwrap_or (model.next_pha
 
 -- an entry is added as the newest; a full buffer loses its oldest
 abbrev pub with_entry : Hart → TlbEntry → Hart
-with_entry h e = record h { buffer = newest_entries buffer_size (h.buffer ++ e ∷ []) }
+with_entry h e = record h { buffer = newest_entries BUFFER_SIZE (h.buffer ++ e ∷ []) }
 
 -- the number of the entry that is added next
 abbrev pub next_number : List TlbEntry → ℕ

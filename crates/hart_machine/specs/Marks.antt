@@ -1,12 +1,12 @@
--- Which slots (places in the process table) a step names, to be marked as stale on every hart: those whose leaves it
--- changed, and those in which a process started (`changed_at`, `AreMarked`); and the slots that the result of a call names.
--- Also what the flag of a kernel copy says of residence, which lets an access succeed without a fault (`TellsResidence`).
+-- Which slots a step names, to be marked as stale on every hart: those whose leaves it changed, and those in which a process
+-- started (`changed_at`, `AreMarked`); and the slots that the result of a call names. Also what the flag of a kernel copy
+-- says of residence, which lets an access succeed without a fault (`TellsResidence`).
 use Rattle.std.specs.Prelude.{◌≡◌, ◌⊎◌, ℕ, Bool, true, false, ◌+◌, ◌||◌, Option, None, Some, Result, Ok, Err, slice_get}
 use Rattle.address_space.specs.Accesses.{IsGranted}
 use Rattle.process_laws.specs.Words.{changed_at}
 use Rattle.process_model.specs.Process.{Process}
-use Rattle.process_model.specs.World.{has_slot, Outcome, World}
-use Rattle.process_model.specs.declared.step.Refusal.{Refusal}
+use Rattle.process_model.specs.World.{has_slot, StepOutcome, World}
+use Rattle.process_model.specs.declared.reply.Refusal.{Refusal}
 use Rattle.sv39_entry.specs.declared.access.Access.{Access}
 
 abbrev pub slot_if : ℕ → Bool → Option ℕ
@@ -14,7 +14,7 @@ slot_if s true = Some s
 slot_if s false = None
 
 -- `changed` and `born` together are exactly the slots that the model's step changed
-abbrev pub AreMarked : World → Outcome → Option ℕ → Option ℕ → Type 0
+abbrev pub AreMarked : World → StepOutcome → Option ℕ → Option ℕ → Type 0
 AreMarked w o changed born = (n : ℕ) → changed_at (slice_get w.slots n) (slice_get (o.world).slots n) ≡ (has_slot n changed || has_slot n born)
 
 -- the slot to be marked after a call; none if it was refused

@@ -1,6 +1,6 @@
--- `BuffersFollow`, a relation: the buffers (TLBs) of a machine along a list of steps, each changed as its step changes it.
--- What a fill adds is told by the tables of that moment, and they are tied from step to step: a page that keeps its copy
--- number, and a trapframe, stay on their frames.
+-- `BuffersFollow`, a relation: the TLBs of a machine along a list of steps, each changed as its step changes it. What a fill
+-- adds is told by the tables of that moment, and they are tied from step to step: a page that keeps its copy number, and a
+-- trapframe, stay on their frames.
 use Rattle.std.specs.Prelude.{◌≡◌, List, [], ◌∷◌}
 use Rattle.process_model.specs.Steps.{step}
 use Rattle.process_model.specs.World.{World}

@@ -1,6 +1,6 @@
--- Service of a fault of the process in a slot (place in the process table): its page is resident then, so that the access
--- succeeds (`HasServed`), or the process has to end by a rule, the reason to deny the access (`MustEnd`; in the machine,
--- `IsEnding`). Also how many frames the service takes (`WhenShared`).
+-- Service of a fault of the process in a slot: its page is resident then, so that the access succeeds (`HasServed`), or the
+-- process has to end by a rule, the reason to deny the access (`MustEnd`; in the machine, `IsEnding`). Also how many frames
+-- the service takes (`WhenShared`).
 use Rattle.std.specs.Prelude.{◌≡◌, ◌⊎◌, ℕ, Bool, true, not, ◌-◌, ◌<◌, ◌≤◌, ◌==◌, List, Option, None, Some, slice_index}
 use Rattle.address_space.specs.Agreement.{IsFrameOfPage}
 use Rattle.fault_rules.specs.MadeResident.{is_shared_by, MakesResident}
@@ -12,7 +12,8 @@ use Rattle.process_model.specs.Regions.{first_rule}
 use Rattle.process_model.specs.Residence.{made_resident}
 use Rattle.process_model.specs.Service as model
 use Rattle.process_model.specs.World.{World}
-use Rattle.process_model.specs.declared.step.Reply.TheVariants.{Ended}
+use Rattle.process_model.specs.declared.reply.ScalarReply.TheVariants.{Ended}
+use Rattle.process_model.specs.declared.reply.Reply.TheVariants.{Scalar}
 use Rattle.sv39_entry.specs.Address.{page_of}
 use Rattle.sv39_entry.specs.declared.rule.Rule.{Rule}
 use Rattle.sv39_entry.specs.declared.rule.Rule.TheVariants.{NoFrame}
@@ -63,4 +64,4 @@ pub record IsEnding (m n : Machine) (w : World) (h s : ℕ) (k : IsInKernel m w 
   pub there : IsInKernel n w h s true
   pub hart : there.hart ≡ k.hart
   pub process : there.process ≡ k.process
-  pub ends : model.served w h (hart_of k.hart) s k.process k.process.pending ≡ model.ended w h (hart_of k.hart) s k.process (Ended rule)
+  pub ends : model.served w h (hart_of k.hart) s k.process k.process.pending ≡ model.ended w h (hart_of k.hart) s k.process (Scalar (Ended rule))

@@ -1,6 +1,5 @@
--- The process in a slot (place in the process table) of the machine as a process of the model (`IsSlotProcess`): its space,
--- and its pending access (`pending_of`). Also the view of its seat (what the owner's capability at the frame store holds and
--- knows).
+-- The process in a slot of the machine as a process of the model (`IsSlotProcess`): its space, and its pending access
+-- (`pending_of`). Also the view of its seat (what the owner's capability at the frame store holds and knows).
 use Rattle.std.specs.Prelude.{◌<◌, ◌^◌, ◌≡◌, Option, None, Some}
 use Rattle.frame_store.specs.View.{View}
 use Rattle.process_model.specs.Process as model

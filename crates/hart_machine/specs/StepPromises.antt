@@ -3,7 +3,7 @@
 use Rattle.std.specs.Prelude.{ℕ, Option}
 use Rattle.process_model.specs.Steps.{plain_step}
 use Rattle.process_model.specs.World.{World}
-use Rattle.process_model.specs.declared.step.Reply.{Reply}
+use Rattle.process_model.specs.declared.reply.Reply.{Reply}
 use Rattle.process_model.specs.declared.step.Step.{Step}
 use Rattle.hart_machine.specs.Marks.{AreMarked}
 use Rattle.hart_machine.specs.Worlds.{IsModelOutcome, IsWorld, KeepsTables}

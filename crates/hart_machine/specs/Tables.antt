@@ -14,8 +14,8 @@ use Rattle.table_walk.specs.Leaves.{answer, Leaf, walk_answer}
 use Rattle.hart_machine.specs.BufferEntries.{IsTrampolineLeaf, may_have_kernel, may_have_process}
 use Rattle.hart_machine.specs.declared.hart.Hart.{Hart}
 use Rattle.hart_machine.specs.declared.machine.Machine.{Machine}
-use Rattle.hart_machine.specs.declared.tables.SatpTable.{SatpTable}
-use Rattle.hart_machine.specs.declared.tables.SatpTable.TheVariants.{OfKernel, OfProcess}
+use Rattle.hart_machine.specs.declared.translation.SatpTable.{SatpTable}
+use Rattle.hart_machine.specs.declared.translation.SatpTable.TheVariants.{OfKernel, OfProcess}
 use Rattle.hart_machine.specs.declared.slot_process.SlotProcess.{SlotProcess}
 
 abbrev pub table_of : Option ℕ → SatpTable

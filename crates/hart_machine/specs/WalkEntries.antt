@@ -1,5 +1,5 @@
--- Buffer (TLB) entries and page tables: that an entry has what the tables say of its page (`IsEntryOf`), and the entry that
--- a fill adds (`entry_for`).
+-- TLB entries and page tables: that an entry has what the tables say of its page (`IsEntryOf`), and the entry that a fill
+-- adds (`entry_for`).
 use Rattle.std.specs.Prelude.{◌≡◌, ℕ, ◌*◌, false}
 use Rattle.hart_tlb.specs.declared.entry.TlbEntry.{TlbEntry}
 use Rattle.sv39_entry.specs.Address.{page_of}

@@ -10,9 +10,9 @@ use Rattle.frame_store.specs.View.{View}
 use Rattle.process_model.specs.PageMap as pages
 use Rattle.process_model.specs.Process.{Page, Process}
 use Rattle.process_model.specs.Stale.{is_changed}
-use Rattle.process_model.specs.World.{Outcome, World}
+use Rattle.process_model.specs.World.{StepOutcome, World}
 use Rattle.process_model.specs.declared.phase.Phase.TheVariants as phase
-use Rattle.process_model.specs.declared.step.Reply.{Reply}
+use Rattle.process_model.specs.declared.reply.Reply.{Reply}
 use Rattle.hart_tlb.specs.declared.entry.TlbEntry.{TlbEntry}
 use Rattle.sv39_entry.specs.Schemes.{trapframe_page}
 use Rattle.table_walk.specs.Tables.{Tables}
@@ -20,7 +20,7 @@ use Rattle.address_space.specs.Agreement.{IsFrameOfPage}
 use Rattle.address_space.specs.Kernel.{IsKernelTable}
 use Rattle.hart_machine.specs.Harts.{hart_of}
 use Rattle.hart_machine.specs.SlotProcesses.{IsSlotProcess, view_of}
-use Rattle.hart_machine.specs.Slots.{most_slots}
+use Rattle.process_model.specs.declared.limits.TheConstants.{MOST_SLOTS}
 use Rattle.hart_machine.specs.declared.hart.Hart.{Hart}
 use Rattle.hart_machine.specs.declared.machine.Machine.{Machine}
 use Rattle.hart_machine.specs.declared.slot_process.SlotProcess.{SlotProcess}
@@ -61,7 +61,7 @@ pub record IsWorld (m : Machine) (w : World) : Type 0 where
   pub scheme : m.kernel.scheme ≡ w.scheme
   -- each process has the scheme of the machine
   pub schemes : (s : ℕ) (p : Process) → slice_get w.slots s ≡ Some (Some p) → p.scheme ≡ w.scheme
-  pub few : length w.slots ≤ most_slots
+  pub few : length w.slots ≤ MOST_SLOTS
   pub frames : m.kernel.seat.size ≡ w.frames
   pub rule : PlainStateRule m.frames (m.kernel.seat ∷ seats_of m.slots.items)
   pub of_kernel : IsKernelTable m.kernel.scheme m.kernel.seat m.kernel.root.0 w.frames (length w.slots) stacks kernel
@@ -131,5 +131,5 @@ abbrev pub KeepsWorld : Machine → Machine → Type 0
 KeepsWorld m n = (w : World) (is : IsWorld m w) → (after : IsWorld n w) × (after.tables ≡ is.tables)
 
 -- the reply is the model's, and the machine is in the world after the model's step
-abbrev pub IsModelOutcome : Machine → Reply → Outcome → Type 0
+abbrev pub IsModelOutcome : Machine → Reply → StepOutcome → Type 0
 IsModelOutcome m reply o = (reply ≡ o.reply) × IsWorld m o.world

@@ -1,5 +1,5 @@
 // Steps `Fetch`, `Load` and `Store`: a user access of the process on a hart, translated by a walk of its page table or by an
-// entry of the hart's buffer (TLB). After a fault the access is pending and the hart in kernel entry.
+// entry of the hart's TLB. After a fault the access is pending and the hart in kernel entry.
 
 ghost use Rattle.std.specs.Prelude.{◌≡◌, IsTrue, slice_get, Some};
 ghost use Rattle.frame_store.specs.Laws.{IsSeatOf, KeepsSeats};
@@ -12,7 +12,7 @@ ghost use Rattle.table_walk.specs.Leaves.{walk_answer};
 ghost use Rattle.hart_machine.specs.BufferEntries.{IsInWorld};
 ghost use Rattle.hart_machine.specs.Worlds.{IsWorld, IsModelOutcome, SameTables};
 ghost use Rattle.hart_machine.specs.declared.slot_process.SlotProcess.{SlotProcess};
-ghost use Rattle.process_model.specs.ScalarReplies.{reply_of_scalar};
+ghost use Rattle.process_model.specs.declared.reply.Reply.TheVariants.{Scalar};
 ghost use Rattle.process_model.specs.Bytes as bytes;
 ghost use Rattle.process_model.specs.Process.{Process};
 ghost use Rattle.process_model.specs.Service as service;
@@ -44,11 +44,11 @@ impl Machine {
     ) -> ScalarReply
         requires world { (w : World) × IsInWorld self.old w }
         ensures made { (w : World) → IsInWorld self.old w
-            → IsModelOutcome self.new (reply_of_scalar result) (service.access_step w hart request.access request.va.0 request.width request.value via) }
+            → IsModelOutcome self.new (Scalar result) (service.access_step w hart request.access request.va.0 request.width request.value via) }
         ensures buffers { SameBuffers self.old self.new }
         ensures tables { SameTables self.old self.new }
     {
-        let Some((phase, on)) = self.place_of(hart) else {
+        let Some((phase, on)) = self.phase_and_slot(hart) else {
             return ScalarReply::Refused(Refusal::BadArgument);
         };
         if !is_width(request.width) {
@@ -64,7 +64,7 @@ impl Machine {
         let Ok(by_entry) = by_entry else {
             return ScalarReply::Refused(Refusal::NoEntry);
         };
-        let reply = self.answered(slot, by_entry, request);
+        let reply = self.access_slot(slot, by_entry, request);
         if let ScalarReply::Fault(_) = reply {
             self.harts[hart].phase = Phase::Enter0;
         }
@@ -73,7 +73,7 @@ impl Machine {
 
     /// Makes an access of the process in a slot, by the outcome of a buffer entry or, if there is none, by a walk; returns the
     /// reply, a fault included.
-    fn answered(
+    fn access_slot(
         &mut self,
         slot: usize,
         by_entry: Option<Walk>,
@@ -84,7 +84,7 @@ impl Machine {
         requires width { IsTrue (bytes.is_width request.width) }
         ensures made { (w : World) (is : IsWorld self.old w) (p : Process) → slice_get w.slots slot ≡ Some (Some p)
             → IsWalked w.scheme (is.tables slot) request.va.0 request.access by_entry
-            → (reply_of_scalar result ≡ (service.user_access p (request_of request)).reply)
+            → (Scalar result ≡ (service.user_access p (request_of request)).reply)
             × IsWorld self.new (with_process w slot (service.user_access p (request_of request)).process) }
         ensures harts { self.new.harts ≡ self.old.harts }
         ensures tables { SameTables self.old self.new }
@@ -111,14 +111,14 @@ impl SlotProcess {
         requires ready { (t : Tables) × (p : Process) × IsSlotProcess self.old t p × IsWalked p.scheme t request.va.0 request.access by_entry }
         requires width { IsTrue (bytes.is_width request.width) }
         ensures reply { (t : Tables) (p : Process) → IsSlotProcess self.old t p → IsWalked p.scheme t request.va.0 request.access by_entry →
-            reply_of_scalar result ≡ (service.user_access p (request_of request)).reply }
+            Scalar result ≡ (service.user_access p (request_of request)).reply }
         ensures after { (t : Tables) (p : Process) → IsSlotProcess self.old t p → IsWalked p.scheme t request.va.0 request.access by_entry →
             IsSlotProcess self.new t (service.user_access p (request_of request)).process }
         ensures keeps { KeepsSeats PlainStateRule frames.old (view_of self.old) frames.new (view_of self.new) }
     {
         // the translation, which judges the rights, precedes every read or write of bytes
         let walk = self.translated(frames, by_entry, request.va, request.access);
-        let reply = self.space.user_access_scalar(frames, walk, request);
+        let reply = self.space.user_access(frames, walk, request);
         self.keep_faulted(request, reply);
         reply
     }
@@ -150,7 +150,7 @@ impl SlotProcess {
     /// pieces, and a processor that reads them as one waits for the writes.
     #[inline(always)]
     fn keep_faulted(&mut self, request: AccessRequest, reply: ScalarReply)
-        ensures pending { pending_of self.new.pending ≡ pending_after (request_of request) (reply_of_scalar reply) }
+        ensures pending { pending_of self.new.pending ≡ pending_after (request_of request) (Scalar reply) }
         ensures space { self.new.space ≡ self.old.space }
     {
         let ScalarReply::Fault(_) = reply else {

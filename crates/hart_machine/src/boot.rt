@@ -1,5 +1,5 @@
-// `Machine::boot`: makes a machine with empty slots (places in the process table), idle harts, and the kernel's page table;
-// and the enum `BootError`, why it could not.
+// `Machine::boot`: makes a machine with empty slots, idle harts, and the kernel's page table; and the enum `BootError`, why
+// it could not.
 
 ghost use Rattle.std.specs.Prelude.{◌≡◌, ◌↔◌, false, IfErr, IfOk, IsErrOf, map, None, replicate};
 ghost use Rattle.hart_machine.specs.Harts.{hart_of};
@@ -50,13 +50,13 @@ impl From<AllocError> for BootError {
 }
 
 impl Machine {
-    /// Boots a machine as `config` says, with these files, and returns it: all slots (places in the process table) are
-    /// empty, all harts idle, and the kernel's page table is built. All host memory that steps need is allocated here.
+    /// Boots a machine as `config` says, with these files, and returns it: all slots are empty, all harts idle, and the
+    /// kernel's page table is built. All host memory that steps need is allocated here.
     ///
     /// # Errors
-    /// `BadArgument`: exactly when `config` breaks a limit (`can_boot`): 1 to 8 harts, 16 to 1,024 frames, 1 to 64 slots,
-    /// and at least the frames that the kernel takes (`kernel_frames`). `Memory`: the host is out of memory. Both drop
-    /// the files.
+    /// `BadArgument`: exactly when `config` breaks a limit (`can_boot`): 1 to `MOST_HARTS` harts, `FEWEST_FRAMES` to
+    /// `MOST_FRAMES` frames, 1 to `MOST_SLOTS` slots, and at least the frames that the kernel takes (`kernel_frames`).
+    /// `Memory`: the host is out of memory. Both drop the files.
     pub fn boot(alloc: Global, config: Config, files: Cabinet) -> Result<Machine, BootError>
         ensures limits { IsErrOf result BootError.BadArgument ↔ (can_boot config.scheme config.harts config.frames config.slots ≡ false) }
         ensures booted { IfOk result (λ m. IsInWorld m (booted config files)) }

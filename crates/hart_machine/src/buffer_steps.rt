@@ -1,9 +1,8 @@
-// Steps `Fill` and `Evict`: a hart adds an entry to its buffer (TLB) by a walk of the page table in `satp`, or drops an
-// entry.
+// Steps `Fill` and `Evict`: a hart adds an entry to its TLB by a walk of the page table in `satp`, or drops an entry.
 ghost use Rattle.hart_machine.specs.Buffers.{BuffersAre};
 ghost use Rattle.hart_machine.specs.StepPromises.{MakesStep};
 ghost use Rattle.hart_machine.specs.Worlds.{IsWorld, SamePlaces};
-ghost use Rattle.process_model.specs.ScalarReplies.{reply_of_scalar};
+ghost use Rattle.process_model.specs.declared.reply.Reply.TheVariants.{Scalar};
 ghost use Rattle.process_model.specs.World.{World};
 ghost use Rattle.process_model.specs.declared.step.Step.TheVariants as step;
 
@@ -17,9 +16,9 @@ impl Machine {
     /// there is no such hart.
     pub(crate) fn fill(&mut self, hart: usize, va: Va) -> ScalarReply
         requires world { (w : World) × IsWorld self.old w }
-        ensures made { MakesStep self.old self.new (step.Fill hart va.0) (reply_of_scalar result) }
+        ensures made { MakesStep self.old self.new (step.Fill hart va.0) (Scalar result) }
         ensures buffers { (w : World) (is : IsWorld self.old w)
-            → BuffersAre self.old self.new is.tables is.kernel (step.Fill hart va.0) (reply_of_scalar result) }
+            → BuffersAre self.old self.new is.tables is.kernel (step.Fill hart va.0) (Scalar result) }
         ensures places { SamePlaces self.old self.new }
     {
         let Some(table) = self.table_of(hart) else {
@@ -32,9 +31,9 @@ impl Machine {
     /// such hart; `NoEntry`, there is no such entry.
     pub(crate) fn evict(&mut self, hart: usize, entry: usize) -> ScalarReply
         requires world { (w : World) × IsWorld self.old w }
-        ensures made { MakesStep self.old self.new (step.Evict hart entry) (reply_of_scalar result) }
+        ensures made { MakesStep self.old self.new (step.Evict hart entry) (Scalar result) }
         ensures buffers { (w : World) (is : IsWorld self.old w)
-            → BuffersAre self.old self.new is.tables is.kernel (step.Evict hart entry) (reply_of_scalar result) }
+            → BuffersAre self.old self.new is.tables is.kernel (step.Evict hart entry) (Scalar result) }
         ensures places { SamePlaces self.old self.new }
     {
         if hart >= self.harts.len() {

@@ -1,28 +1,25 @@
-// Steps `Mmap`, `Munmap` and `Sbrk`: system calls that change the regions of the process on a hart. `in_kernel` tests, for
-// these and every other kernel call and for `Serve`, whether the step may be made.
+// Steps `Mmap`, `Munmap` and `Sbrk`: system calls that change the regions of the process on a hart.
 
-ghost use Rattle.std.specs.Prelude.{◌≡◌, ℕ, Err, IfErr, IfOk, None, Ok, Some};
+ghost use Rattle.std.specs.Prelude.{◌≡◌, Err, IfErr, IfOk, None, Ok, Some};
 ghost use Rattle.frame_store.specs.Laws.{IsSeatOf, KeepsSeats};
 ghost use Rattle.frame_store.specs.Plain.{PlainStateRule};
 ghost use Rattle.hart_machine.specs.Buffers.{SameBuffers};
-ghost use Rattle.hart_machine.specs.Calls.{call_while, done_or_refused, HasResized, HasUnmapped, IsInKernel, mapped_or_refused, size_of, size_or_refused};
+ghost use Rattle.hart_machine.specs.Calls.{done_or_refused, HasResized, HasUnmapped, mapped_or_refused, size_of, size_or_refused};
 ghost use Rattle.hart_machine.specs.Marks.{marked_by, marked_with};
 ghost use Rattle.hart_machine.specs.SlotProcesses.{IsSlotProcess, view_of};
 ghost use Rattle.hart_machine.specs.StepPromises.{KeepsTablesOf, MakesStep, MarksStep};
 ghost use Rattle.hart_machine.specs.Worlds.{IsWorld, SameTables};
 ghost use Rattle.lazy_growth.specs.SbrkResults.{size_before};
 ghost use Rattle.mmap_regions.specs.MmapEffect.{address_of_mapped, process_mapped};
-ghost use Rattle.process_model.specs.ScalarReplies.{reply_of_scalar};
-ghost use Rattle.process_model.specs.Harts as harts;
+ghost use Rattle.process_model.specs.declared.reply.Reply.TheVariants.{Scalar};
 ghost use Rattle.process_model.specs.Heap.{sbrk_result};
 ghost use Rattle.process_model.specs.Mappings as mappings;
 ghost use Rattle.process_model.specs.Process.{Process, without_pending};
 ghost use Rattle.process_model.specs.Stale.{is_changed};
-ghost use Rattle.process_model.specs.World.{Outcome, refuses, World};
+ghost use Rattle.process_model.specs.World.{World};
 ghost use Rattle.process_model.specs.declared.step.Step.TheVariants as step;
 ghost use Rattle.table_walk.specs.Tables.{Tables};
 
-use crate::hart::is_kernel;
 use crate::machine::Machine;
 use crate::slot_process::SlotProcess;
 use crate::stale_marks::{StepEffect, slot_if};
@@ -32,30 +29,6 @@ use process_model::{Refusal, ScalarReply};
 use sv39_entry::{PAGE_SIZE, Va};
 
 impl Machine {
-    /// The slot of the process for which a hart is in the kernel, if an access of it waits for service exactly as `waits`
-    /// says: true for the service of a fault, false for a kernel call.
-    ///
-    /// # Errors
-    /// `BadArgument`: there is no such hart. `Impossible` with the hart's phase: this is not `Kernel`, or an access waits and
-    /// `waits` is false, or none waits and `waits` is true.
-    pub(crate) fn in_kernel(&self, hart: usize, waits: bool) -> Result<usize, Refusal>
-        requires world { (w : World) × IsWorld self.now w }
-        ensures there { IfOk result (λ s. (w : World) → IsWorld self.now w → IsInKernel self.now w hart s waits) }
-        ensures refused { IfErr result (λ e. (w : World) (run : harts.Hart → ℕ → Process → Outcome) → IsWorld self.now w
-            → call_while w hart waits run ≡ refuses w e) }
-    {
-        let Some((phase, on)) = self.place_of(hart) else {
-            return Err(Refusal::BadArgument);
-        };
-        if !is_kernel(phase) || self.awaits_service(on) != waits {
-            return Err(Refusal::Impossible(phase));
-        }
-        let Some(slot) = on else {
-            return Err(Refusal::Impossible(phase));
-        };
-        Ok(slot)
-    }
-
     /// Maps a file, by its number from 0, for the process on a hart (MIT 6.1810, mmap lab). The reply is `MappedAt` with
     /// the address, or the first refusal that applies of those of `in_kernel`, `BadArgument`, `FileNotWritable`,
     /// `MappingsFull` and `NoRoom`.
@@ -69,11 +42,11 @@ impl Machine {
         file: usize,
     ) -> ScalarReply
         requires world { (w : World) × IsWorld self.old w }
-        ensures made { MakesStep self.old self.new (step.Mmap hart length protection flags file) (reply_of_scalar result) }
+        ensures made { MakesStep self.old self.new (step.Mmap hart length protection flags file) (Scalar result) }
         ensures buffers { SameBuffers self.old self.new }
         ensures tables { SameTables self.old self.new }
     {
-        match self.map_file(hart, length, protection, flags, file) {
+        match self.try_mmap(hart, length, protection, flags, file) {
             Ok(address) => ScalarReply::MappedAt(address),
             Err(refusal) => ScalarReply::Refused(refusal),
         }
@@ -83,7 +56,7 @@ impl Machine {
     ///
     /// # Errors
     /// Those of `in_kernel`, then the first that applies of `BadArgument`, `FileNotWritable`, `MappingsFull` and `NoRoom`.
-    fn map_file(
+    fn try_mmap(
         &mut self,
         hart: usize,
         length: u64,
@@ -115,12 +88,12 @@ impl Machine {
         length: u64,
     ) -> StepEffect<ScalarReply>
         requires world { (w : World) × IsWorld self.old w }
-        ensures made { MakesStep self.old self.new (step.Munmap hart address length) (reply_of_scalar result.reply) }
+        ensures made { MakesStep self.old self.new (step.Munmap hart address length) (Scalar result.reply) }
         ensures buffers { SameBuffers self.old self.new }
         ensures tables { KeepsTablesOf self.old self.new (step.Munmap hart address length) }
         ensures changed { MarksStep self.old (step.Munmap hart address length) result.changed result.born }
     {
-        match self.unmap(hart, address, length) {
+        match self.try_munmap(hart, address, length) {
             Ok(changed) => StepEffect::with_change(ScalarReply::Done, changed),
             Err(refusal) => StepEffect::without_change(ScalarReply::Refused(refusal)),
         }
@@ -130,7 +103,12 @@ impl Machine {
     ///
     /// # Errors
     /// Those of `in_kernel`, then `BadArgument`, then `HoleInMapping`.
-    fn unmap(&mut self, hart: usize, address: u64, length: u64) -> Result<Option<usize>, Refusal>
+    fn try_munmap(
+        &mut self,
+        hart: usize,
+        address: u64,
+        length: u64,
+    ) -> Result<Option<usize>, Refusal>
         requires world { (w : World) × IsWorld self.old w }
         ensures made { MakesStep self.old self.new (step.Munmap hart address length) (done_or_refused result) }
         ensures changed { MarksStep self.old (step.Munmap hart address length) (marked_by result) None }
@@ -153,12 +131,12 @@ impl Machine {
     #[inline(never)]
     pub(crate) fn sbrk(&mut self, hart: usize, delta: i64) -> StepEffect<ScalarReply>
         requires world { (w : World) × IsWorld self.old w }
-        ensures made { MakesStep self.old self.new (step.Sbrk hart delta) (reply_of_scalar result.reply) }
+        ensures made { MakesStep self.old self.new (step.Sbrk hart delta) (Scalar result.reply) }
         ensures buffers { SameBuffers self.old self.new }
         ensures tables { KeepsTablesOf self.old self.new (step.Sbrk hart delta) }
         ensures changed { MarksStep self.old (step.Sbrk hart delta) result.changed result.born }
     {
-        match self.resize(hart, delta) {
+        match self.try_sbrk(hart, delta) {
             Ok((size, changed)) => StepEffect::with_change(ScalarReply::OldSize(size), changed),
             Err(refusal) => StepEffect::without_change(ScalarReply::Refused(refusal)),
         }
@@ -168,7 +146,7 @@ impl Machine {
     ///
     /// # Errors
     /// Those of `in_kernel`, then `BadSize`, then `NoRoom`.
-    fn resize(&mut self, hart: usize, delta: i64) -> Result<(u64, Option<usize>), Refusal>
+    fn try_sbrk(&mut self, hart: usize, delta: i64) -> Result<(u64, Option<usize>), Refusal>
         requires world { (w : World) × IsWorld self.old w }
         ensures made { MakesStep self.old self.new (step.Sbrk hart delta) (size_or_refused result) }
         ensures changed { MarksStep self.old (step.Sbrk hart delta) (marked_with result) None }

@@ -1,5 +1,5 @@
-// Steps `CopyIn` and `CopyOut`: the kernel copies at most 256 bytes from or to the process on a hart (`copyin` and `copyout`
-// of xv6). With the reply comes whether leaves of the process changed.
+// Steps `CopyIn` and `CopyOut`: the kernel copies at most `LONGEST_COPY` bytes from or to the process on a hart (`copyin` and
+// `copyout` of xv6). With the reply comes whether leaves of the process changed.
 
 ghost use Rattle.std.specs.Prelude.{◌≡◌, ◌≤◌, ℕ, length};
 ghost use Rattle.frame_store.specs.Laws.{IsSeatOf, KeepsSeats};
@@ -11,9 +11,9 @@ ghost use Rattle.hart_machine.specs.SlotProcesses.{IsSlotProcess, view_of};
 ghost use Rattle.hart_machine.specs.Marks.{AreMarked, TellsResidence};
 ghost use Rattle.hart_machine.specs.StepPromises.{KeepsTablesOf, MakesStep, MarksStep};
 ghost use Rattle.hart_machine.specs.Worlds.{IsWorld, KeepsTables, IsModelOutcome};
-ghost use Rattle.process_model.specs.ScalarReplies.{reply_of_scalar};
+ghost use Rattle.process_model.specs.declared.reply.Reply.TheVariants.{Scalar};
 ghost use Rattle.process_model.specs.Calls as model;
-ghost use Rattle.process_model.specs.Copies.{copied_in, copied_out, longest_copy};
+ghost use Rattle.process_model.specs.Copies.{copied_in, copied_out};
 ghost use Rattle.process_model.specs.Process.{Process, without_pending};
 ghost use Rattle.process_model.specs.Service.{environment_of, initial_progress};
 ghost use Rattle.process_model.specs.World.{World};
@@ -33,7 +33,7 @@ use user_copy::Stop;
 impl Machine {
     /// Copies `count` bytes from the process on a hart, from `address` on. The reply is `CopiedIn` with the bytes; or
     /// `ShortIn` with the rule that stopped the copy and the bytes before that address; or refused: `BadArgument` if `count`
-    /// is above 256, then as `in_kernel` says.
+    /// is above `LONGEST_COPY`, then as `in_kernel` says.
     #[inline(never)]
     pub(crate) fn copy_in(&mut self, hart: usize, address: u64, count: usize) -> StepEffect<Reply>
         requires world { (w : World) × IsWorld self.old w }
@@ -43,19 +43,23 @@ impl Machine {
         ensures changed { MarksStep self.old (step.CopyIn hart address count) result.changed result.born }
     {
         if count > LONGEST_COPY {
-            return StepEffect::without_change(Reply::Refused(Refusal::BadArgument));
+            return StepEffect::without_change(Reply::Scalar(ScalarReply::Refused(
+                Refusal::BadArgument,
+            )));
         }
         let slot = match self.in_kernel(hart, false) {
             Ok(slot) => slot,
-            Err(refusal) => return StepEffect::without_change(Reply::Refused(refusal)),
+            Err(refusal) => return StepEffect::without_change(Reply::Scalar(ScalarReply::Refused(
+                refusal,
+            ))),
         };
-        self.copy_from(slot, Va(address), count)
+        self.copy_in_slot(slot, Va(address), count)
     }
 
-    /// `copy_in` from the process in a slot, with at most 256 bytes.
-    fn copy_from(&mut self, slot: usize, va: Va, count: usize) -> StepEffect<Reply>
+    /// `copy_in` from the process in a slot, with at most `LONGEST_COPY` bytes.
+    fn copy_in_slot(&mut self, slot: usize, va: Va, count: usize) -> StepEffect<Reply>
         requires world { (w : World) × (h : ℕ) × IsWorld self.old w × IsCaller self.old w h slot }
-        requires few { count ≤ longest_copy }
+        requires few { count ≤ LONGEST_COPY }
         ensures made { (w : World) (h : ℕ) → IsWorld self.old w → (k : IsCaller self.old w h slot) →
             IsModelOutcome self.new result.reply
             (model.copy_in_outcome w slot (copied_in (environment_of w slot) (initial_progress w (without_pending k.process)) va.0 count)) }
@@ -78,8 +82,8 @@ impl Machine {
     }
 
     /// Copies bytes to the process on a hart, from `address` on. The reply is `CopiedOut` with their number; or `ShortOut`
-    /// with the rule that stopped the copy and the number of bytes copied before; or refused: `BadArgument` for more than 256
-    /// bytes, then as `in_kernel` says.
+    /// with the rule that stopped the copy and the number of bytes copied before; or refused: `BadArgument` for more than
+    /// `LONGEST_COPY` bytes, then as `in_kernel` says.
     #[inline(never)]
     pub(crate) fn copy_out(
         &mut self,
@@ -88,7 +92,7 @@ impl Machine {
         bytes: &[u8],
     ) -> StepEffect<ScalarReply>
         requires world { (w : World) × IsWorld self.old w }
-        ensures made { MakesStep self.old self.new (step.CopyOut hart address bytes.entry) (reply_of_scalar result.reply) }
+        ensures made { MakesStep self.old self.new (step.CopyOut hart address bytes.entry) (Scalar result.reply) }
         ensures buffers { SameBuffers self.old self.new }
         ensures tables { KeepsTablesOf self.old self.new (step.CopyOut hart address bytes.entry) }
         ensures changed { MarksStep self.old (step.CopyOut hart address bytes.entry) result.changed result.born }
@@ -100,15 +104,15 @@ impl Machine {
             Ok(slot) => slot,
             Err(refusal) => return StepEffect::without_change(ScalarReply::Refused(refusal)),
         };
-        self.copy_to(slot, Va(address), bytes)
+        self.copy_out_slot(slot, Va(address), bytes)
     }
 
-    /// `copy_out` to the process in a slot, with at most 256 bytes.
-    fn copy_to(&mut self, slot: usize, va: Va, bytes: &[u8]) -> StepEffect<ScalarReply>
+    /// `copy_out` to the process in a slot, with at most `LONGEST_COPY` bytes.
+    fn copy_out_slot(&mut self, slot: usize, va: Va, bytes: &[u8]) -> StepEffect<ScalarReply>
         requires world { (w : World) × (h : ℕ) × IsWorld self.old w × IsCaller self.old w h slot }
-        requires few { length bytes.now ≤ longest_copy }
+        requires few { length bytes.now ≤ LONGEST_COPY }
         ensures made { (w : World) (h : ℕ) → IsWorld self.old w → (k : IsCaller self.old w h slot) →
-            IsModelOutcome self.new (reply_of_scalar result.reply)
+            IsModelOutcome self.new (Scalar result.reply)
             (model.copy_out_outcome w slot (copied_out (environment_of w slot) (initial_progress w (without_pending k.process)) va.0 bytes.now)) }
         ensures changed { (w : World) (h : ℕ) → IsWorld self.old w → (k : IsCaller self.old w h slot) →
             AreMarked w (model.copy_out_outcome w slot
@@ -141,14 +145,14 @@ impl SlotProcess {
     ) -> (Reply, bool)
         requires fits { IsSeatOf PlainStateRule frames.old (view_of self.old) }
         requires ready { (t : Tables) × (p : Process) × IsSlotProcess self.old t p }
-        requires few { count ≤ longest_copy }
+        requires few { count ≤ LONGEST_COPY }
         ensures copied { CopiesFrom self.old self.new frames.old frames.new files.old files.new va.0 count result.0 }
         ensures changed { (t u : Tables) (p q : Process) → IsSlotProcess self.old t p → IsSlotProcess self.new u q → TellsResidence result.1 p q Load va.0 }
         ensures trapframe { self.new.space.trapframe ≡ self.old.space.trapframe }
         ensures keeps { KeepsSeats PlainStateRule frames.old (view_of self.old) frames.new (view_of self.new) }
     {
         let before = self.residence(frames, va, Access::Load);
-        let reply = self.send(frames, files, va, count);
+        let reply = self.copy_bytes_in(frames, files, va, count);
         // a resident page stays resident: then there is nothing to ask
         if before.0 && before.1 {
             return (reply, false);
@@ -158,10 +162,16 @@ impl SlotProcess {
     }
 
     /// Copies `count` bytes from the process, from `va` on, and returns the reply; no access is pending then.
-    fn send(&mut self, frames: &mut PlainFrames, files: &mut Cabinet, va: Va, count: usize) -> Reply
+    fn copy_bytes_in(
+        &mut self,
+        frames: &mut PlainFrames,
+        files: &mut Cabinet,
+        va: Va,
+        count: usize,
+    ) -> Reply
         requires fits { IsSeatOf PlainStateRule frames.old (view_of self.old) }
         requires ready { (t : Tables) × (p : Process) × IsSlotProcess self.old t p }
-        requires few { count ≤ longest_copy }
+        requires few { count ≤ LONGEST_COPY }
         ensures copied { CopiesFrom self.old self.new frames.old frames.new files.old files.new va.0 count result }
         ensures still { (t : Tables) (p : Process) → IsSlotProcess self.old t p → (u : Tables) × (q : Process) × IsSlotProcess self.new u q }
         ensures trapframe { self.new.space.trapframe ≡ self.old.space.trapframe }
@@ -189,14 +199,14 @@ impl SlotProcess {
     ) -> (ScalarReply, bool)
         requires fits { IsSeatOf PlainStateRule frames.old (view_of self.old) }
         requires ready { (t : Tables) × (p : Process) × IsSlotProcess self.old t p }
-        requires few { length bytes.now ≤ longest_copy }
-        ensures copied { CopiesTo self.old self.new frames.old frames.new files.old files.new va.0 bytes.now (reply_of_scalar result.0) }
+        requires few { length bytes.now ≤ LONGEST_COPY }
+        ensures copied { CopiesTo self.old self.new frames.old frames.new files.old files.new va.0 bytes.now (Scalar result.0) }
         ensures changed { (t u : Tables) (p q : Process) → IsSlotProcess self.old t p → IsSlotProcess self.new u q → TellsResidence result.1 p q Store va.0 }
         ensures trapframe { self.new.space.trapframe ≡ self.old.space.trapframe }
         ensures keeps { KeepsSeats PlainStateRule frames.old (view_of self.old) frames.new (view_of self.new) }
     {
         let before = self.residence(frames, va, Access::Store);
-        let reply = self.receive(frames, files, va, bytes);
+        let reply = self.copy_bytes_out(frames, files, va, bytes);
         // a resident page stays resident: then there is nothing to ask
         if before.0 && before.1 {
             return (reply, false);
@@ -206,7 +216,7 @@ impl SlotProcess {
     }
 
     /// Copies bytes to the process, from `va` on, and returns the reply; no access is pending then.
-    fn receive(
+    fn copy_bytes_out(
         &mut self,
         frames: &mut PlainFrames,
         files: &mut Cabinet,
@@ -215,8 +225,8 @@ impl SlotProcess {
     ) -> ScalarReply
         requires fits { IsSeatOf PlainStateRule frames.old (view_of self.old) }
         requires ready { (t : Tables) × (p : Process) × IsSlotProcess self.old t p }
-        requires few { length bytes.now ≤ longest_copy }
-        ensures copied { CopiesTo self.old self.new frames.old frames.new files.old files.new va.0 bytes.now (reply_of_scalar result) }
+        requires few { length bytes.now ≤ LONGEST_COPY }
+        ensures copied { CopiesTo self.old self.new frames.old frames.new files.old files.new va.0 bytes.now (Scalar result) }
         ensures still { (t : Tables) (p : Process) → IsSlotProcess self.old t p → (u : Tables) × (q : Process) × IsSlotProcess self.new u q }
         ensures trapframe { self.new.space.trapframe ≡ self.old.space.trapframe }
         ensures keeps { KeepsSeats PlainStateRule frames.old (view_of self.old) frames.new (view_of self.new) }

@@ -10,11 +10,11 @@ ghost use Rattle.hart_machine.specs.SlotProcesses.{IsSlotProcess, view_of};
 ghost use Rattle.hart_machine.specs.Marks.{slot_of_ok};
 ghost use Rattle.hart_machine.specs.StepPromises.{KeepsTablesOf, MakesStep, MarksStep};
 ghost use Rattle.hart_machine.specs.Worlds.{IsWorld};
-ghost use Rattle.process_model.specs.ScalarReplies.{reply_of_scalar};
+ghost use Rattle.process_model.specs.declared.reply.Reply.TheVariants.{Scalar};
 ghost use Rattle.process_model.specs.Frames.{exec_need};
 ghost use Rattle.process_model.specs.Process.{Process};
 ghost use Rattle.process_model.specs.World.{World};
-ghost use Rattle.process_model.specs.declared.step.Refusal.TheVariants as refusal;
+ghost use Rattle.process_model.specs.declared.reply.Refusal.TheVariants as refusal;
 ghost use Rattle.process_model.specs.declared.step.Step.TheVariants as step;
 ghost use Rattle.table_walk.specs.Tables.{Tables};
 
@@ -36,12 +36,12 @@ impl Machine {
         image: process_model::Image<'_>,
     ) -> StepEffect<ScalarReply>
         requires world { (w : World) × IsWorld self.old w }
-        ensures made { MakesStep self.old self.new (step.Exec hart image.entry) (reply_of_scalar result.reply) }
+        ensures made { MakesStep self.old self.new (step.Exec hart image.entry) (Scalar result.reply) }
         ensures buffers { SameBuffers self.old self.new }
         ensures tables { KeepsTablesOf self.old self.new (step.Exec hart image.entry) }
         ensures changed { MarksStep self.old (step.Exec hart image.entry) result.changed result.born }
     {
-        match self.replace(hart, image) {
+        match self.try_exec(hart, image) {
             Ok(slot) => StepEffect::with_change(ScalarReply::Done, Some(slot)),
             Err(refusal) => StepEffect::without_change(ScalarReply::Refused(refusal)),
         }
@@ -51,7 +51,7 @@ impl Machine {
     ///
     /// # Errors
     /// Those of `in_kernel`, then `BadImage` with the check that the image fails, then `NoFrame`.
-    fn replace(&mut self, hart: usize, image: process_model::Image<'_>) -> Result<usize, Refusal>
+    fn try_exec(&mut self, hart: usize, image: process_model::Image<'_>) -> Result<usize, Refusal>
         requires world { (w : World) × IsWorld self.old w }
         ensures made { MakesStep self.old self.new (step.Exec hart image.entry) (done_or_refused result) }
         ensures changed { MarksStep self.old (step.Exec hart image.entry) (slot_of_ok result) None }

@@ -1,6 +1,5 @@
-// Step `Exit`, and the end of a process by exit or by a rule (a reason to deny an access): pages with the dirty mark (D)
-// are written back, all its frames released, and its seat (an owner's capability at a frame store) closed; its slot (place
-// in the process table) is then empty, and the hart idle.
+// Step `Exit`, and the end of a process by exit or by a rule (a reason to deny an access): pages with the dirty mark (D) are
+// written back, all its frames released, and its seat closed; its slot is then empty, and the hart idle.
 
 ghost use Rattle.std.specs.Prelude.{◌≡◌, ◌∷◌, Bool, List, ℕ};
 ghost use Rattle.address_space.specs.Steps.{IsBare};
@@ -14,12 +13,12 @@ ghost use Rattle.hart_machine.specs.Harts.{hart_of};
 ghost use Rattle.hart_machine.specs.SlotProcesses.{IsSlotProcess, view_of};
 ghost use Rattle.hart_machine.specs.StepPromises.{KeepsTablesOf, MakesStep};
 ghost use Rattle.hart_machine.specs.Worlds.{IsWorld, KeepsOtherSlots};
-ghost use Rattle.process_model.specs.ScalarReplies.{reply_of_scalar};
+ghost use Rattle.process_model.specs.declared.reply.Reply.TheVariants.{Scalar};
 ghost use Rattle.process_model.specs.Mappings.{all_written_back};
 ghost use Rattle.process_model.specs.Process.{Process};
 ghost use Rattle.process_model.specs.Service.{ended};
 ghost use Rattle.process_model.specs.World.{World};
-ghost use Rattle.process_model.specs.declared.step.Reply.{Reply};
+ghost use Rattle.process_model.specs.declared.reply.Reply.{Reply};
 ghost use Rattle.process_model.specs.declared.step.Step.TheVariants as step;
 ghost use Rattle.table_walk.specs.Tables as tables;
 
@@ -35,7 +34,7 @@ impl Machine {
     #[inline(never)]
     pub(crate) fn exit(&mut self, hart: usize, status: i32) -> ScalarReply
         requires world { (w : World) × IsWorld self.old w }
-        ensures made { MakesStep self.old self.new (step.Exit hart status) (reply_of_scalar result) }
+        ensures made { MakesStep self.old self.new (step.Exit hart status) (Scalar result) }
         ensures buffers { SameBuffers self.old self.new }
         ensures tables { KeepsTablesOf self.old self.new (step.Exit hart status) }
     {

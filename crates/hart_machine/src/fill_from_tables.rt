@@ -1,12 +1,11 @@
-// `fill_from_tables`: adds to a hart's buffer (TLB) what a walk of page tables finds for a page; the tables are in frames
-// that a seat (an owner's capability at a frame store) holds.
+// `fill_from_tables`: adds to a hart's TLB what a walk of page tables finds for a page; the tables are in frames that a seat
+// holds.
 
 ghost use Rattle.std.specs.Prelude.{◌≡◌, ◌++◌, ◌∷◌, []};
 ghost use Rattle.frame_store.specs.Laws.{IsSeatOf, KeepsSeats};
 ghost use Rattle.hart_machine.specs.WalkEntries.{entry_for};
 ghost use Rattle.table_walk.specs.Leaves.{LeavesAreLocal, LeavesAreThere};
 ghost use Rattle.hart_tlb.specs.Buffer.{newest_entries};
-ghost use Rattle.process_model.specs.Harts.{buffer_size};
 ghost use Rattle.table_walk.specs.Tables.{HasTables, Tables};
 
 use frame_store::{FrameAccess, FrameSeat};
@@ -29,7 +28,7 @@ pub(crate) fn fill_from_tables<F: FrameAccess>(
     requires fits { IsSeatOf F.rule store.old seat.old }
     requires held { (t : Tables) × HasTables scheme (F.Seat.view seat.old) root.0 t }
     ensures entries { (t : Tables) → HasTables scheme (F.Seat.view seat.old) root.0 t → LeavesAreThere scheme t → LeavesAreLocal scheme t →
-        buffer.new ≡ newest_entries buffer_size (buffer.old ++ entry_for scheme t asid va.0 ∷ []) }
+        buffer.new ≡ newest_entries BUFFER_SIZE (buffer.old ++ entry_for scheme t asid va.0 ∷ []) }
     ensures view { F.Seat.view seat.new ≡ F.Seat.view seat.old }
     ensures same { store.new ≡ store.old }
     ensures keeps { KeepsSeats F.rule store.old seat.old store.new seat.new }

@@ -1,5 +1,5 @@
 // Step `Fork`: forks the process on a hart by copy-on-write (MIT 6.1810, copy-on-write lab); the child goes to the lowest
-// free slot (place in the process table).
+// free slot.
 
 ghost use Rattle.std.specs.Prelude.{◌≡◌, ◌∷◌, ◌<◌, IfErr, IfOk, List, ℕ, slice_index};
 ghost use Rattle.address_space.specs.Agreement.{IsSpace};
@@ -13,19 +13,20 @@ ghost use Rattle.hart_machine.specs.SlotProcesses.{body_in, IsSlotProcess, view_
 ghost use Rattle.hart_machine.specs.Marks.{child_in, marked_with};
 ghost use Rattle.hart_machine.specs.StepPromises.{KeepsTablesOf, MakesStep, MarksStep};
 ghost use Rattle.hart_machine.specs.Worlds.{IsWorld};
-ghost use Rattle.process_model.specs.ScalarReplies.{reply_of_scalar};
+ghost use Rattle.process_model.specs.declared.reply.Reply.TheVariants.{Scalar};
 ghost use Rattle.process_model.specs.Frames.{fork_need};
 ghost use Rattle.process_model.specs.Process.{Process};
 ghost use Rattle.process_model.specs.World.{World};
-ghost use Rattle.process_model.specs.declared.step.Refusal.TheVariants as refusal;
+ghost use Rattle.process_model.specs.declared.reply.Refusal.TheVariants as refusal;
 ghost use Rattle.process_model.specs.declared.step.Step.TheVariants as step;
+ghost use Rattle.process_model.specs.declared.limits.TheConstants.{MOST_REFERENCES};
 ghost use Rattle.sv39_entry.specs.Schemes.{trapframe_page};
 ghost use Rattle.table_walk.specs.Tables.{Tables};
 
 use crate::machine::Machine;
 use crate::slot_process::SlotProcess;
 use crate::stale_marks::{StepEffect, slot_if};
-use address_space::{SettledPage, Space};
+use address_space::SettledPage;
 use cow_fork::{Child, fork_listed};
 use frame_store::{PlainFrames, PlainSeat};
 use process_model::{Refusal, ScalarReply};
@@ -36,12 +37,12 @@ impl Machine {
     #[inline(never)]
     pub(crate) fn fork(&mut self, hart: usize) -> StepEffect<ScalarReply>
         requires world { (w : World) × IsWorld self.old w }
-        ensures made { MakesStep self.old self.new (step.Fork hart) (reply_of_scalar result.reply) }
+        ensures made { MakesStep self.old self.new (step.Fork hart) (Scalar result.reply) }
         ensures buffers { SameBuffers self.old self.new }
         ensures tables { KeepsTablesOf self.old self.new (step.Fork hart) }
         ensures changed { MarksStep self.old (step.Fork hart) result.changed result.born }
     {
-        match self.fork_into(hart) {
+        match self.try_fork(hart) {
             Ok((slot, changed)) => StepEffect {
                 reply: ScalarReply::Forked(slot),
                 changed,
@@ -56,7 +57,7 @@ impl Machine {
     ///
     /// # Errors
     /// Those of `in_kernel`, then `NoSlot`, then `NoFrame`.
-    fn fork_into(&mut self, hart: usize) -> Result<(usize, Option<usize>), Refusal>
+    fn try_fork(&mut self, hart: usize) -> Result<(usize, Option<usize>), Refusal>
         requires world { (w : World) × IsWorld self.old w }
         ensures made { MakesStep self.old self.new (step.Fork hart) (forked_or_refused result) }
         ensures changed { MarksStep self.old (step.Fork hart) (marked_with result) (child_in result) }
@@ -78,12 +79,7 @@ impl Machine {
         let child = slot_process.fork(frames, settled)?;
         let layout = slot_process.space.layout.copied();
         self.slots[place] = Some(SlotProcess {
-            space: Space {
-                seat: child.seat,
-                root: child.root,
-                trapframe: child.trapframe,
-                layout,
-            },
+            space: child.space(layout),
             pending: None,
         });
         Ok((place, slot_if(slot, unmarked)))
@@ -104,7 +100,7 @@ impl SlotProcess {
         requires fits { IsSeatOf PlainStateRule frames.old (view_of self.old) }
         requires ready { (t : Tables) × (p : Process) × IsSlotProcess self.old t p }
         requires settled { (t : Tables) (p : Process) → IsSpace (body_in self.old) t p → AreSettled t p 0 (trapframe_page p.scheme) settled.now }
-        requires few { (f : ℕ) → IsHeld (view_of self.old) f → slice_index frames.old.counts f < 65535 }
+        requires few { (f : ℕ) → IsHeld (view_of self.old) f → slice_index frames.old.counts f < MOST_REFERENCES }
         ensures forked { IfOk result (λ child. (t : Tables) (p : Process) → IsSlotProcess self.old t p
             → HasForkedProcess self.new (in_slot child self.new.space.layout) t p) }
         ensures trapframe { self.new.space.trapframe ≡ self.old.space.trapframe }

@@ -1,11 +1,11 @@
-// `Hart`, a struct: its phase (user mode, or how far it is in kernel entry and return), its process's slot (place in the
-// process table), its buffer (TLB) and its stale marks; and what fences and writes of `satp`, fills and a switch do to them.
-// Also the next phase, and tests of a phase (such as `is_user`).
+// `Hart`, a struct: its phase (user mode, or how far it is in kernel entry and return), its process's slot, its TLB and its
+// stale marks; and what fences and writes of `satp`, fills and a switch do to them. Also the next phase, and tests of a phase
+// (such as `is_user`).
 
 ghost use Rattle.std.specs.Prelude.{◌≡◌, ◌+◌, ◌<◌, ◌≤◌, ℕ, length, Some};
 ghost use Rattle.frame_store.specs.Laws.{IsSeatOf};
 ghost use Rattle.hart_machine.specs.Harts.{advanced, cleaned, emptied, hart_of, is_before_user, next_number, with_entry};
-ghost use Rattle.hart_machine.specs.Slots.{most_slots};
+ghost use Rattle.process_model.specs.declared.limits.TheConstants.{MOST_SLOTS};
 ghost use Rattle.hart_machine.specs.WalkEntries.{entry_for};
 ghost use Rattle.table_walk.specs.Leaves.{LeavesAreLocal, LeavesAreThere};
 ghost use Rattle.process_model.specs.Harts as model;
@@ -18,7 +18,7 @@ use hart_tlb::Buffer;
 use process_model::{BUFFER_SIZE, Phase, Policy};
 use sv39_entry::{FrameNo, Scheme, Va};
 
-/// A hart: its phase between user mode and kernel, the slot of its process, if it has one, and its buffer (TLB).
+/// A hart: its phase between user mode and kernel, the slot of its process, if it has one, and its TLB.
 #[derive(Drop)]
 pub(crate) struct Hart {
     pub(crate) phase: Phase,
@@ -44,7 +44,7 @@ impl Hart {
     /// Makes the next instruction of kernel entry or return, a fence or a write of `satp` (the xv6 book, "Traps from user
     /// space"), by the policy. In the phases `Idle` and `User` there is none, and nothing changes.
     pub(crate) fn advance(&mut self, policy: Policy)
-        requires slot { (s : ℕ) → self.old.slot ≡ Some s → s < most_slots }
+        requires slot { (s : ℕ) → self.old.slot ≡ Some s → s < MOST_SLOTS }
         ensures { self.new ≡ advanced policy self.old }
     {
         match policy {
@@ -68,7 +68,7 @@ impl Hart {
     /// Policy `asid`: if the next instruction is the last fence of the return and the hart is marked for its slot, fences
     /// that slot's ASID and clears the mark. No other fence does anything.
     fn clean(&mut self)
-        requires slot { (s : ℕ) → self.old.slot ≡ Some s → s < most_slots }
+        requires slot { (s : ℕ) → self.old.slot ≡ Some s → s < MOST_SLOTS }
         ensures { self.new ≡ cleaned self.old }
     {
         if !is_before_user(self.phase) {
@@ -85,7 +85,7 @@ impl Hart {
 
     /// The ASID in `satp`: that of the hart's process while `satp` names the process's table and the policy is `asid`, else 0.
     pub(crate) fn asid(&self, policy: Policy) -> u16
-        requires slot { (s : ℕ) → self.now.slot ≡ Some s → s < most_slots }
+        requires slot { (s : ℕ) → self.now.slot ≡ Some s → s < MOST_SLOTS }
         ensures { result ≡ model.present_asid policy (hart_of self.now) }
     {
         match (policy, self.slot) {
@@ -110,7 +110,7 @@ impl Hart {
         ensures kept { (t : Tables) → HasTables scheme (F.Seat.view seat.old) root.0 t → LeavesAreThere scheme t → LeavesAreLocal scheme t
             → self.new ≡ with_entry self.old (entry_for scheme t asid va.0) }
         ensures number { result ≡ next_number self.old.buffer }
-        ensures few { length self.old.buffer ≤ model.buffer_size }
+        ensures few { length self.old.buffer ≤ BUFFER_SIZE }
         ensures view { F.Seat.view seat.new ≡ F.Seat.view seat.old }
         ensures same { store.new ≡ store.old }
     {
@@ -150,7 +150,7 @@ pub(crate) fn next_phase(phase: Phase) -> Option<Phase>
 
 /// The ASID of the process in a slot, under policy `asid`: the slot plus 1. The kernel has ASID 0.
 fn asid_of(slot: usize) -> u16
-    requires { slot < most_slots }
+    requires { slot < MOST_SLOTS }
     ensures { result ≡ slot + 1 }
 {
     slot as u16 + 1

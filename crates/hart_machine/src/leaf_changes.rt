@@ -1,6 +1,6 @@
-// What steps read of the process in a slot (place in the process table) to tell whether they change leaves of its pages, so
-// that buffer (TLB) entries may be stale: settled pages (those in memory) in a range or without a copy-on-write mark (the next
-// store takes the page over), and pages resident for an access (no fault). Also the list of settled pages, for `Fork`.
+// What steps read of the process in a slot to tell whether they change leaves of its pages, so that TLB entries may be stale:
+// settled pages (those in memory) in a range or without a copy-on-write mark (the next store takes the page over), and pages
+// resident for an access (no fault). Also the list of settled pages, for `Fork`.
 
 ghost use Rattle.std.specs.Prelude.{◌≡◌, ◌↔◌, ◌+◌, ◌<◌, ◌≤◌, ◌&&◌, ℕ, false, min, not, Some, true};
 ghost use Rattle.address_space.specs.Accesses.{IsGranted};
@@ -53,7 +53,8 @@ impl SlotProcess {
         )
     }
 
-    /// `is_resident` at `va`, and at `va` plus 4,096: a kernel copy from `va` on, of at most 256 bytes, reaches no third page.
+    /// `is_resident` at `va`, and at `va` plus 4,096: a kernel copy from `va` on, of at most `LONGEST_COPY` bytes, reaches no
+    /// third page.
     pub(crate) fn residence(
         &mut self,
         frames: &mut PlainFrames,

@@ -1,6 +1,6 @@
-//! `Machine`, a struct: frames, the kernel's page table, processes in slots (places in the process table), harts with TLBs,
-//! and files. Its steps reply what the model replies, and leave the machine in the state that the model has. Also
-//! `BootError`, why a machine was not booted; `BUFFER_SIZE`, the capacity of a TLB; and `Pending`, an access that faulted.
+//! `Machine`, a struct: frames, the kernel's page table, processes in slots, harts with TLBs, and files. Its steps reply what
+//! the model replies, and leave the machine in the state that the model has. Also `BootError`, why a machine was not booted,
+//! and `Pending`, an access that faulted.
 #![tactic(auto)]
 
 mod access;
@@ -13,6 +13,7 @@ mod exit;
 mod fill_from_tables;
 mod fork;
 mod hart;
+mod in_kernel;
 mod leaf_changes;
 mod machine;
 mod serve;
@@ -22,11 +23,10 @@ mod stale_marks;
 mod start;
 mod step;
 mod switch;
-mod tables;
 mod trampoline;
+mod translation;
 mod views;
 
 pub use boot::BootError;
 pub use machine::Machine;
-pub use process_model::BUFFER_SIZE;
 pub use slot_process::Pending;

@@ -1,7 +1,7 @@
-// `Machine`, the struct, and its accessors: accounts of frames, files, a hart's phase and slot (place in the process table),
-// whether a slot has a process. Also `set_pending`, which sets a process's pending access.
+// `Machine`, the struct, and its accessors: accounts of frames, files, a hart's phase and slot, whether a slot has a process.
+// Also `set_pending`, which sets a process's pending access.
 
-ghost use Rattle.std.specs.Prelude.{◌≡◌, is_some, option_and_then, option_map, slice_get, Some};
+ghost use Rattle.std.specs.Prelude.{◌≡◌, is_some, option_map, slice_get, Some};
 ghost use Rattle.std.specs.Vec.{with_item};
 ghost use Rattle.hart_machine.specs.declared.slot_process.SlotProcess.{SlotProcess};
 ghost use Rattle.hart_machine.specs.BufferEntries.{IsInWorld};
@@ -16,8 +16,8 @@ use file_cabinet::Cabinet;
 use frame_store::{PlainFrames, PlainSeat};
 use process_model::{Phase, Policy, Report};
 
-/// A machine: policy, frames, the kernel's page table, slots (places in the process table), harts with their buffers
-/// (TLBs), and files. `boot` makes one; `step` and `run` make its steps.
+/// A machine: policy, frames, the kernel's page table, slots, harts with their TLBs, and files. `boot` makes one; `step` and
+/// `run` make its steps.
 #[derive(Drop)]
 pub struct Machine {
     pub(crate) policy: Policy,
@@ -58,21 +58,11 @@ impl Machine {
     }
 
     /// The phase of a hart, and the slot of the process on it, if there is one; `None` if there is no such hart.
-    pub(crate) fn place_of(&self, hart: usize) -> Option<(Phase, Option<usize>)>
+    pub(crate) fn phase_and_slot(&self, hart: usize) -> Option<(Phase, Option<usize>)>
         ensures { result ≡ option_map (λ x. (x.phase, x.slot)) (slice_get self.now.harts.items hart) }
     {
         match self.harts.get(hart) {
             Some(hart) => Some((hart.phase, hart.slot)),
-            None => None,
-        }
-    }
-
-    /// The slot of the process on a hart; `None` if there is no such hart, or no process on it.
-    pub(crate) fn slot_of(&self, hart: usize) -> Option<usize>
-        ensures { result ≡ option_and_then (λ x. x.slot) (slice_get self.now.harts.items hart) }
-    {
-        match self.harts.get(hart) {
-            Some(hart) => hart.slot,
             None => None,
         }
     }

@@ -12,13 +12,13 @@ ghost use Rattle.hart_machine.specs.SlotProcesses.{IsSlotProcess, view_of};
 ghost use Rattle.hart_machine.specs.Marks.{AreMarked, slot_if};
 ghost use Rattle.hart_machine.specs.StepPromises.{KeepsTablesOf, MakesStep, MarksStep};
 ghost use Rattle.hart_machine.specs.Worlds.{IsWorld, KeepsOtherSlots, KeepsTables, IsModelOutcome};
-ghost use Rattle.process_model.specs.ScalarReplies.{reply_of_scalar};
 ghost use Rattle.process_model.specs.Process as model;
 ghost use Rattle.process_model.specs.Process.{Process};
 ghost use Rattle.process_model.specs.Residence.{is_resident};
 ghost use Rattle.process_model.specs.Service.{served};
 ghost use Rattle.process_model.specs.World.{is_unserved_access, World};
-ghost use Rattle.process_model.specs.declared.step.Reply.TheVariants.{Ready};
+ghost use Rattle.process_model.specs.declared.reply.ScalarReply.TheVariants.{Ready};
+ghost use Rattle.process_model.specs.declared.reply.Reply.TheVariants.{Scalar};
 ghost use Rattle.process_model.specs.declared.step.Step.TheVariants as step;
 ghost use Rattle.sv39_entry.specs.Address.{page_of};
 ghost use Rattle.table_walk.specs.Tables.{Tables};
@@ -38,7 +38,7 @@ impl Machine {
     #[inline(never)]
     pub(crate) fn serve(&mut self, hart: usize) -> StepEffect<ScalarReply>
         requires world { (w : World) × IsWorld self.old w }
-        ensures made { MakesStep self.old self.new (step.Serve hart) (reply_of_scalar result.reply) }
+        ensures made { MakesStep self.old self.new (step.Serve hart) (Scalar result.reply) }
         ensures buffers { SameBuffers self.old self.new }
         ensures tables { KeepsTablesOf self.old self.new (step.Serve hart) }
         ensures changed { MarksStep self.old (step.Serve hart) result.changed result.born }
@@ -47,7 +47,7 @@ impl Machine {
             Ok(slot) => slot,
             Err(refusal) => return StepEffect::without_change(ScalarReply::Refused(refusal)),
         };
-        match self.serve_fault(slot) {
+        match self.serve_slot(slot) {
             Ok(settled) => StepEffect::with_change(ScalarReply::Ready, slot_if(slot, settled)),
             Err(rule) => {
                 self.end(hart, slot);
@@ -61,10 +61,10 @@ impl Machine {
     /// # Errors
     /// The rule by which the process has to end: the first that denies the access, or `NoFrame`. The machine is then in the
     /// world that it was in; the caller ends the process.
-    fn serve_fault(&mut self, slot: usize) -> Result<bool, Rule>
+    fn serve_slot(&mut self, slot: usize) -> Result<bool, Rule>
         requires world { (w : World) × (h : ℕ) × IsWorld self.old w × IsInKernel self.old w h slot true }
         ensures ready { IfOk result (λ _. (w : World) (h : ℕ) → IsWorld self.old w → (k : IsInKernel self.old w h slot true)
-            → IsModelOutcome self.new Ready (served w h (hart_of k.hart) slot k.process k.process.pending)) }
+            → IsModelOutcome self.new (Scalar Ready) (served w h (hart_of k.hart) slot k.process k.process.pending)) }
         ensures changed { IfOk result (λ b. (w : World) (h : ℕ) → IsWorld self.old w → (k : IsInKernel self.old w h slot true)
             → AreMarked w (served w h (hart_of k.hart) slot k.process k.process.pending) (slot_if slot b) None) }
         ensures must_end { IfErr result (λ rule. (w : World) (h : ℕ) → IsWorld self.old w → (k : IsInKernel self.old w h slot true)

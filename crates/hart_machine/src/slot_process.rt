@@ -1,5 +1,5 @@
-// `SlotProcess`, a struct: the process in a slot (place in the process table), as its address space and its pending access;
-// and `Pending`, a struct: an access that faulted, and whether the kernel has served it.
+// `SlotProcess`, a struct: the process in a slot, as its address space and its pending access; and `Pending`, a struct: an
+// access that faulted, and whether the kernel has served it.
 
 ghost use Rattle.std.specs.Prelude.{◌≡◌};
 ghost use Rattle.hart_machine.specs.SlotProcesses.{pending_of};

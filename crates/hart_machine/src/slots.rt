@@ -1,7 +1,7 @@
-// `SlotSet`, a struct: a set of slots (places in the process table), for the slots that are marked as stale on a hart.
+// `SlotSet`, a struct: a set of slots, for the slots that are marked as stale on a hart.
 
 ghost use Rattle.std.specs.Prelude.{◌≡◌, ◌<◌, ◌==◌, ◌||◌, ℕ, false, replicate, slice_set};
-ghost use Rattle.hart_machine.specs.Slots.{marks_of, most_slots};
+ghost use Rattle.hart_machine.specs.Slots.{marks_of};
 
 use process_model::MOST_SLOTS;
 use std::marker::Model;
@@ -24,7 +24,7 @@ impl Model for SlotSet {
 impl SlotSet {
     /// The empty set.
     pub(crate) fn empty() -> SlotSet
-        ensures { result ≡ replicate most_slots false }
+        ensures { result ≡ replicate MOST_SLOTS false }
     {
         SlotSet {
             members: [false; MOST_SLOTS],
@@ -40,7 +40,7 @@ impl SlotSet {
 
     /// Adds a slot to the set.
     pub(crate) fn insert(&mut self, slot: usize)
-        requires { slot < most_slots }
+        requires { slot < MOST_SLOTS }
         ensures { (n : ℕ) → marks_of self.new n ≡ (slot == n || marks_of self.old n) }
     {
         self.members[slot] = true;
@@ -48,7 +48,7 @@ impl SlotSet {
 
     /// Removes a slot from the set.
     pub(crate) fn remove(&mut self, slot: usize)
-        requires { slot < most_slots }
+        requires { slot < MOST_SLOTS }
         ensures { self.new ≡ slice_set self.old slot false }
     {
         self.members[slot] = false;

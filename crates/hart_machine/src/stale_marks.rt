@@ -1,12 +1,12 @@
-// Stale marks, for policy `asid`: `Machine::mark` marks every hart for a slot (place in the process table) of which a step
-// changed leaves, or in which it started a process, since the hart's buffer (TLB) may hold stale entries of its ASID.
-// `StepEffect`, a struct: a step's reply and these slots.
+// Stale marks, for policy `asid`: `Machine::mark` marks every hart for a slot of which a step changed leaves, or in which it
+// started a process, since the hart's TLB may hold stale entries of its ASID. `StepEffect`, a struct: a step's reply and
+// these slots.
 
 ghost use Rattle.std.specs.Prelude.{◌≡◌, ◌<◌, ℕ, map, None, Some};
 ghost use Rattle.hart_machine.specs.Buffers.{SameBuffers};
 ghost use Rattle.hart_machine.specs.Harts.{hart_of, marked, marked_harts};
 ghost use Rattle.hart_machine.specs.Marks.{slot_if};
-ghost use Rattle.hart_machine.specs.Slots.{most_slots};
+ghost use Rattle.process_model.specs.declared.limits.TheConstants.{MOST_SLOTS};
 
 use crate::hart::Hart;
 use crate::machine::Machine;
@@ -57,7 +57,7 @@ impl Machine {
     /// Policy `asid`: marks every hart for a slot whose leaves changed. Does nothing for `None`, and under policy `full`.
     #[inline(always)]
     pub(crate) fn mark(&mut self, slot: Option<usize>)
-        requires { (s : ℕ) → slot ≡ Some s → s < most_slots }
+        requires { (s : ℕ) → slot ≡ Some s → s < MOST_SLOTS }
         ensures harts { map hart_of self.new.harts.items ≡ marked_harts self.old.policy slot (map hart_of self.old.harts.items) }
         ensures buffers { SameBuffers self.old self.new }
         ensures others { self.new ≡ record self.old { harts = self.new.harts } }
@@ -76,7 +76,7 @@ impl Machine {
 impl Hart {
     /// Marks the hart for a slot: its buffer may hold stale entries of that slot's ASID.
     fn mark(&mut self, slot: usize)
-        requires { slot < most_slots }
+        requires { slot < MOST_SLOTS }
         ensures hart { hart_of self.new ≡ marked slot (hart_of self.old) }
         ensures buffer { self.new.buffer ≡ self.old.buffer }
     {

@@ -1,5 +1,5 @@
-// Step `Start`: starts a process of a program image in the lowest free slot (place in the process table), which `free_slot`
-// finds; and opens and closes the seat (an owner's capability at a frame store) of a new process.
+// Step `Start`: starts a process of a program image in the lowest free slot, which `free_slot` finds; and opens and closes
+// the seat of a new process.
 
 ghost use Rattle.std.specs.Prelude.{◌≡◌, ◌∷◌, List, ℕ};
 ghost use Rattle.address_space.specs.Agreement.{HoldsTrampoline};
@@ -10,7 +10,7 @@ ghost use Rattle.frame_store.specs.View.{references, View};
 ghost use Rattle.hart_machine.specs.Buffers.{SameBuffers};
 ghost use Rattle.hart_machine.specs.StepPromises.{KeepsTablesOf, MakesStep, MarksStep};
 ghost use Rattle.hart_machine.specs.Worlds.{IsWorld};
-ghost use Rattle.process_model.specs.ScalarReplies.{reply_of_scalar};
+ghost use Rattle.process_model.specs.declared.reply.Reply.TheVariants.{Scalar};
 ghost use Rattle.process_model.specs.World.{free_slot, World};
 ghost use Rattle.process_model.specs.declared.step.Step.TheVariants as step;
 ghost use Rattle.table_walk.specs.Tables as tables;
@@ -29,7 +29,7 @@ impl Machine {
     #[inline(never)]
     pub(crate) fn start(&mut self, image: process_model::Image<'_>) -> StepEffect<ScalarReply>
         requires world { (w : World) × IsWorld self.old w }
-        ensures made { MakesStep self.old self.new (step.Start image.entry) (reply_of_scalar result.reply) }
+        ensures made { MakesStep self.old self.new (step.Start image.entry) (Scalar result.reply) }
         ensures buffers { SameBuffers self.old self.new }
         ensures tables { KeepsTablesOf self.old self.new (step.Start image.entry) }
         ensures changed { MarksStep self.old (step.Start image.entry) result.changed result.born }

@@ -1,15 +1,15 @@
-// `Machine::step`, `step_scalar` and `run`: make one step, one whose reply has no bytes, or a list of steps, with the
-// replies of the model. `Machine::buffer`: the buffer (TLB) of a hart.
+// `Machine::step`, `step_scalar` and `run`: make one step, one whose reply has no bytes, or a list of steps, with the replies
+// of the model.
 
-ghost use Rattle.std.specs.Prelude.{◌≡◌, IfOk, List, map, OnErr, OnOk, option_copied, option_map, slice_get, true};
-ghost use Rattle.hart_machine.specs.Buffers.{buffer_of, BuffersAre, OnlyFillsAdd};
-ghost use Rattle.hart_machine.specs.Harts.{key_of};
+ghost use Rattle.std.specs.Prelude.{◌≡◌, IfOk, List, OnErr, OnOk, true};
+ghost use Rattle.hart_machine.specs.Buffers.{BuffersAre, OnlyFillsAdd};
 ghost use Rattle.hart_machine.specs.Marks.{AreMarked};
 ghost use Rattle.hart_machine.specs.Runs.{BuffersFollow};
 ghost use Rattle.hart_machine.specs.BufferEntries.{AreEntriesCurrent, IsInWorld};
 ghost use Rattle.hart_machine.specs.Worlds.{KeepsTables, IsModelOutcome};
 ghost use Rattle.process_laws.specs.Headline.{Headline};
-ghost use Rattle.process_model.specs.ScalarReplies.{is_scalar, reply_of_scalar};
+ghost use Rattle.process_model.specs.declared.reply.Reply.TheVariants.{Scalar};
+ghost use Rattle.process_model.specs.ScalarReplies.{is_scalar};
 ghost use Rattle.process_model.specs.Files.{File};
 ghost use Rattle.process_model.specs.Steps as model;
 ghost use Rattle.process_model.specs.World.{booted, World};
@@ -20,8 +20,7 @@ ghost use Rattle.process_model.specs.declared.step.Step as declared;
 use crate::machine::Machine;
 use crate::stale_marks::StepEffect;
 use address_space::AccessRequest;
-use hart_tlb::Buffer;
-use process_model::{BUFFER_SIZE, Reply, ScalarReply, Step};
+use process_model::{Reply, ScalarReply, Step};
 use std::alloc::{AllocError, Global};
 use sv39_entry::{Access, Va};
 
@@ -53,7 +52,7 @@ impl Machine {
             count,
         } = step
         else {
-            return self.step_scalar(step).reply();
+            return Reply::Scalar(self.step_scalar(step));
         };
         let StepEffect {
             reply,
@@ -72,12 +71,12 @@ impl Machine {
     pub fn step_scalar(&mut self, step: Step<'_>) -> ScalarReply
         requires world { (w : World) × IsInWorld self.old w }
         requires scalar { is_scalar step ≡ true }
-        ensures made { (w : World) → IsInWorld self.old w → (reply_of_scalar result ≡ (model.step w step.entry).reply)
+        ensures made { (w : World) → IsInWorld self.old w → (Scalar result ≡ (model.step w step.entry).reply)
             × IsInWorld self.new (model.step w step.entry).world }
         ensures tables { (w : World) → IsInWorld self.old w → KeepsTables self.old self.new w.slots (model.step w step.entry).world.slots }
         ensures buffers { (w : World) (is : IsInWorld self.old w) → OnlyFillsAdd self.old self.new (is.world).tables (is.world).kernel step.entry }
         ensures each_buffer { (w : World) (is : IsInWorld self.old w)
-            → BuffersAre self.old self.new (is.world).tables (is.world).kernel step.entry (reply_of_scalar result) }
+            → BuffersAre self.old self.new (is.world).tables (is.world).kernel step.entry (Scalar result) }
         ensures identifiers { (w : World) → IsInWorld self.old w → w.policy ≡ Asid → AreEntriesCurrent self.new }
     {
         let StepEffect {
@@ -97,11 +96,11 @@ impl Machine {
     fn make(&mut self, step: Step<'_>) -> StepEffect<ScalarReply>
         requires world { (w : World) × IsInWorld self.old w }
         requires scalar { is_scalar step ≡ true }
-        ensures made { (w : World) → IsInWorld self.old w → IsModelOutcome self.new (reply_of_scalar result.reply) (model.plain_step w step.entry) }
+        ensures made { (w : World) → IsInWorld self.old w → IsModelOutcome self.new (Scalar result.reply) (model.plain_step w step.entry) }
         ensures changed { (w : World) → IsInWorld self.old w → AreMarked w (model.plain_step w step.entry) result.changed result.born }
         ensures tables { (w : World) → IsInWorld self.old w → KeepsTables self.old self.new w.slots (model.plain_step w step.entry).world.slots }
         ensures each_buffer { (w : World) (is : IsInWorld self.old w)
-            → BuffersAre self.old self.new (is.world).tables (is.world).kernel step.entry (reply_of_scalar result.reply) }
+            → BuffersAre self.old self.new (is.world).tables (is.world).kernel step.entry (Scalar result.reply) }
     {
         match step {
             Step::Start(image) => self.start(image),
@@ -196,14 +195,5 @@ impl Machine {
             replies.push_reserved(self.step(*step));
         }
         Ok(replies)
-    }
-
-    /// The buffer (TLB) of a hart, its entries in the order of filling; `None` if there is no such hart. Page and ASID of
-    /// its entries, in order, are the keys that the model's hart has.
-    pub fn buffer(&self, hart: usize) -> Option<&Buffer<BUFFER_SIZE>>
-        ensures buffer { option_copied result ≡ buffer_of self.now hart }
-        ensures keys { (w : World) → IsInWorld self.now w → option_map (map key_of) (option_copied result) ≡ option_map (λ x. x.keys) (slice_get w.harts hart) }
-    {
-        self.harts.get(hart).map(|hart| &hart.buffer)
     }
 }

@@ -1,13 +1,12 @@
 // Steps `Switch`, `Trap` and `Next`: schedule a process on a hart, trap into the kernel, and execute the next instruction of
-// kernel entry or return (the xv6 book, "Traps from user space"). Also `awaits_service`: whether an access of a hart's process
-// waits for service.
+// kernel entry or return (the xv6 book, "Traps from user space").
 
 ghost use Rattle.std.specs.Prelude.{◌≡◌, slice_get, Some};
 ghost use Rattle.std.specs.List.{list_any};
 ghost use Rattle.hart_machine.specs.Buffers.{BuffersAre, SameBuffers};
 ghost use Rattle.hart_machine.specs.StepPromises.{MakesStep};
 ghost use Rattle.hart_machine.specs.Worlds.{IsWorld, SamePlaces, SameTables};
-ghost use Rattle.process_model.specs.ScalarReplies.{reply_of_scalar};
+ghost use Rattle.process_model.specs.declared.reply.Reply.TheVariants.{Scalar};
 ghost use Rattle.process_model.specs.Harts as harts;
 ghost use Rattle.process_model.specs.World as model;
 ghost use Rattle.process_model.specs.World.{World};
@@ -23,7 +22,7 @@ impl Machine {
     /// no process, or its process is on a hart.
     pub(crate) fn switch(&mut self, hart: usize, slot: Option<usize>) -> ScalarReply
         requires world { (w : World) × IsWorld self.old w }
-        ensures made { MakesStep self.old self.new (step.Switch hart slot) (reply_of_scalar result) }
+        ensures made { MakesStep self.old self.new (step.Switch hart slot) (Scalar result) }
         ensures buffers { SameBuffers self.old self.new }
         ensures places { SamePlaces self.old self.new }
     {
@@ -51,11 +50,11 @@ impl Machine {
     /// `Done`, or refused: `BadArgument`, there is no such hart; `Impossible`, it is not in phase `User`.
     pub(crate) fn trap(&mut self, hart: usize) -> ScalarReply
         requires world { (w : World) × IsWorld self.old w }
-        ensures made { MakesStep self.old self.new (step.Trap hart) (reply_of_scalar result) }
+        ensures made { MakesStep self.old self.new (step.Trap hart) (Scalar result) }
         ensures buffers { SameBuffers self.old self.new }
         ensures tables { SameTables self.old self.new }
     {
-        let Some((phase, on)) = self.place_of(hart) else {
+        let Some((phase, on)) = self.phase_and_slot(hart) else {
             return ScalarReply::Refused(Refusal::BadArgument);
         };
         if !is_user(phase) {
@@ -74,11 +73,11 @@ impl Machine {
     /// access waits for service.
     pub(crate) fn next(&mut self, hart: usize) -> ScalarReply
         requires world { (w : World) × IsWorld self.old w }
-        ensures made { MakesStep self.old self.new (step.Next hart) (reply_of_scalar result) }
-        ensures buffers { (w : World) (is : IsWorld self.old w) → BuffersAre self.old self.new is.tables is.kernel (step.Next hart) (reply_of_scalar result) }
+        ensures made { MakesStep self.old self.new (step.Next hart) (Scalar result) }
+        ensures buffers { (w : World) (is : IsWorld self.old w) → BuffersAre self.old self.new is.tables is.kernel (step.Next hart) (Scalar result) }
         ensures places { SamePlaces self.old self.new }
     {
-        let Some((phase, on)) = self.place_of(hart) else {
+        let Some((phase, on)) = self.phase_and_slot(hart) else {
             return ScalarReply::Refused(Refusal::BadArgument);
         };
         if !self.can_go_on(phase, on) {
@@ -95,20 +94,6 @@ impl Machine {
         ensures { (w : World) (x : harts.Hart) → IsWorld self.now w → x.phase ≡ phase → x.slot ≡ on → result ≡ model.can_go_on w x }
     {
         next_phase(phase).is_some() && !(is_kernel(phase) && self.awaits_service(on))
-    }
-
-    /// Whether an access of the process in a slot waits for service: it faulted, and was not served. `None`, for no process:
-    /// false.
-    pub(crate) fn awaits_service(&self, on: Option<usize>) -> bool
-        ensures { (w : World) (x : harts.Hart) → IsWorld self.now w → x.slot ≡ on → result ≡ model.awaits_service w x }
-    {
-        let Some(slot) = on else {
-            return false;
-        };
-        match self.slots.get(slot) {
-            Some(Some(slot_process)) => slot_process.is_unserved(),
-            _ => false,
-        }
     }
 }
 

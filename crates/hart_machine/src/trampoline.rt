@@ -1,15 +1,22 @@
 // Step `TrampolineFetch`: the kernel fetches its code in the trampoline's page, during kernel entry and return, by a walk or
-// by an entry of the hart's buffer (TLB).
+// by an entry of the hart's TLB.
+
+ghost use Rattle.std.specs.Prelude.{◌≡◌, IfOk, is_ok, slice_get, Some};
 ghost use Rattle.hart_machine.specs.Buffers.{SameBuffers};
 ghost use Rattle.hart_machine.specs.BufferEntries.{IsInWorld};
-ghost use Rattle.hart_machine.specs.Worlds.{IsModelOutcome, SamePlaces};
-ghost use Rattle.process_model.specs.ScalarReplies.{reply_of_scalar};
+ghost use Rattle.hart_machine.specs.Harts.{hart_of};
+ghost use Rattle.hart_machine.specs.Tables.{IsTranslated, MayAsk};
+ghost use Rattle.hart_machine.specs.Worlds.{IsModelOutcome, IsWorld, KeepsWorld, SamePlaces};
+ghost use Rattle.hart_machine.specs.declared.hart.Hart.{Hart};
+ghost use Rattle.process_model.specs.Harts.{entry_serves};
+ghost use Rattle.process_model.specs.declared.reply.Reply.TheVariants.{Scalar};
 ghost use Rattle.process_model.specs.Steps.{plain_step};
 ghost use Rattle.process_model.specs.World.{World};
 ghost use Rattle.process_model.specs.declared.step.Step.TheVariants as step;
 
 use crate::hart::in_trampoline;
 use crate::machine::Machine;
+use hart_tlb::NoEntry;
 use process_model::{Refusal, ScalarReply};
 use sv39_entry::{Access, FrameNo, Mode, PAGE_SIZE, Va};
 use table_walk::Walk;
@@ -28,7 +35,7 @@ impl Machine {
     ) -> ScalarReply
         requires world { (w : World) × IsInWorld self.old w }
         ensures made { (w : World) → IsInWorld self.old w
-            → IsModelOutcome self.new (reply_of_scalar result) (plain_step w (step.TrampolineFetch hart offset via)) }
+            → IsModelOutcome self.new (Scalar result) (plain_step w (step.TrampolineFetch hart offset via)) }
         ensures buffers { SameBuffers self.old self.new }
         ensures places { SamePlaces self.old self.new }
     {
@@ -43,7 +50,7 @@ impl Machine {
         }
         let trampoline = self.kernel.scheme.trampoline();
         let va = Va(trampoline.0 + offset);
-        let Ok(walk) = self.translate_access(hart, via, va, Access::Fetch, Mode::Supervisor) else {
+        let Ok(walk) = self.translate_kernel(hart, via, va, Access::Fetch, Mode::Supervisor) else {
             return ScalarReply::Refused(Refusal::NoEntry);
         };
         let Walk::Leaf { address, .. } = walk else {
@@ -53,5 +60,39 @@ impl Machine {
             unreachable!()
         };
         ScalarReply::InFrame(usize::from(frame.0))
+    }
+
+    /// Translates an access of the kernel's code on a hart: by the entry with number `via` of its buffer, or, if `via` is `None`, by a walk of the
+    /// page table that its `satp` names. Returns the leaf with the physical address, or the fault.
+    ///
+    /// # Errors
+    /// `NoEntry`: exactly when `via` names an entry that is not there, or is for another page or another ASID.
+    fn translate_kernel(
+        &mut self,
+        hart: usize,
+        via: Option<usize>,
+        va: Va,
+        access: Access,
+        mode: Mode,
+    ) -> Result<Walk, NoEntry>
+        requires hart { (x : Hart) × (slice_get self.old.harts.items hart ≡ Some x) }
+        requires world { (w : World) × IsWorld self.old w }
+        ensures serves { (w : World) (x : Hart) → IsWorld self.old w → slice_get self.old.harts.items hart ≡ Some x
+            → is_ok result ≡ entry_serves self.old.policy (hart_of x) va.0 via }
+        ensures walk { IfOk result (λ z. (w : World) (is : IsInWorld self.old w) (x : Hart) → slice_get self.old.harts.items hart ≡ Some x
+            → MayAsk self.old.kernel.scheme x va.0 →
+            IsTranslated self.old.kernel.scheme x (is.world).tables (is.world).kernel va.0 access mode z) }
+        ensures world { KeepsWorld self.old self.new }
+        ensures places { SamePlaces self.old self.new }
+        ensures policy { self.new.policy ≡ self.old.policy }
+        ensures harts { self.new.harts ≡ self.old.harts }
+    {
+        if let Some(entry) = via {
+            return self.translate_by_entry(hart, entry, va, access, mode);
+        }
+        let Some(table) = self.table_of(hart) else {
+            unreachable!()
+        };
+        Ok(self.walk(table, va, access, mode))
     }
 }

@@ -1,9 +1,11 @@
-// What may be seen of a machine from outside, beside its accounts, files and buffers: how many harts and slots (places in the process
-// table) it has, its policy and scheme, where each hart is, regions and rights of processes, and the memory with its page tables.
+// What may be seen of a machine from outside, beside its accounts and files: how many harts and slots it has, its policy and
+// scheme, where each hart is, its TLB, regions and rights of processes, and the memory with its page tables.
 
-ghost use Rattle.std.specs.Prelude.{◌≡◌, ◌<◌, ℕ, is_some, length, map, option_and_then, option_map, slice_get, Some};
+ghost use Rattle.std.specs.Prelude.{◌≡◌, ◌<◌, ℕ, is_some, length, map, option_and_then, option_copied, option_map, slice_get, Some};
 ghost use Rattle.frame_store.specs.Plain.{report_of};
 ghost use Rattle.hart_machine.specs.BufferEntries.{IsInWorld};
+ghost use Rattle.hart_machine.specs.Buffers.{buffer_of};
+ghost use Rattle.hart_machine.specs.Harts.{key_of};
 ghost use Rattle.hart_machine.specs.SeenTables.{SeesTables};
 ghost use Rattle.hart_machine.specs.SlotProcesses.{pending_of};
 ghost use Rattle.hart_machine.specs.Tables.{HasTable, present_table, tables_of};
@@ -21,10 +23,11 @@ ghost use Rattle.sv39_entry.specs.Schemes.{mode_of};
 
 use crate::machine::Machine;
 use crate::slot_process::Pending;
-use crate::tables::SatpTable;
+use crate::translation::SatpTable;
 use address_space::Region;
 use arrayvec::ArrayVec;
-use process_model::{MOST_REGIONS, Phase, Policy};
+use hart_tlb::Buffer;
+use process_model::{BUFFER_SIZE, MOST_REGIONS, Phase, Policy};
 use sv39_entry::{Access, FrameNo, Rule, Satp, Scheme, Va};
 use table_walk::StoredWords;
 
@@ -69,7 +72,10 @@ impl Machine {
     pub fn slot(&self, hart: usize) -> Option<usize>
         ensures { (w : World) → IsInWorld self.now w → result ≡ option_and_then (λ x. x.slot) (slice_get w.harts hart) }
     {
-        self.slot_of(hart)
+        match self.harts.get(hart) {
+            Some(hart) => hart.slot,
+            None => None,
+        }
     }
 
     /// Returns the region that holds the page of an address, of the process in a slot; `None` if none does, or the slot has no
@@ -123,6 +129,15 @@ impl Machine {
             Some(Some(slot_process)) => slot_process.pending,
             _ => None,
         }
+    }
+
+    /// Returns the TLB of a hart, its entries in the order of filling; `None` if there is no such hart. Page and ASID of its entries,
+    /// in order, are the keys that the model's hart has.
+    pub fn buffer(&self, hart: usize) -> Option<&Buffer<BUFFER_SIZE>>
+        ensures buffer { option_copied result ≡ buffer_of self.now hart }
+        ensures keys { (w : World) → IsInWorld self.now w → option_map (map key_of) (option_copied result) ≡ option_map (λ x. x.keys) (slice_get w.harts hart) }
+    {
+        self.harts.get(hart).map(|hart| &hart.buffer)
     }
 
     /// Returns the words of all frames as a memory for walks.

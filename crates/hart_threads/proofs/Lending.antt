@@ -1,5 +1,5 @@
--- Lemmas on splitting a seat (an owner's capability at a frame store) off the kernel's: what the kernel's keeps (`Lends`),
--- that the new one holds frame 0 or nothing, that nothing is left once frame 0 is released, and that both are at one table.
+-- Lemmas on splitting a seat off the kernel's: what the kernel's keeps (`Lends`), that the new one holds frame 0 or nothing,
+-- that nothing is left once frame 0 is released, and that both are at one table.
 use Rattle.std.proofs.Common.{◌≡◌, ℕ, zero, suc, ◌-◌, ◌==◌, false, cond, ap, refl, subst, sym, ◌∙◌, List, [], ◌∷◌, arith, Result, Ok, Err}
 use Rattle.std.specs.Prelude.{IfErr, IfOk}
 use Rattle.atomic_table.specs.Seated.{TableId}

@@ -14,7 +14,7 @@ use Rattle.hart_threads.specs.declared.start_result.StartResult.TheVariants as m
 use Rattle.process_model.specs.declared.call.Outcome.{Outcome}
 use Rattle.process_model.specs.declared.call.Outcome.TheVariants as outcome
 use Rattle.process_model.specs.declared.call.Start.{Start}
-use Rattle.process_model.specs.declared.step.Refusal.TheVariants as refusal
+use Rattle.process_model.specs.declared.reply.Refusal.TheVariants as refusal
 
 -- one more
 

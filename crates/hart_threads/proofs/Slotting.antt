@@ -1,6 +1,5 @@
--- Lemmas on slots (places in the process table): ends with and without a process keep the rule for slots and counts
--- (`MatchesSlots`), the unfinished starts took free slots (`AreTaken`) at each roster step, and what follows for a run
--- (`all_slotted`, `all_full`, `all_pooled`).
+-- Lemmas on slots: ends with and without a process keep the rule for slots and counts (`MatchesSlots`), the unfinished starts
+-- took free slots (`AreTaken`) at each roster step, and what follows for a run (`all_slotted`, `all_full`, `all_pooled`).
 use Rattle.std.proofs.Common.{◌≡◌, inl, inr, ℕ, ◌<◌, Bool, true, false, List, [], ◌∷◌, ◌++◌, All, Option, Some, length, slice_get, take, refl, sym, ap, ◌∙◌, subst}
 use Rattle.std.proofs.lemmas.List.Elements.{All-weaker}
 use Rattle.atomic_table.specs.Seated.{TableId}
@@ -17,7 +16,7 @@ use Rattle.hart_threads.specs.declared.start_result.StartResult.TheVariants as m
 use Rattle.process_model.specs.declared.call.Outcome.{Outcome}
 use Rattle.process_model.specs.declared.call.Outcome.TheVariants as outcome
 use Rattle.process_model.specs.declared.call.Start.{Start}
-use Rattle.process_model.specs.declared.step.Refusal.TheVariants as refusal
+use Rattle.process_model.specs.declared.reply.Refusal.TheVariants as refusal
 use Rattle.shared_frames.specs.SeatsOfTable.{view_of}
 use Rattle.vouchers.specs.Entries.{Birth, TokenEntry as Life, entry, Has, nameless, without}
 use Rattle.vouchers.specs.Lists.{without_had}

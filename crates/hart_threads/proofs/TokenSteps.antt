@@ -22,10 +22,11 @@ use Rattle.process_model.specs.declared.call.Call.TheVariants as call
 use Rattle.process_model.specs.declared.call.Start.{Start}
 use Rattle.process_model.specs.declared.call.Outcome.{Outcome}
 use Rattle.process_model.specs.declared.call.Outcome.TheVariants as outcome
-use Rattle.process_model.specs.declared.step.Reply.{Reply}
-use Rattle.process_model.specs.declared.step.Reply.TheVariants as reply
-use Rattle.process_model.specs.declared.step.Refusal.{Refusal}
-use Rattle.process_model.specs.declared.step.Refusal.TheVariants as refusal
+use Rattle.process_model.specs.declared.reply.Reply.{Reply}
+use Rattle.process_model.specs.declared.reply.ScalarReply.TheVariants as scalar
+use Rattle.process_model.specs.declared.reply.Reply.TheVariants as reply
+use Rattle.process_model.specs.declared.reply.Refusal.{Refusal}
+use Rattle.process_model.specs.declared.reply.Refusal.TheVariants as refusal
 use Rattle.shared_frames.specs.SeatsOfTable.{view_of}
 use Rattle.hart_threads.proofs.Names.{no_start, some_name}
 use Rattle.hart_threads.specs.Due.{IsNone}
@@ -39,28 +40,28 @@ use Rattle.hart_threads.specs.RosterState.{all_go_on, AsEnded, EndsIn, GoOn, Has
 
 -- a reply names a child, or none
 abbrev Names : Birth → Reply → Type 0
-Names c r = ((n : ℕ) × (r ≡ reply.Forked n)) ⊎ ((forked r ≡ 0) × (heir c r ≡ []))
+Names c r = ((n : ℕ) × (r ≡ reply.Scalar (scalar.Forked n))) ⊎ ((forked r ≡ 0) × (heir c r ≡ []))
 
 names : (c : Birth) (r : Reply) → Names c r
-names c reply.Done = inr (refl, refl)
-names c (reply.Started n) = inr (refl, refl)
-names c (reply.Forked n) = inl (n, refl)
-names c (reply.Value n) = inr (refl, refl)
-names c reply.Stored = inr (refl, refl)
-names c (reply.Fault n) = inr (refl, refl)
-names c (reply.Filled n) = inr (refl, refl)
-names c reply.NothingFilled = inr (refl, refl)
-names c (reply.InFrame n) = inr (refl, refl)
-names c reply.Ready = inr (refl, refl)
-names c (reply.Ended rule) = inr (refl, refl)
-names c (reply.OldSize n) = inr (refl, refl)
-names c (reply.MappedAt n) = inr (refl, refl)
+names c (reply.Scalar scalar.Done) = inr (refl, refl)
+names c (reply.Scalar (scalar.Started n)) = inr (refl, refl)
+names c (reply.Scalar (scalar.Forked n)) = inl (n, refl)
+names c (reply.Scalar (scalar.Value n)) = inr (refl, refl)
+names c (reply.Scalar scalar.Stored) = inr (refl, refl)
+names c (reply.Scalar (scalar.Fault n)) = inr (refl, refl)
+names c (reply.Scalar (scalar.Filled n)) = inr (refl, refl)
+names c (reply.Scalar scalar.NothingFilled) = inr (refl, refl)
+names c (reply.Scalar (scalar.InFrame n)) = inr (refl, refl)
+names c (reply.Scalar scalar.Ready) = inr (refl, refl)
+names c (reply.Scalar (scalar.Ended rule)) = inr (refl, refl)
+names c (reply.Scalar (scalar.OldSize n)) = inr (refl, refl)
+names c (reply.Scalar (scalar.MappedAt n)) = inr (refl, refl)
 names c (reply.CopiedIn bytes) = inr (refl, refl)
-names c (reply.CopiedOut n) = inr (refl, refl)
+names c (reply.Scalar (scalar.CopiedOut n)) = inr (refl, refl)
 names c (reply.ShortIn rule bytes) = inr (refl, refl)
-names c (reply.ShortOut rule n) = inr (refl, refl)
-names c (reply.Exited status) = inr (refl, refl)
-names c (reply.Refused r) = inr (refl, refl)
+names c (reply.Scalar (scalar.ShortOut rule n)) = inr (refl, refl)
+names c (reply.Scalar (scalar.Exited status)) = inr (refl, refl)
+names c (reply.Scalar (scalar.Refused r)) = inr (refl, refl)
 
 no_heir : (c : Birth) (r : Reply) → forked r ≡ 0 → heir c r ≡ []
 no_heir c r none = elim (names c r) as (λ _. heir c r ≡ []) [
@@ -116,25 +117,25 @@ child_began t child e k fork before young = births _ _ _ _ (young.list ∙ ap fo
 
 -- one more call that lets its process go on
 lets : (r : Reply) → LeavesRunning r → lets_go_on r ≡ true
-lets reply.Done on = refl
-lets (reply.Started n) on = refl
-lets (reply.Forked n) on = refl
-lets (reply.Value n) on = refl
-lets reply.Stored on = refl
-lets (reply.Fault n) on = refl
-lets (reply.Filled n) on = refl
-lets reply.NothingFilled on = refl
-lets (reply.InFrame n) on = refl
-lets reply.Ready on = refl
-lets (reply.Ended r) on = absurd on
-lets (reply.OldSize n) on = refl
-lets (reply.MappedAt n) on = refl
+lets (reply.Scalar scalar.Done) on = refl
+lets (reply.Scalar (scalar.Started n)) on = refl
+lets (reply.Scalar (scalar.Forked n)) on = refl
+lets (reply.Scalar (scalar.Value n)) on = refl
+lets (reply.Scalar scalar.Stored) on = refl
+lets (reply.Scalar (scalar.Fault n)) on = refl
+lets (reply.Scalar (scalar.Filled n)) on = refl
+lets (reply.Scalar scalar.NothingFilled) on = refl
+lets (reply.Scalar (scalar.InFrame n)) on = refl
+lets (reply.Scalar scalar.Ready) on = refl
+lets (reply.Scalar (scalar.Ended r)) on = absurd on
+lets (reply.Scalar (scalar.OldSize n)) on = refl
+lets (reply.Scalar (scalar.MappedAt n)) on = refl
 lets (reply.CopiedIn b) on = refl
-lets (reply.CopiedOut n) on = refl
+lets (reply.Scalar (scalar.CopiedOut n)) on = refl
 lets (reply.ShortIn r b) on = refl
-lets (reply.ShortOut r n) on = refl
-lets (reply.Exited n) on = absurd on
-lets (reply.Refused r) on = refl
+lets (reply.Scalar (scalar.ShortOut r n)) on = refl
+lets (reply.Scalar (scalar.Exited n)) on = absurd on
+lets (reply.Scalar (scalar.Refused r)) on = refl
 
 go_on : (es : List JournalEntry) (e : JournalEntry) → GoOn es → LeavesRunning e.reply → GoOn (es ++ e ∷ [])
 go_on [] e go on = rw (lets e.reply on) refl
@@ -239,8 +240,8 @@ module _ (files : List File) (lists : List (List Call)) (starts : List Start) (h
   ends_heirs f r none e = heirs_after t.journal f.journal.items e.entry [] e.journal (no_heir (birth_of e.entry) e.entry.reply (ap forked e.reply ∙ none)) ∙ append-nil (births_of t.journal)
 
   last_heirs : (f : Finished) (x : Outcome) → IsLastEntry t f x → births_of f.journal.items ≡ births_of t.journal
-  last_heirs f (outcome.Exited status) l = ends_heirs f (reply.Exited status) refl l
-  last_heirs f (outcome.Ended rule) l = ends_heirs f (reply.Ended rule) refl l
+  last_heirs f (outcome.Exited status) l = ends_heirs f (reply.Scalar (scalar.Exited status)) refl l
+  last_heirs f (outcome.Ended rule) l = ends_heirs f (reply.Scalar (scalar.Ended rule)) refl l
   last_heirs f (outcome.Refused r) l = absurd l
   last_heirs f outcome.Memory l = ap births_of l.0
   last_heirs f outcome.JournalFull l = ap births_of l.0
@@ -270,8 +271,8 @@ module _ (files : List File) (lists : List (List Call)) (starts : List Start) (h
     ran = (t.opening, q, refl, opens, replays, runs)
 
     as_ended : (v : View) (x : Outcome) → IsLastEntry t f x → LacksJournalRoom v q calls f.journal.items x → AsEnded files starts calls v x t.name (code_of t.opening) f.journal.items
-    as_ended v (outcome.Exited status) l full = (ran, ends_in f (reply.Exited status) l)
-    as_ended v (outcome.Ended rule) l full = (ran, ends_in f (reply.Ended rule) l)
+    as_ended v (outcome.Exited status) l full = (ran, ends_in f (reply.Scalar (scalar.Exited status)) l)
+    as_ended v (outcome.Ended rule) l full = (ran, ends_in f (reply.Scalar (scalar.Ended rule)) l)
     as_ended v (outcome.Refused r) l full = absurd l
     as_ended v outcome.Memory l full = (ran, subst GoOn (sym l.0) o.goes, full)
     as_ended v outcome.JournalFull l full = ((t.opening, q, refl, opens, replays, full, runs), subst GoOn (sym l.0) o.goes)
@@ -293,11 +294,11 @@ no_child : (t u c : Track) (s : ForkSlot) → IsNone s → ContinuesTurn t u (So
 no_child t u c (slot.Free name place) none g = none
 no_child t u c slot.NoSlot none g = refused refusal.NoSlot (subst (λ (k : Call). BySlot slot.NoSlot k g.entry.reply) g.child.1.1 g.slot)
   where
-    refused : (r : Refusal) → g.entry.reply ≡ reply.Refused r → ⊥
+    refused : (r : Refusal) → g.entry.reply ≡ reply.Scalar (scalar.Refused r) → ⊥
     refused r is = let one : forked g.entry.reply ≡ 1 = g.child.0 in let none : forked g.entry.reply ≡ 0 = ap forked is in omega (arith, one, none)
 no_child t u c slot.Memory none g = refused refusal.Memory (subst (λ (k : Call). BySlot slot.Memory k g.entry.reply) g.child.1.1 g.slot)
   where
-    refused : (r : Refusal) → g.entry.reply ≡ reply.Refused r → ⊥
+    refused : (r : Refusal) → g.entry.reply ≡ reply.Scalar (scalar.Refused r) → ⊥
     refused r is = let one : forked g.entry.reply ≡ 1 = g.child.0 in let none : forked g.entry.reply ≡ 0 = ap forked is in omega (arith, one, none)
 
 pub unslotted : (t u c : Track) (o : Option Track) (s : ForkSlot) → IsNone s → ContinuesTurn t u o s → o ≡ Some c → ⊥

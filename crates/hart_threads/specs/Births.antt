@@ -9,8 +9,9 @@ use Rattle.hart_calls.specs.declared.journal_entry.JournalEntry.{JournalEntry}
 use Rattle.process_model.specs.Residence.{child_of}
 use Rattle.process_model.specs.declared.call.Call.{Call}
 use Rattle.process_model.specs.declared.call.Call.TheVariants as call
-use Rattle.process_model.specs.declared.step.Reply.{Reply}
-use Rattle.process_model.specs.declared.step.Reply.TheVariants as reply
+use Rattle.process_model.specs.declared.reply.Reply.{Reply}
+use Rattle.process_model.specs.declared.reply.ScalarReply.TheVariants as scalar
+use Rattle.process_model.specs.declared.reply.Reply.TheVariants as reply
 use Rattle.vouchers.specs.Entries.{Birth, birth}
 
 -- an unfinished process: its list, and the process that it began as
@@ -28,7 +29,7 @@ birth_of e = birth (fork_list (call_of e)) (code_of (child_of e.before.state))
 
 -- the child that an entry with this reply names, if it names one
 abbrev pub heir : Birth → Reply → List Birth
-heir b (reply.Forked n) = b ∷ []
+heir b (reply.Scalar (scalar.Forked n)) = b ∷ []
 heir b r = []
 
 -- the children that a journal names, in order

@@ -15,27 +15,29 @@ use Rattle.process_model.specs.declared.call.Outcome.{Outcome}
 use Rattle.process_model.specs.declared.call.Outcome.TheVariants as outcome
 use Rattle.process_model.specs.declared.call.Start.{Start}
 use Rattle.process_model.specs.declared.image.Image.{Image}
-use Rattle.process_model.specs.declared.step.Refusal.{Refusal}
-use Rattle.process_model.specs.declared.step.Refusal.TheVariants as refusal
+use Rattle.process_model.specs.declared.reply.Refusal.{Refusal}
+use Rattle.process_model.specs.declared.reply.Refusal.TheVariants as refusal
 use Rattle.sv39_entry.specs.declared.scheme.Scheme.TheVariants.{Sv39}
 use Rattle.vouchers.specs.Entries.{Birth, birth, TokenEntry as Life, entry, Has, nameless, same_name}
 use Rattle.vouchers.specs.IssuerSeats.{HoldsAt, held_of}
 use Rattle.hart_calls.specs.declared.journal_entry.JournalEntry.{JournalEntry}
 use Rattle.hart_calls.specs.declared.finished.Finished.{Finished}
 use Rattle.hart_calls.specs.Replay.{list_at, Replays}
-use Rattle.hart_calls.specs.TurnCases.{LacksJournalRoom, most_entries}
+use Rattle.hart_calls.specs.TurnCases.{LacksJournalRoom}
 use Rattle.hart_threads.specs.Births.{began, births_of}
 use Rattle.hart_threads.specs.FilesOfRun.{ReplaysOver, RunsOver}
 use Rattle.hart_calls.specs.Track.{calls_of, Track}
 use Rattle.process_model.specs.Files.{File}
 use Rattle.process_model.specs.Process.{Process}
 use Rattle.process_model.specs.declared.call.Call.{Call}
-use Rattle.process_model.specs.declared.step.Reply.{Reply}
-use Rattle.process_model.specs.declared.step.Reply.TheVariants as reply
+use Rattle.process_model.specs.declared.reply.Reply.{Reply}
+use Rattle.process_model.specs.declared.reply.ScalarReply.TheVariants as scalar
+use Rattle.process_model.specs.declared.reply.Reply.TheVariants as reply
 use Rattle.hart_threads.specs.Slots.{Unrefused}
 use Rattle.hart_threads.specs.Starts.{IsProcessOf, IsStarved}
 use Rattle.hart_threads.specs.declared.roster.Admission.{Admission}
 use Rattle.hart_threads.specs.declared.roster.Admission.TheVariants as admission
+use Rattle.process_model.specs.declared.limits.TheConstants.{MOST_ENTRIES}
 
 -- one of the lives has this name and began so
 abbrev pub Knows : List Life → List ℕ → Birth → Type 0
@@ -123,8 +125,8 @@ HasRunFull files starts calls v name opening journal = (p q : Process) × (code_
 
 -- the reply does not end the process; `GoOn`: no reply of the journal does
 abbrev pub lets_go_on : Reply → Bool
-lets_go_on (reply.Ended rule) = false
-lets_go_on (reply.Exited status) = false
+lets_go_on (reply.Scalar (scalar.Ended rule)) = false
+lets_go_on (reply.Scalar (scalar.Exited status)) = false
 lets_go_on r = true
 
 abbrev pub all_go_on : List JournalEntry → Bool
@@ -142,11 +144,11 @@ EndsIn r journal = (es : List JournalEntry) × (e : JournalEntry) × (journal �
 -- than 10,000 entries; only a start is refused, and then it has made no call
 abbrev pub AsEnded : List File → List Start → List Call → View → Outcome → List ℕ → Gv → List JournalEntry → Type 0
 AsEnded files starts calls v (outcome.Exited status) name opening journal = HasRun files starts calls name opening journal
-    × EndsIn (reply.Exited status) journal
-AsEnded files starts calls v (outcome.Ended rule) name opening journal = HasRun files starts calls name opening journal × EndsIn (reply.Ended rule) journal
+    × EndsIn (reply.Scalar (scalar.Exited status)) journal
+AsEnded files starts calls v (outcome.Ended rule) name opening journal = HasRun files starts calls name opening journal × EndsIn (reply.Scalar (scalar.Ended rule)) journal
 AsEnded files starts calls v (outcome.Refused r) name opening journal = (journal ≡ []) × ((s : Start) × IsOfStart starts name s × RefusesStart s.image v r)
 AsEnded files starts calls v outcome.Memory name opening journal = HasRun files starts calls name opening journal × GoOn journal
-    × (length journal < most_entries)
+    × (length journal < MOST_ENTRIES)
 AsEnded files starts calls v outcome.JournalFull name opening journal = HasRunFull files starts calls v name opening journal × GoOn journal
 
 -- f is the end of life l, which may be a start that was refused: it has the name, its journal is as the outcome says and
@@ -157,7 +159,7 @@ pub record IsEnded (table : TableId) (files : List File) (lists : List (List Cal
   pub seat : FitsIn table f.seat
   pub bare : IsBare (view_of f.seat)
   pub ended : AsEnded files starts (list_at lists l.birth.list) (view_of f.seat) f.outcome l.name l.birth.opening f.journal.items
-  pub few : length f.journal.items ≤ most_entries
+  pub few : length f.journal.items ≤ MOST_ENTRIES
 
 -- the ends are those of the lives, one for each, in the same order
 abbrev pub Each : TableId → List File → List (List Call) → List Start → List Life → List Finished → Type 0

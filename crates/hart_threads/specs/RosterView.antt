@@ -1,6 +1,5 @@
--- `RosterView`, a record: the roster (list of unfinished and ended processes) as contracts see it. Then how many slots
--- (places in the process table) are in use after one call (`one_more`, `one_less`), and the reply to a fork that asks for
--- one (`Admits`).
+-- `RosterView`, a record: the roster (list of unfinished and ended processes) as contracts see it. Then how many slots are in
+-- use after one call (`one_more`, `one_less`), and the reply to a fork that asks for one (`Admits`).
 use Rattle.std.specs.Prelude.{◌≡◌, ℕ, ◌+◌, ◌-◌, ◌<◌}
 use Rattle.hart_threads.specs.declared.roster.Admission.{Admission}
 use Rattle.hart_threads.specs.declared.roster.Admission.TheVariants as admission

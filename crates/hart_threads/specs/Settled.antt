@@ -1,5 +1,5 @@
--- `MatchesSlots`, a record: what the roster (list of processes) keeps of an ended process: slots (places in the process
--- table), counts that were read, and frames for the starts.
+-- `MatchesSlots`, a record: what the roster (list of processes) keeps of an ended process: slots, counts that were read, and
+-- frames for the starts.
 use Rattle.std.specs.Prelude.{◌≡◌, ℕ, ◌∷◌, [], Bool, true, List}
 use Rattle.hart_calls.specs.declared.finished.Finished.{Finished}
 use Rattle.hart_threads.specs.Slots.{KeepsSlots, OnFull}

@@ -1,14 +1,15 @@
--- Slots (places in the process table) of a run: which starts take one, and that a start is refused with NoSlot if and only
--- if at least `slots` starts before it took one (`KeepsSlots`, `AreSlotted`); SharersFull only if a count was read as 65,535
--- (`OnFull`, `HasReadFull`). All starts are made before a hart runs, and no slot is freed until then. A start for whose
--- space the host has no memory takes none.
+-- Slots of a run: which starts take one, and that a start is refused with NoSlot if and only if at least `slots` starts
+-- before it took one (`KeepsSlots`, `AreSlotted`); SharersFull only if a count was read as 65,535 (`OnFull`, `HasReadFull`).
+-- All starts are made before a hart runs, and no slot is freed until then. A start for whose space the host has no memory
+-- takes none.
 use Rattle.std.specs.Prelude.{◌≡◌, ℕ, ◌+◌, ◌<◌, ◌≤◌, ◌∷◌, [], ◌++◌, All, Bool, true, false, cond, List, Option, Some, slice_get, take}
 use Rattle.frame_store.specs.View.{View}
 use Rattle.hart_calls.specs.declared.journal_entry.JournalEntry.{JournalEntry}
 use Rattle.hart_calls.specs.declared.finished.Finished.{Finished}
 use Rattle.process_model.specs.declared.call.Outcome.{Outcome}
 use Rattle.process_model.specs.declared.call.Outcome.TheVariants as outcome
-use Rattle.process_model.specs.declared.step.Refusal.TheVariants as refusal
+use Rattle.process_model.specs.declared.reply.Refusal.TheVariants as refusal
+use Rattle.process_model.specs.declared.limits.TheConstants.{MOST_REFERENCES}
 use Rattle.vouchers.specs.Entries.{TokenEntry as Life, Has}
 
 -- how many starts took a slot
@@ -39,7 +40,7 @@ AreSlotted slots ended = (taken : List Bool) × All (λ f. (i : ℕ) → f.name.
 
 -- between views v and w of a seat, it read some count as 65,535
 abbrev pub HasReadFull : View → View → Type 0
-HasReadFull v w = (before after : List ℕ) × (w.tallies.looks ≡ v.tallies.looks ++ before ++ 65535 ∷ after)
+HasReadFull v w = (before after : List ℕ) × (w.tallies.looks ≡ v.tallies.looks ++ before ++ MOST_REFERENCES ∷ after)
 
 -- between views v and w of a seat, it read some counts
 abbrev pub HasRead : View → View → Type 0

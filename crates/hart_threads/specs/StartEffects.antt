@@ -15,7 +15,8 @@ use Rattle.process_model.specs.Process.{Process}
 use Rattle.process_model.specs.declared.call.Outcome.{Outcome}
 use Rattle.process_model.specs.declared.call.Outcome.TheVariants as outcome
 use Rattle.process_model.specs.declared.call.Start.{Start}
-use Rattle.process_model.specs.declared.step.Refusal.TheVariants as refusal
+use Rattle.process_model.specs.declared.reply.Refusal.TheVariants as refusal
+use Rattle.process_model.specs.declared.limits.TheConstants.{MOST_REFERENCES}
 use Rattle.shared_frames.specs.SeatsOfTable.{FitsIn, view_of}
 
 -- which starts take a slot: those that have a process
@@ -31,7 +32,7 @@ slots_of (m ∷ ms) = takes_slot m ∷ slots_of ms
 -- the counts that the kernel's seat reads: 65,535, once for each start that is refused with SharersFull
 
 abbrev pub fulls : Outcome → List ℕ
-fulls (outcome.Refused refusal.SharersFull) = 65535 ∷ []
+fulls (outcome.Refused refusal.SharersFull) = MOST_REFERENCES ∷ []
 fulls o = []
 
 abbrev pub looks_of : StartResult → List ℕ

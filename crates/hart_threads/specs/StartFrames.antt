@@ -1,6 +1,6 @@
 -- Frames for the starts of a run whose seats nobody else shares: how many a process takes at its start (`image_need`), those
--- that took a slot (place in the process table) together (`needs`); a start is refused with NoFrame only if the starts
--- before it leave fewer frames than it needs (`LeftTooFew`), and with SharersFull never (`ArePoolStarts`).
+-- that took a slot together (`needs`); a start is refused with NoFrame only if the starts before it leave fewer frames than
+-- it needs (`LeftTooFew`), and with SharersFull never (`ArePoolStarts`).
 use Rattle.std.specs.Prelude.{◌≡◌, ℕ, ◌+◌, ◌<◌, ◌∷◌, [], All, Bool, cond, List, Result, Ok, Err, Some, slice_get, take}
 use Rattle.hart_calls.specs.declared.finished.Finished.{Finished}
 use Rattle.hart_threads.specs.Slots.{KeepsSlots, OnFull}
@@ -13,7 +13,7 @@ use Rattle.process_model.specs.declared.call.Outcome.TheVariants as outcome
 use Rattle.process_model.specs.declared.call.Start.{Start}
 use Rattle.process_model.specs.declared.image.BadImage.{BadImage}
 use Rattle.process_model.specs.declared.image.Image.{Image}
-use Rattle.process_model.specs.declared.step.Refusal.TheVariants as refusal
+use Rattle.process_model.specs.declared.reply.Refusal.TheVariants as refusal
 use Rattle.sv39_entry.specs.declared.scheme.Scheme.TheVariants.{Sv39}
 
 -- how many frames the process of an image takes at its start; 0 if the image is refused

@@ -15,8 +15,8 @@ use Rattle.shared_frames.specs.declared.seat.SharedSeat.{SharedSeat}
 use Rattle.table_walk.specs.Tables.{Tables}
 use Rattle.process_model.specs.Images.{image_loads, LoadSegment}
 use Rattle.process_model.specs.declared.image.Image.{Image}
-use Rattle.process_model.specs.declared.step.Refusal.{Refusal}
-use Rattle.process_model.specs.declared.step.Refusal.TheVariants as refusal
+use Rattle.process_model.specs.declared.reply.Refusal.{Refusal}
+use Rattle.process_model.specs.declared.reply.Refusal.TheVariants as refusal
 use Rattle.sv39_entry.specs.declared.scheme.Scheme.TheVariants.{Sv39}
 
 -- A seat that shared frame 0 with others has the credits, references and known words that it had. It may have lost the sole

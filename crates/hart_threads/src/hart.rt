@@ -1,6 +1,6 @@
 // `HartThread` (struct): one hart of a run and what it shares with the others; its scheduler loop `run`: take a process from
-// the run queue, make up to a quantum of its calls with the gate's hooks around each, put it back; a fork's slot (place in
-// the process table) and child, and the end of a process, go through the roster.
+// the run queue, make up to a quantum of its calls with the gate's hooks around each, put it back; a fork's slot and child,
+// and the end of a process, go through the roster.
 
 ghost use Rattle.std.specs.Prelude.{◌≡◌, ◌∷◌, [], IfErr, IfOk};
 ghost use Rattle.hart_calls.specs.Track.{child_name};
@@ -19,7 +19,7 @@ use crate::queue::{Part, exchange, put, take};
 use crate::roster::{Admission, Roster};
 use crate::run_shelf::{RunFiles, RunShelf};
 use crate::start_outcomes::StartOutcomes;
-use hart_calls::{ForkSlot, Place, Tracked, Turn};
+use hart_calls::{ChildRoom, ForkSlot, Tracked, Turn};
 use process_model::MOST_HARTS;
 use shared_frames::{SharedFrames, SharedSupply};
 use std::alloc::AllocError;
@@ -57,7 +57,7 @@ impl<'r, 'a, B: Plan, F: StartOutcomes, W: RunFiles, R: Wait, G: Gate> HartThrea
     R,
     G,
 > {
-    /// Keeps a slot for the child of the next call, with the child's name and a place for its space.
+    /// Keeps a slot for the child of the next call, with the child's name and room for its space.
     ///
     /// # Errors
     /// Why there is none: `NoSlot` if the call is no fork or every slot is in use, `Memory` if the host is out of memory.
@@ -65,7 +65,7 @@ impl<'r, 'a, B: Plan, F: StartOutcomes, W: RunFiles, R: Wait, G: Gate> HartThrea
         &self,
         store: &mut SharedSupply<'_, R>,
         tracked: &mut Tracked<'a, B>,
-    ) -> Result<(Token, Vec<u64>, Place), ForkSlot>
+    ) -> Result<(Token, Vec<u64>, ChildRoom), ForkSlot>
         requires store { store.old ≡ B.table }
         ensures store { store.new ≡ B.table }
         ensures same { tracked.new ≡ tracked.old }
@@ -84,7 +84,7 @@ impl<'r, 'a, B: Plan, F: StartOutcomes, W: RunFiles, R: Wait, G: Gate> HartThrea
             Admission::Memory => return Err(ForkSlot::Memory),
         };
         match self.room_for_child(store, tracked) {
-            Ok((name, place)) => Ok((slot, name, place)),
+            Ok((name, room)) => Ok((slot, name, room)),
             Err(_) => {
                 self.roster.lock(self.rt).withdraw(self.token_table, slot);
                 Err(ForkSlot::Memory)
@@ -92,7 +92,7 @@ impl<'r, 'a, B: Plan, F: StartOutcomes, W: RunFiles, R: Wait, G: Gate> HartThrea
         }
     }
 
-    /// Allocates the name of the next child, and a place for its space.
+    /// Allocates the name of the next child, and room for its space.
     ///
     /// # Errors
     /// `AllocError`: the host is out of memory.
@@ -100,15 +100,15 @@ impl<'r, 'a, B: Plan, F: StartOutcomes, W: RunFiles, R: Wait, G: Gate> HartThrea
         &self,
         store: &mut SharedSupply<'_, R>,
         tracked: &mut Tracked<'a, B>,
-    ) -> Result<(Vec<u64>, Place), AllocError>
+    ) -> Result<(Vec<u64>, ChildRoom), AllocError>
         requires store { store.old ≡ B.table }
         ensures store { store.new ≡ B.table }
         ensures same { tracked.new ≡ tracked.old }
         ensures name { IfOk result (λ r. r.0.items ≡ child_name tracked.old) }
     {
         let name = tracked.child_name()?;
-        let place = tracked.child_place(store)?;
-        Ok((name, place))
+        let room = tracked.child_room(store)?;
+        Ok((name, room))
     }
 
     /// Makes the next call. If it needs files, the shelf is locked for the whole call.
@@ -141,7 +141,7 @@ impl<'r, 'a, B: Plan, F: StartOutcomes, W: RunFiles, R: Wait, G: Gate> HartThrea
         token: Token,
         slot: Token,
         name: Vec<u64>,
-        place: Place,
+        room: ChildRoom,
     ) -> JobStep<'a, B>
         requires store { store.old ≡ B.table }
         requires at { HoldsAt B.token_table token × HoldsAt B.token_table slot }
@@ -151,7 +151,7 @@ impl<'r, 'a, B: Plan, F: StartOutcomes, W: RunFiles, R: Wait, G: Gate> HartThrea
         ensures store { store.new ≡ B.table }
         ensures due { IsDue result }
     {
-        match self.call(store, tracked, ForkSlot::Free(name, place)) {
+        match self.call(store, tracked, ForkSlot::Free(name, room)) {
             Turn::Continues(tracked, child) => match child {
                 Some(child) => {
                     let (token, young) = self
@@ -217,7 +217,7 @@ impl<'r, 'a, B: Plan, F: StartOutcomes, W: RunFiles, R: Wait, G: Gate> HartThrea
     {
         let Job { mut tracked, token } = job;
         match self.admit(store, &mut tracked) {
-            Ok((slot, name, place)) => self.fork(store, tracked, token, slot, name, place),
+            Ok((slot, name, room)) => self.fork(store, tracked, token, slot, name, room),
             Err(slot) => self.plain(store, tracked, token, slot),
         }
     }

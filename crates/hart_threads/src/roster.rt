@@ -1,6 +1,6 @@
-// `Roster` (struct): the unfinished and the ended processes of a run, its slots (places in the process table) and the issuer
-// of its vouchers (linear tokens, one for each unfinished process): a start, a refused start, a slot kept for a fork
-// (`Admission`, enum) or freed, a child, an end, and `close`, which returns all that ended.
+// `Roster` (struct): the unfinished and the ended processes of a run, its slots and the issuer of its vouchers (linear
+// tokens, one for each unfinished process): a start, a refused start, a slot kept for a fork (`Admission`, enum) or freed, a
+// child, an end, and `close`, which returns all that ended.
 
 ghost use Rattle.std.specs.Prelude.{◌≡◌, ◌+◌, ◌-◌, ◌<◌, ◌≤◌, ◌==◌, ◌∷◌, [], All, IfSome, Some, length, slice_get, vec_len, vec_capacity};
 ghost use base.Stored.{Gv};

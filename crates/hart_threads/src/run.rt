@@ -295,17 +295,17 @@ fn run_in<
 ///
 /// Returns each process that was started, and each child that a journal names, once, as it ended, and no other. Its journal
 /// has the first calls of its list, which is that of its start or of its parent's fork; the last entry says how it ended,
-/// except after `Memory` and `JournalFull`. After `Memory` there are fewer than 10,000 entries; after `JournalFull` there are
-/// 10,000, or the process has a mapping and its next call asks a promise for which a history of files has no room. Its seat
-/// is still at the table of `frames`, and holds nothing. A start that was refused is returned too, with an empty journal.
-/// Each call that needs files is answered over files that some page reads and writes give from those of `W`, each read with the
-/// bytes that the writes before it left.
+/// except after `Memory` and `JournalFull`. After `Memory` there are fewer than `MOST_ENTRIES` entries; after `JournalFull`
+/// there are as many, or the process has a mapping and its next call asks a promise for which a history of files has no room.
+/// Its seat is still at the table of `frames`, and holds nothing. A start that was refused is returned too, with an empty
+/// journal. Each call that needs files is answered over files that some page reads and writes give from those of `W`, each
+/// read with the bytes that the writes before it left.
 ///
 /// A start is refused with `NoSlot` exactly when at least `slots` of the starts before it took a slot. A start whose process
-/// made a call took one, and one that was refused took none; nothing is said of a process that ended with `Memory` before
-/// its first call. A start is refused with `SharersFull` only if the kernel's seat read a count of 65,535 in this call; with
-/// `BadImage` only if its image fails that check; with `NoFrame` only if its image is accepted and the free count was read
-/// as 0 with fewer frames reserved than it needs. No start is refused with another refusal.
+/// made a call took one, and one that was refused took none; nothing is said of a process that ended with `Memory` before its
+/// first call. A start is refused with `SharersFull` only if the kernel's seat read a count of `MOST_REFERENCES` in this
+/// call; with `BadImage` only if its image fails that check; with `NoFrame` only if its image is accepted and the free count
+/// was read as 0 with fewer frames reserved than it needs. No start is refused with another refusal.
 ///
 /// # Errors
 /// `AllocError`: the kernel's seat is unchanged. All memory whose refusal is reported so is allocated before the first

@@ -1,6 +1,6 @@
-// One start on a seat (an owner's capability at a frame store) split off the kernel's: `started` returns the space and the
-// process that it begins as, or a refusal (NoSlot, BadImage, SharersFull, NoFrame) with an empty seat; `frames_for`, how many
-// frames it takes; `end_unstarted` ends a process for whose space the host has no memory.
+// One start on a seat split off the kernel's: `started` returns the space and the process that it begins as, or a refusal
+// (NoSlot, BadImage, SharersFull, NoFrame) with an empty seat; `frames_for`, how many frames it takes; `end_unstarted` ends a
+// process for whose space the host has no memory.
 
 ghost use Rattle.std.specs.Prelude.{[], ◌≡◌, true, IfErr, IfOk};
 ghost use Rattle.address_space.specs.Agreement.{HoldsTrampoline};
@@ -54,7 +54,7 @@ fn release_seat<R: Wait>(store: &mut SharedSupply<'_, R>, mut seat: SharedSeat) 
 /// Splits a seat for a process off the kernel's: it holds frame 0, for the trampoline, and nothing else.
 ///
 /// # Errors
-/// `SharersFull`, only after the kernel's seat read a count of 65,535. The kernel's seat holds what it held.
+/// `SharersFull`, only after the kernel's seat read a count of `MOST_REFERENCES`. The kernel's seat holds what it held.
 fn opened<R: Wait>(
     store: &mut SharedSupply<'_, R>,
     kernel: &mut SharedSeat,
@@ -134,13 +134,13 @@ pub(crate) fn frames_for(image: process_model::Image<'_>) -> usize
 }
 
 /// Builds the process of an image on a seat split off the kernel's. If the caller says that the kernel's seat is `alone` at
-/// the table, it tries again when it reads a count of 65,535; if the caller says that `enough` frames are free, when it reads
-/// the free count as 0.
+/// the table, it tries again when it reads a count of `MOST_REFERENCES`; if the caller says that `enough` frames are free,
+/// when it reads the free count as 0.
 ///
 /// # Errors
-/// With a seat that holds nothing. `SharersFull`: the kernel's seat is not alone and read a count of 65,535. `NoFrame`: the
-/// caller does not say that enough frames are free, and the seat has read the free count as 0 with fewer frames reserved
-/// than the start needs.
+/// With a seat that holds nothing. `SharersFull`: the kernel's seat is not alone and read a count of `MOST_REFERENCES`.
+/// `NoFrame`: the caller does not say that enough frames are free, and the seat has read the free count as 0 with fewer
+/// frames reserved than the start needs.
 fn tried<R: Wait>(
     rt: &R,
     store: &mut SharedSupply<'_, R>,
@@ -188,9 +188,9 @@ fn tried<R: Wait>(
 /// # Errors
 /// These are checked in this order; the seat that is returned holds nothing. `NoSlot`: exactly if `has_slot` is false.
 /// `BadImage`: only if the image fails this check; an image that fails one is never started. `SharersFull`: only if not
-/// `alone`, after the kernel's seat read a count of 65,535. `NoFrame`: only if not `enough`, if the image is accepted, and
-/// after the free count was read as 0 with fewer frames reserved than it needs. If the caller says that the kernel's seat is
-/// `alone` at the table, or that `enough` frames are free, the start waits until it finds them.
+/// `alone`, after the kernel's seat read a count of `MOST_REFERENCES`. `NoFrame`: only if not `enough`, if the image is
+/// accepted, and after the free count was read as 0 with fewer frames reserved than it needs. If the caller says that the
+/// kernel's seat is `alone` at the table, or that `enough` frames are free, the start waits until it finds them.
 pub(crate) fn started<R: Wait>(
     rt: &R,
     store: &mut SharedSupply<'_, R>,

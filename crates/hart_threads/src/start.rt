@@ -1,5 +1,5 @@
 // `StartContext` (struct): what the starts of a run share; `make_all` makes or refuses each start, in order, before any hart
-// runs, and lists the results; a start is refused with NoSlot if no slot (place in the process table) is left.
+// runs, and lists the results; a start is refused with NoSlot if no slot is left.
 
 ghost use Rattle.std.specs.Prelude.{◌≡◌, ◌≤◌, [], false, true, length, vec_len};
 ghost use Rattle.std.specs.VecDeque.{deque_capacity};

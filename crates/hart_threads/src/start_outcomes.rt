@@ -1,6 +1,5 @@
 // `StartOutcomes` (trait): ghost constants of a run, carried in its types and known once its starts are made: the number of
-// its slots (places in the process table), which starts took one, whether one was refused with SharersFull, and how many
-// frames were there for them.
+// its slots, which starts took one, whether one was refused with SharersFull, and how many frames were there for them.
 
 use std::marker::Brand;
 

@@ -1,5 +1,5 @@
-// `StartResult` (enum): the result of a start: a process that took a slot (place in the process table), with its name and
-// space, or a `Finished` without a process; `slots` and `frames`: how many of each it took.
+// `StartResult` (enum): the result of a start: a process that took a slot, with its name and space, or a `Finished` without a
+// process; `slots` and `frames`: how many of each it took.
 
 ghost use Rattle.std.specs.Prelude.{◌≡◌, cond};
 ghost use Rattle.hart_threads.specs.StartEffects.{takes_slot};

@@ -3,7 +3,7 @@
 use crate::fault::Fault;
 use crate::lab::Reading;
 use crate::screen::Screen;
-use exec_segments::LONGEST_IMAGE;
+use process_model::LONGEST_IMAGE;
 use std::alloc::Global;
 use std::io::Read;
 

@@ -23,7 +23,7 @@ use Rattle.process_model.specs.PageRegions.{region_resized}
 use Rattle.process_model.specs.Process.{Process}
 use Rattle.process_model.specs.Regions.{is_guard_kind, is_shared_kind}
 use Rattle.process_model.specs.ReleaseLaws.{was_settled}
-use Rattle.process_model.specs.declared.step.Refusal.{Refusal}
+use Rattle.process_model.specs.declared.reply.Refusal.{Refusal}
 use Rattle.sv39_entry.specs.Schemes.{trapframe_page}
 use Rattle.table_walk.specs.Tables.{Tables}
 

@@ -5,8 +5,8 @@ use Rattle.lazy_growth.specs.declared.size_error.SizeError.{SizeError}
 use Rattle.lazy_growth.specs.declared.size_error.SizeError.TheVariants as error
 use Rattle.process_model.specs.Heap.{size_refusal, wanted_size}
 use Rattle.process_model.specs.Process.{Process}
-use Rattle.process_model.specs.declared.step.Refusal.{Refusal}
-use Rattle.process_model.specs.declared.step.Refusal.TheVariants as refusal
+use Rattle.process_model.specs.declared.reply.Refusal.{Refusal}
+use Rattle.process_model.specs.declared.reply.Refusal.TheVariants as refusal
 
 -- the model's refusal that an error stands for
 abbrev pub refusal_of : SizeError → Refusal

@@ -6,7 +6,7 @@ use Rattle.std.specs.Result.{result_ok}
 use Rattle.std.proofs.lemmas.Option.{same_Some}
 use Rattle.script_language.specs.Fields.{Row, command_table, row_among, values_of}
 use Rattle.script_language.specs.Lines.{fields_of}
-use Rattle.script_language.specs.ReadLines.{◌>>=◌, row_named, test, in_limits, item_by, is_comment, is_ascii, some_item, fields_by, longest_line, line_by}
+use Rattle.script_language.specs.ReadLines.{◌>>=◌, row_named, test, in_limits, item_by, is_comment, is_ascii, some_item, fields_by, line_by}
 use Rattle.script_language.specs.Script.{Draft, comes_first, has_room, in_order, item_line, item_of, line_of}
 use Rattle.script_language.specs.declared.script.Cause.{Cause}
 use Rattle.script_language.specs.declared.script.Cause.TheVariants as cause
@@ -15,6 +15,7 @@ use Rattle.script_language.specs.declared.script.Item.{Item}
 use Rattle.script_language.specs.declared.script.Item.TheVariants as item
 use Rattle.script_language.specs.declared.script.Keyword.{Keyword}
 use Rattle.script_language.specs.declared.script.Keyword.TheVariants as word
+use Rattle.script_language.specs.declared.limits.TheConstants.{LONGEST_LINE}
 
 -- what was declared, without the commands
 abbrev pub bare : Draft → Draft
@@ -195,13 +196,13 @@ fields_order d (text ∷ fields) i is = go (is_comment text) is
 pub line_kept : (d : Draft) (line : List ℕ) (o : Option Item) → line_of d line ≡ Ok o → line_of (bare d) line ≡ Ok o
 unfolding line_of
 line_kept d line o is =
-    let short = bound (test (nat_le (length line) longest_line) cause.TooLong) _ o is in
+    let short = bound (test (nat_le (length line) LONGEST_LINE) cause.TooLong) _ o is in
     let ascii = bound (test (is_ascii line) cause.NotAscii) _ o short.2 in
     rw short.1 (rw ascii.1 (fields_kept d (fields_of line) o ascii.2))
 
 pub line_order : (d : Draft) (line : List ℕ) (i : Item) → line_of d line ≡ Ok (Some i) → is_command i ≡ is_some d.config
 unfolding line_of
 line_order d line i is =
-    let short = bound (test (nat_le (length line) longest_line) cause.TooLong) _ (Some i) is in
+    let short = bound (test (nat_le (length line) LONGEST_LINE) cause.TooLong) _ (Some i) is in
     let ascii = bound (test (is_ascii line) cause.NotAscii) _ (Some i) short.2 in
     fields_order d (fields_of line) i ascii.2

@@ -5,7 +5,7 @@ use Rattle.std.specs.Prelude.{codes, if◌then◌else◌, is_some, length, nat_l
 use Rattle.std.proofs.lemmas.List.{append-nil, append_assoc}
 use Rattle.std.proofs.lemmas.Option.{same_Some}
 use Rattle.script_language.specs.Lines.{raw_lines, without_return}
-use Rattle.script_language.specs.ReadLines.{longest_script}
+use Rattle.script_language.specs.declared.limits.TheConstants.{LONGEST_SCRIPT}
 use Rattle.process_model.specs.Files.{file_of}
 use Rattle.script_language.specs.Script.{Draft, Script, line_of, no_lines, read_lines, script_of, whole, whole_with, with_item, with_line}
 use Rattle.script_language.specs.Text.{commands_text, line_result, line_text, text_of}
@@ -137,7 +137,7 @@ read_told lines (Ok x) s read is = go (x.0).config refl is
         ∙ ap text_of (same_ok (record { files = (x.0).files; images = (x.0).images; config = c; commands = (x.0).commands }) s made)
 
 pub answers_are : (bytes : List ℕ) (s : Script) → script_of bytes ≡ Ok s → played_text nothing_played (raw_lines bytes) ≡ text_of s
-answers_are bytes s is = go (nat_le (length bytes) longest_script) is
+answers_are bytes s is = go (nat_le (length bytes) LONGEST_SCRIPT) is
   where
     go : (b : Bool) → (if b then whole (read_lines (Ok (no_lines, 0)) (raw_lines bytes)) else Err (0, cause.TooLong)) ≡ Ok s → played_text nothing_played (raw_lines bytes) ≡ text_of s
     go true read = read_told (raw_lines bytes) (read_lines (Ok (no_lines, 0)) (raw_lines bytes)) s refl read

@@ -1,4 +1,4 @@
-// `buffer_of`: the entries of a hart's buffer (TLB).
+// `buffer_of`: the entries of a hart's TLB.
 
 use hart_machine::Machine;
 use std::alloc::{AllocError, Global};

@@ -1,6 +1,6 @@
-//! What happens on a line of a script, as data, as text for people and as JSON: where the hart is, the region that grants an access or the
-//! rule that denies it, what the page table walk reads, which entry of the buffer (TLB) was used, which frames were taken and given
-//! back, which leaves changed, and what the buffer holds after it.
+//! What happens on a line of a script, as data, as text for people and as JSON: where the hart is, the region that grants an
+//! access or the rule that denies it, what the page table walk reads, which entry of the TLB was used, which frames were
+//! taken and given back, which leaves changed, and what the buffer holds after it.
 #![tactic(auto)]
 
 mod accesses;

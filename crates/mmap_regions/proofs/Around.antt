@@ -3,7 +3,7 @@
 use Rattle.std.proofs.Common.{◌≡◌, ℕ, zero, suc, true, false, ◌<◌, ◌≤◌, Option, None, Some, List, [], ◌∷◌, drop, get_or, length, map, refl, ap, sym, ◌∙◌, arith}
 use Rattle.std.specs.Prelude.{◌&&◌, nat_le, option_map}
 use Rattle.address_space.specs.Layouts.{LaysOut, Layout, region_of}
-use Rattle.address_space.specs.declared.region.Region.{Region as Run}
+use Rattle.address_space.specs.declared.region.Region.{Region as CodeRegion}
 use Rattle.process_model.specs.Bytes.{pages_for}
 use Rattle.process_model.specs.MappingRows.{around_each, around_holds}
 use Rattle.process_model.specs.Mappings.{mapping_around}
@@ -14,19 +14,19 @@ use Rattle.process_model.specs.Regions.{end_of, Region}
 use Rattle.sv39_entry.specs.Schemes.{trapframe_page}
 
 module _ (first end : ℕ) where
-  pub around_passed : (rs : List Run) (i : ℕ) (d : Run) → i < length rs → (nat_le (region_of (get_or rs i d)).first first && nat_le end (end_of (region_of (get_or rs i d)))) ≡ false
+  pub around_passed : (rs : List CodeRegion) (i : ℕ) (d : CodeRegion) → i < length rs → (nat_le (region_of (get_or rs i d)).first first && nat_le end (end_of (region_of (get_or rs i d)))) ≡ false
       → mapping_around (map region_of (drop i rs)) first end ≡ mapping_around (map region_of (drop (suc i) rs)) first end
   around_passed [] i d less other = absurd (omega arith)
   around_passed (r ∷ rs) zero d less other = rw other refl
   around_passed (r ∷ rs) (suc i) d less other = around_passed rs i d (omega arith) other
 
-  pub around_met : (rs : List Run) (i : ℕ) (d : Run) → i < length rs → (nat_le (region_of (get_or rs i d)).first first && nat_le end (end_of (region_of (get_or rs i d)))) ≡ true
+  pub around_met : (rs : List CodeRegion) (i : ℕ) (d : CodeRegion) → i < length rs → (nat_le (region_of (get_or rs i d)).first first && nat_le end (end_of (region_of (get_or rs i d)))) ≡ true
       → mapping_around (map region_of (drop i rs)) first end ≡ Some (region_of (get_or rs i d))
   around_met [] i d less held = absurd (omega arith)
   around_met (r ∷ rs) zero d less held = rw held refl
   around_met (r ∷ rs) (suc i) d less held = around_met rs i d (omega arith) held
 
-  pub around_none : (rs : List Run) (i : ℕ) → length rs ≤ i → mapping_around (map region_of (drop i rs)) first end ≡ None
+  pub around_none : (rs : List CodeRegion) (i : ℕ) → length rs ≤ i → mapping_around (map region_of (drop i rs)) first end ≡ None
   around_none [] zero past = refl
   around_none [] (suc i) past = refl
   around_none (r ∷ rs) zero past = absurd (omega arith)
@@ -45,7 +45,7 @@ around_low p first end m order around = (
 )
 
 -- what is found in the regions of the code is found in those of the process
-pub found_around : (p : Process) (l : Layout) (rs : List Run) (first end : ℕ) (o : Option Run) (r : Run) → LaysOut l p → map region_of rs ≡ l.mappings
+pub found_around : (p : Process) (l : Layout) (rs : List CodeRegion) (first end : ℕ) (o : Option CodeRegion) (r : CodeRegion) → LaysOut l p → map region_of rs ≡ l.mappings
     → option_map region_of o ≡ mapping_around (map region_of rs) first end → o ≡ Some r → mapping_around p.mappings first end ≡ Some (region_of r)
 found_around p l rs first end o r lays are is some =
     ap (λ ms. mapping_around ms first end) (lays.mappings ∙ sym are) ∙ sym is ∙ ap (option_map region_of) some

@@ -19,7 +19,7 @@ use Rattle.process_model.specs.PageRegions.{mapping_at, region_left}
 use Rattle.process_model.specs.Process.{Process}
 use Rattle.process_model.specs.Regions.{is_guard_kind, is_shared_kind, Region}
 use Rattle.process_model.specs.ReleaseLaws.{was_settled}
-use Rattle.process_model.specs.declared.step.Refusal.{Refusal}
+use Rattle.process_model.specs.declared.reply.Refusal.{Refusal}
 use Rattle.sv39_entry.specs.Address.{page_of}
 use Rattle.table_walk.specs.Tables.{Tables}
 

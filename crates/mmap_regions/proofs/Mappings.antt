@@ -8,23 +8,24 @@ use Rattle.std.proofs.lemmas.List.{length-map}
 use Rattle.process_model.specs.Bytes.{pages_for}
 use Rattle.process_model.specs.Files.{File, is_writable}
 use Rattle.process_model.specs.GrantLaws.{place_fits}
-use Rattle.process_model.specs.Mappings.{asks_write, fits_at, is_apart, is_bad_mapping, is_shared, map_refusal, mapped, mapped_unless, mapping_of, mapping_place, most_mappings}
+use Rattle.process_model.specs.Mappings.{asks_write, fits_at, is_apart, is_bad_mapping, is_shared, map_refusal, mapped, mapped_unless, mapping_of, mapping_place}
 use Rattle.process_model.specs.Order.{HasOrder}
 use Rattle.process_model.specs.OrderLaws.{mapped_order}
 use Rattle.process_model.specs.PageRegions.{region_with_mapping}
 use Rattle.process_model.specs.Process.{Process}
 use Rattle.process_model.specs.Regions.{Region}
-use Rattle.process_model.specs.declared.step.Refusal.{Refusal}
-use Rattle.process_model.specs.declared.step.Refusal.TheVariants.{BadArgument, FileNotWritable, MappingsFull, NoRoom}
+use Rattle.process_model.specs.declared.reply.Refusal.{Refusal}
+use Rattle.process_model.specs.declared.reply.Refusal.TheVariants.{BadArgument, FileNotWritable, MappingsFull, NoRoom}
 use Rattle.sv39_entry.specs.Schemes.{trapframe_page}
 use Rattle.table_walk.specs.Tables.{Tables}
 use Rattle.address_space.specs.Agreement.{Body, IsSpace}
 use Rattle.address_space.specs.Layouts.{LaysOut, Layout, region_of}
 use Rattle.address_space.specs.Steps.{CanReplaceLayout, HasReplacedLayout, mapped_with}
-use Rattle.address_space.specs.declared.region.Region.{Region as Run}
+use Rattle.address_space.specs.declared.region.Region.{Region as CodeRegion}
+use Rattle.process_model.specs.declared.limits.TheConstants.{MOST_MAPPINGS}
 
 -- a process has as many mappings as the code's list
-pub as_many : (p : Process) (l : Layout) (rs : List Run) → LaysOut l p → map region_of rs ≡ l.mappings → length p.mappings ≡ length rs
+pub as_many : (p : Process) (l : Layout) (rs : List CodeRegion) → LaysOut l p → map region_of rs ≡ l.mappings → length p.mappings ≡ length rs
 as_many p l rs lays is = ap length (lays.mappings ∙ sym is) ∙ length-map rs region_of
 
 -- the place of a mapping lies below the trapframe
@@ -34,7 +35,7 @@ place_below p pages first is =
     leb-true (first + pages) (trapframe_page p.scheme) (and_parts (nat_le (pages_for p.size) first) (nat_le (first + pages) (trapframe_page p.scheme)) outer.0).1
 
 -- a space with a mapping of the code has the model's
-pub with_mapping : (x y : Body) (t : Tables) (p : Process) (run : Run) (r : Region) → region_of run ≡ r → HasReplacedLayout x y (λ q. mapped_with q (region_of run))
+pub with_mapping : (x y : Body) (t : Tables) (p : Process) (run : CodeRegion) (r : Region) → region_of run ≡ r → HasReplacedLayout x y (λ q. mapped_with q (region_of run))
     → CanReplaceLayout p (mapped_with p r) → IsSpace x t p → IsSpace y t (mapped_with p r)
 with_mapping x y t p run r same relaid can agrees =
     subst (λ (m : Region). IsSpace y t (mapped_with p m)) same (relaid t p agrees (subst (λ (m : Region). CanReplaceLayout p (mapped_with p m)) (sym same) can))
@@ -52,21 +53,21 @@ module _ (files : List File) (p : Process) (len protection flags n : ℕ) where
     not_writable is = refused FileNotWritable (rw (good, is) refl)
 
     module _ (may : (is_shared flags && asks_write protection && not (is_writable (slice_get files n))) ≡ false) where
-      pub full : most_mappings ≤ length p.mappings → mapped files p len protection flags n ≡ Err MappingsFull
-      full is = refused MappingsFull (rw (good, may, le-leb most_mappings (length p.mappings) is) refl)
+      pub full : MOST_MAPPINGS ≤ length p.mappings → mapped files p len protection flags n ≡ Err MappingsFull
+      full is = refused MappingsFull (rw (good, may, le-leb MOST_MAPPINGS (length p.mappings) is) refl)
 
-      module _ (few : length p.mappings < most_mappings) (pages : ℕ) (long : pages ≡ pages_for len) where
+      module _ (few : length p.mappings < MOST_MAPPINGS) (pages : ℕ) (long : pages ≡ pages_for len) where
         pub no_room : None ≡ mapping_place p pages → mapped files p len protection flags n ≡ Err NoRoom
         no_room is =
             let none : mapping_place p (pages_for len) ≡ None = ap (mapping_place p) (sym long) ∙ sym is in
-            refused NoRoom (rw (good, may, lt-leb most_mappings (length p.mappings) few, none) refl)
+            refused NoRoom (rw (good, may, lt-leb MOST_MAPPINGS (length p.mappings) few, none) refl)
 
         pub granted : (first : ℕ) → Some first ≡ mapping_place p pages
             → mapped files p len protection flags n ≡ Ok (record { process = mapped_with p (mapping_of first pages protection flags n); first = first })
         unfolding mapped
         granted first is =
             let there : mapping_place p (pages_for len) ≡ Some first = ap (mapping_place p) (sym long) ∙ sym is in
-            rw (good, may, lt-leb most_mappings (length p.mappings) few, there, long) refl
+            rw (good, may, lt-leb MOST_MAPPINGS (length p.mappings) few, there, long) refl
 
     -- the regions with the mapping stand in order, and each settled page keeps its region
     pub relays : (pages first : ℕ) → pages ≡ pages_for len → Some first ≡ mapping_place p pages → HasOrder 0 p

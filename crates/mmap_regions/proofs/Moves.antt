@@ -1,6 +1,5 @@
 -- Lemmas on the page writes of a run (pages of one mapping) that is written back, page by page: none at first, what one
--- settled page (in memory) adds, none after the last. No page is written if stores go to no file, and a longer run writes no
--- fewer pages.
+-- settled page adds, none after the last. No page is written if stores go to no file, and a longer run writes no fewer pages.
 use Rattle.std.proofs.Common.{◌≡◌, ℕ, Bool, true, false, not, ◌+◌, ◌-◌, ◌*◌, ◌<◌, ◌≤◌, inl, inr, refl, ap, sym, subst, ◌∙◌, arith, List, [], ◌∷◌, ◌++◌, None, Some, length}
 use Rattle.std.specs.Prelude.{T, nat_le, nat_lt, ◌&&◌, ◌||◌, flat_map, if◌then◌else◌}
 use Rattle.std.specs.Cmp.{unsigned_tied}

@@ -6,7 +6,7 @@ use Rattle.std.proofs.lemmas.Bool.{cases_eq, cases_lt}
 use Rattle.std.proofs.lemmas.Option.{same_Some}
 use Rattle.std.specs.Prelude.{slice_get}
 use Rattle.address_space.specs.Layouts.{LaysOut, Layout, region_of}
-use Rattle.address_space.specs.declared.region.Region.{Region as Run}
+use Rattle.address_space.specs.declared.region.Region.{Region as CodeRegion}
 use Rattle.address_space.specs.declared.region.RegionKind.TheVariants as kind
 use Rattle.address_space.specs.declared.region.Source.TheVariants as from
 use Rattle.process_model.specs.Bytes.{pages_for}
@@ -21,15 +21,15 @@ use Rattle.sv39_entry.specs.Schemes.{trapframe_page}
 -- lists of regions
 
 -- what stands for a region past the end of a list
-abbrev pub blank : Run
+abbrev pub blank : CodeRegion
 blank = record { first = 0; pages = 0; rights = record { 0 = 0 }; kind = kind.Segment; source = from.Zeros }
 
-pub at_index : (rs : List Run) (i : ℕ) (d : Run) → i < length rs → slice_get (map region_of rs) i ≡ Some (region_of (slice_index_or rs i d))
+pub at_index : (rs : List CodeRegion) (i : ℕ) (d : CodeRegion) → i < length rs → slice_get (map region_of rs) i ≡ Some (region_of (slice_index_or rs i d))
 at_index [] i d less = absurd (omega (arith, less))
 at_index (r ∷ rs) zero d less = refl
 at_index (r ∷ rs) (suc i) d less = at_index rs i d (omega (arith, less))
 
-pub mapping_at : (p : Process) (rs : List Run) (l : Layout) (i : ℕ) (d : Run) → map region_of rs ≡ l.mappings → LaysOut l p → i < length rs
+pub mapping_at : (p : Process) (rs : List CodeRegion) (l : Layout) (i : ℕ) (d : CodeRegion) → map region_of rs ≡ l.mappings → LaysOut l p → i < length rs
     → slice_get p.mappings i ≡ Some (region_of (slice_index_or rs i d))
 mapping_at p rs l i d is lays less = ap (λ ms. slice_get ms i) (lays.mappings ∙ sym is) ∙ at_index rs i d less
 

@@ -10,7 +10,7 @@ use Rattle.address_space.specs.SettledLists.{IsNextSettled, IsSettledPage}
 use Rattle.address_space.specs.declared.settled_pages.SettledPage.{SettledPage}
 use Rattle.mmap_regions.specs.Runs.{IsRunOf, MappedRun, stored_file}
 use Rattle.mmap_regions.proofs.Moves.{of_file, page_written, run_goes_on, run_is_over, run_longer}
-use Rattle.process_model.specs.Mappings.{longest_mapping}
+use Rattle.process_model.specs.declared.limits.TheConstants.{LONGEST_MAPPING}
 use Rattle.process_model.specs.Order.{IsInReach}
 use Rattle.process_model.specs.PageMoves.{page_write, PageMove, run_moves}
 use Rattle.process_model.specs.PageMap.{get}
@@ -81,7 +81,7 @@ module _ (t : Tables) (p : Process) (run : MappedRun) (is : IsRunOf p run) where
       pub past_first : run.mapping.first ≤ x.page
       past_first = let low = is.from in omega (arith, low, past)
 
-      pub in_reach : offset + 4096 * (x.page - run.mapping.first) ≤ longest_mapping
+      pub in_reach : offset + 4096 * (x.page - run.mapping.first) ≤ LONGEST_MAPPING
       in_reach =
           let reach : IsInReach (file n offset) run.mapping.pages = subst (λ s. IsInReach s run.mapping.pages) (of_file (keeps_stores (Some run.mapping)) run.mapping.source n offset file_is).1 is.mapping.reach in
           let low = is.from in

@@ -5,7 +5,7 @@ use Rattle.std.specs.Prelude.{flat_map, slice_get}
 use Rattle.std.proofs.lemmas.List.{append-nil, append_assoc, length-append, length-map, take_all}
 use Rattle.std.proofs.lemmas.Option.{same_Some}
 use Rattle.address_space.specs.Layouts.{LaysOut, Layout, region_of}
-use Rattle.address_space.specs.declared.region.Region.{Region as Run}
+use Rattle.address_space.specs.declared.region.Region.{Region as CodeRegion}
 use Rattle.mmap_regions.specs.Runs.{all_of, IsRunOf}
 use Rattle.mmap_regions.proofs.Places.{row_get}
 use Rattle.process_model.specs.Bytes.{pages_for}
@@ -93,7 +93,7 @@ module _ (p : Process) where
       omega (arith, all, one)
 
 -- the mappings that code has, at two times
-module _ (l : Layout) (rs old : List Run) (is : map region_of rs ≡ l.mappings) (was : map region_of old ≡ l.mappings) where
+module _ (l : Layout) (rs old : List CodeRegion) (is : map region_of rs ≡ l.mappings) (was : map region_of old ≡ l.mappings) where
   pub still_within : (i : ℕ) → i < length old → i < length rs
   still_within i less =
       let now = length-map rs region_of in
@@ -101,6 +101,6 @@ module _ (l : Layout) (rs old : List Run) (is : map region_of rs ≡ l.mappings)
       let same = ap length (is ∙ sym was) in
       omega (arith, now, before, same, less)
 
-module _ (p : Process) (l : Layout) (rs : List Run) (is : map region_of rs ≡ l.mappings) (lays : LaysOut l p) where
+module _ (p : Process) (l : Layout) (rs : List CodeRegion) (is : map region_of rs ≡ l.mappings) (lays : LaysOut l p) where
   pub as_many : length rs ≡ length p.mappings
   as_many = sym (length-map rs region_of) ∙ ap length (is ∙ sym lays.mappings)

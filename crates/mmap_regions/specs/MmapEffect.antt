@@ -2,7 +2,7 @@
 use Rattle.std.specs.Prelude.{ℕ, ◌*◌, Result, Ok, Err}
 use Rattle.process_model.specs.Mappings.{Mapped}
 use Rattle.process_model.specs.Process.{Process}
-use Rattle.process_model.specs.declared.step.Refusal.{Refusal}
+use Rattle.process_model.specs.declared.reply.Refusal.{Refusal}
 
 -- the address at which the mapping begins, or the refusal
 abbrev pub address_of_mapped : Result Mapped Refusal → Result ℕ Refusal

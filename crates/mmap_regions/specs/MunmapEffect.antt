@@ -11,7 +11,7 @@ use Rattle.process_model.specs.Files.{File}
 use Rattle.process_model.specs.Mappings.{Unmapped, unmapped}
 use Rattle.process_model.specs.PageMoves.{PageMove}
 use Rattle.process_model.specs.Process.{Process}
-use Rattle.process_model.specs.declared.step.Refusal.{Refusal}
+use Rattle.process_model.specs.declared.reply.Refusal.{Refusal}
 use Rattle.sv39_entry.specs.Address.{page_of}
 use Rattle.table_walk.specs.Tables.{Tables}
 

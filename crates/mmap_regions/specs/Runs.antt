@@ -8,8 +8,8 @@ use Rattle.process_model.specs.Order.{IsMapping}
 use Rattle.process_model.specs.PageMoves.{PageMove, run_moves}
 use Rattle.process_model.specs.Process.{Process, regions}
 use Rattle.process_model.specs.Regions.{end_of, file, keeps_stores, Region, region_at, Source}
-use Rattle.process_model.specs.declared.step.Refusal.{Refusal}
-use Rattle.process_model.specs.declared.step.Refusal.TheVariants.{BadArgument, HoleInMapping}
+use Rattle.process_model.specs.declared.reply.Refusal.{Refusal}
+use Rattle.process_model.specs.declared.reply.Refusal.TheVariants.{BadArgument, HoleInMapping}
 use Rattle.sv39_entry.specs.Address.{page_of}
 use Rattle.sv39_entry.specs.Schemes.{trapframe_page}
 use Rattle.address_space.specs.Layouts.{region_of}

@@ -16,7 +16,7 @@ use address_space::{Region, RegionKind, Source, Space};
 use bitflags::Flags;
 use file_cabinet::Files;
 use frame_store::FrameSeat;
-use process_model::{MOST_MAPPINGS, Refusal};
+use process_model::{LONGEST_MAPPING, MOST_MAPPINGS, Refusal};
 use sv39_entry::{PAGE_SIZE, Rights};
 
 /// Bits of `protection`, as in POSIX's `mmap`.
@@ -31,9 +31,6 @@ const MAP_SHARED: u64 = 1;
 
 const MAP_PRIVATE: u64 = 2;
 
-/// The longest mapping, in bytes.
-const LONGEST_MAPPING: u64 = 1 << 20;
-
 /// Maps `length` bytes of a file, from its first byte on, rounded up to whole pages, at the greatest address at which they
 /// fit: above the heap, below TRAPFRAME and apart from other mappings (MIT 6.1810, mmap lab). Returns that address. `file`
 /// is the file's index in `files`, from 0. `protection` is a sum of 1 (PROT_READ), 2 (PROT_WRITE, which grants reading too)
@@ -41,9 +38,9 @@ const LONGEST_MAPPING: u64 = 1 << 20;
 /// page gets one at its first access. Changes no leaf and makes no fence.
 ///
 /// # Errors
-/// The first that applies. `BadArgument`: `length` is 0 or above 1,048,576, `protection` is 0 or above 7, `flags` is
+/// The first that applies. `BadArgument`: `length` is 0 or above `LONGEST_MAPPING`, `protection` is 0 or above 7, `flags` is
 /// neither 1 nor 2, or there is no such file. `FileNotWritable`: shared, with PROT_WRITE, and the file may not be written.
-/// `MappingsFull`: the process has 16 mappings. `NoRoom`: the mapping fits nowhere. The space is then unchanged.
+/// `MappingsFull`: the process has `MOST_MAPPINGS` mappings. `NoRoom`: the mapping fits nowhere. The space is then unchanged.
 pub fn mmap<S: FrameSeat, C: Files>(
     space: &mut Space<S>,
     files: &C,

@@ -5,6 +5,7 @@ ghost use Rattle.address_space.specs.Layouts.{LaysOut};
 ghost use Rattle.process_model.specs.Mappings as model;
 ghost use Rattle.process_model.specs.Order.{HasOrder};
 ghost use Rattle.process_model.specs.Process.{Process};
+ghost use Rattle.process_model.specs.declared.limits.TheConstants.{LONGEST_MAPPING};
 
 use address_space::Layout;
 use sv39_entry::PAGE_SIZE;
@@ -13,7 +14,7 @@ use sv39_entry::PAGE_SIZE;
 /// from the mappings of the layout; `None` if it fits nowhere.
 pub(crate) fn mapping_place(layout: &Layout, pages: u64) -> Option<u64>
     requires order { (p : Process) × LaysOut layout.now p × HasOrder 0 p }
-    requires few { pages ≤ model.longest_mapping }
+    requires few { pages ≤ LONGEST_MAPPING }
     ensures { (p : Process) → LaysOut layout.now p → HasOrder 0 p → result ≡ model.mapping_place p pages }
 {
     let mappings = layout.mappings();

@@ -1,4 +1,4 @@
-// Harts in a picture: where each is, and the entries of its buffer (TLB).
+// Harts in a picture: where each is, and the entries of its TLB.
 
 ghost use Rattle.hart_machine.specs.BufferEntries.{IsInWorld};
 ghost use Rattle.process_model.specs.World.{World};

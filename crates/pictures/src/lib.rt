@@ -1,6 +1,6 @@
-//! Pictures of a machine: its harts with their buffers (TLBs), its processes with their regions, pages and page tables, and its frames;
-//! as SVG (`put_picture`), and a page of HTML in which a reader steps from line to line of a script (`put_page_start`, `put_step`,
-//! `put_page_end`).
+//! Pictures of a machine: its harts with their TLBs, its processes with their regions, pages and page tables, and its frames;
+//! as SVG (`put_picture`), and a page of HTML in which a reader steps from line to line of a script (`put_page_start`,
+//! `put_step`, `put_page_end`).
 #![tactic(auto)]
 
 mod cells;

@@ -16,21 +16,22 @@ use Rattle.process_model.specs.Bytes.{first_true, pages_for}
 use Rattle.process_model.specs.Calls.{forked, forked_unless, mapped_to, replaced, replaced_unless, resized_to, started, started_unless, unmapped_to}
 use Rattle.process_model.specs.Heap.{heap_limit, resized_unless, sbrk_result, wanted_size}
 use Rattle.process_model.specs.Images.{image_loads, LoadSegment}
-use Rattle.process_model.specs.Mappings.{is_bad_mapping, leaves_hole, mapped, mapped_unless, mapping_around, mapping_of, mapping_place, most_mappings, unmapped, unmapped_if, unmapped_in, unmapped_unless}
+use Rattle.process_model.specs.Mappings.{is_bad_mapping, leaves_hole, mapped, mapped_unless, mapping_around, mapping_of, mapping_place, unmapped, unmapped_if, unmapped_in, unmapped_unless}
 use Rattle.process_model.specs.Order.{IsInOrder, Row}
 use Rattle.process_model.specs.Places.{none_above, none_fits, place_fits}
 use Rattle.process_model.specs.Process.{Process}
 use Rattle.process_model.specs.RegionRows.{row_up}
 use Rattle.process_model.specs.Regions.{end_of, Region}
 use Rattle.process_model.specs.Steps.{step}
-use Rattle.process_model.specs.World.{free_slot, Outcome, World}
+use Rattle.process_model.specs.World.{free_slot, StepOutcome, World}
 use Rattle.process_model.specs.declared.image.BadImage.{BadImage}
 use Rattle.process_model.specs.declared.image.Image.{Image}
-use Rattle.process_model.specs.declared.step.Refusal.TheVariants.{BadArgument, BadSize, FileNotWritable, MappingsFull, NoRoom}
-use Rattle.process_model.specs.declared.step.Reply.{Reply}
+use Rattle.process_model.specs.declared.reply.Refusal.TheVariants.{BadArgument, BadSize, FileNotWritable, MappingsFull, NoRoom}
+use Rattle.process_model.specs.declared.reply.Reply.{Reply}
 use Rattle.process_model.specs.declared.step.Step.TheVariants as step_of
 use Rattle.sv39_entry.specs.Address.{page_of}
 use Rattle.sv39_entry.specs.Schemes.{trapframe_page}
+use Rattle.process_model.specs.declared.limits.TheConstants.{MOST_MAPPINGS}
 
 less_false : (a b : ℕ) → nat_lt a b ≡ false → b ≤ a
 less_false a b e = grind arith
@@ -84,17 +85,17 @@ module _ (w : World) (s : ℕ) (p : Process) (len protection flags n : ℕ) wher
   abbrev Maps : Reply → Type 0
   Maps r = MapReply w.files p len protection flags n r
 
-  map_by : (a b c : Bool) (place : Option ℕ) → is_bad_mapping w.files len protection flags n ≡ a → is_read_only w.files protection flags n ≡ b → nat_le most_mappings (length p.mappings) ≡ c → mapping_place p (pages_for len) ≡ place
+  map_by : (a b c : Bool) (place : Option ℕ) → is_bad_mapping w.files len protection flags n ≡ a → is_read_only w.files protection flags n ≡ b → nat_le MOST_MAPPINGS (length p.mappings) ≡ c → mapping_place p (pages_for len) ≡ place
       → Maps (mapped_to w s (mapped_unless p (mapping_of (unwrap_or place 0) (pages_for len) protection flags n) (first_true ((a, BadArgument) ∷ (b, FileNotWritable) ∷ (c, MappingsFull) ∷ (is_none place, NoRoom) ∷ [])))).reply
   map_by true b c place bad only full at = MapReply.bad bad
   map_by false true c place bad only full at = MapReply.read_only bad only
-  map_by false false true place bad only full at = MapReply.full bad only (leb-true most_mappings (length p.mappings) full)
-  map_by false false false None bad only full at = MapReply.no_room bad only (le_false most_mappings (length p.mappings) full) (λ first. none_fits p (pages_for len) first at)
-  map_by false false false (Some first) bad only full at = MapReply.mapped bad only (le_false most_mappings (length p.mappings) full) (place_fits p (pages_for len) first at) (λ other. none_above p (pages_for len) first other at)
+  map_by false false true place bad only full at = MapReply.full bad only (leb-true MOST_MAPPINGS (length p.mappings) full)
+  map_by false false false None bad only full at = MapReply.no_room bad only (le_false MOST_MAPPINGS (length p.mappings) full) (λ first. none_fits p (pages_for len) first at)
+  map_by false false false (Some first) bad only full at = MapReply.mapped bad only (le_false MOST_MAPPINGS (length p.mappings) full) (place_fits p (pages_for len) first at) (λ other. none_above p (pages_for len) first other at)
 
   map_reply : Maps (mapped_to w s (mapped w.files p len protection flags n)).reply
   unfolding mapped
-  map_reply = map_by (is_bad_mapping w.files len protection flags n) (is_read_only w.files protection flags n) (nat_le most_mappings (length p.mappings)) (mapping_place p (pages_for len)) refl refl refl refl
+  map_reply = map_by (is_bad_mapping w.files len protection flags n) (is_read_only w.files protection flags n) (nat_le MOST_MAPPINGS (length p.mappings)) (mapping_place p (pages_for len)) refl refl refl refl
 
 -- ---- munmap
 
@@ -169,17 +170,17 @@ module _ (w : World) (h s : ℕ) (p : Process) (on : IsOnHart w h s p) (k : MayC
   pub sbrk_replies : IsInOrder p → (delta : ℤ) → SizeReply p delta (step w (step_of.Sbrk h delta)).reply
   sbrk_replies order delta =
       let x = step_of.Sbrk h delta in
-      subst (SizeReply p delta) (sym (step_reply w x ∙ ap (λ (o : Outcome). o.reply) (call_runs w h s p true (λ hart s p. resized_to w s p (sbrk_result p delta)) refl on k.quiet k.in_kernel).1)) (size_reply p order w s delta)
+      subst (SizeReply p delta) (sym (step_reply w x ∙ ap (λ (o : StepOutcome). o.reply) (call_runs w h s p true (λ hart s p. resized_to w s p (sbrk_result p delta)) refl on k.quiet k.in_kernel).1)) (size_reply p order w s delta)
 
   pub mmap_replies : (len protection flags n : ℕ) → MapReply w.files p len protection flags n (step w (step_of.Mmap h len protection flags n)).reply
   mmap_replies len protection flags n =
       let x = step_of.Mmap h len protection flags n in
-      subst (MapReply w.files p len protection flags n) (sym (step_reply w x ∙ ap (λ (o : Outcome). o.reply) (call_runs w h s p true (λ hart s p. mapped_to w s (mapped w.files p len protection flags n)) refl on k.quiet k.in_kernel).1)) (map_reply w s p len protection flags n)
+      subst (MapReply w.files p len protection flags n) (sym (step_reply w x ∙ ap (λ (o : StepOutcome). o.reply) (call_runs w h s p true (λ hart s p. mapped_to w s (mapped w.files p len protection flags n)) refl on k.quiet k.in_kernel).1)) (map_reply w s p len protection flags n)
 
   pub munmap_replies : (address len : ℕ) → UnmapReply p address len (step w (step_of.Munmap h address len)).reply
   munmap_replies address len =
       let x = step_of.Munmap h address len in
-      subst (UnmapReply p address len) (sym (step_reply w x ∙ ap (λ (o : Outcome). o.reply) (call_runs w h s p true (λ hart s p. unmapped_to w s (unmapped w.files p address len)) refl on k.quiet k.in_kernel).1)) (unmap_reply w s p address len)
+      subst (UnmapReply p address len) (sym (step_reply w x ∙ ap (λ (o : StepOutcome). o.reply) (call_runs w h s p true (λ hart s p. unmapped_to w s (unmapped w.files p address len)) refl on k.quiet k.in_kernel).1)) (unmap_reply w s p address len)
 
 -- ---- start, fork, exec
 
@@ -217,9 +218,9 @@ module _ (w : World) where
     pub fork_replies : ForkReply w (step w (step_of.Fork h)).reply
     fork_replies =
         let x = step_of.Fork h in
-        subst (ForkReply w) (sym (step_reply w x ∙ ap (λ (o : Outcome). o.reply) (call_runs w h s p true (λ hart s p. forked w s p (free_slot w)) refl on k.quiet k.in_kernel).1)) (fork_as s p (free_slot w) refl)
+        subst (ForkReply w) (sym (step_reply w x ∙ ap (λ (o : StepOutcome). o.reply) (call_runs w h s p true (λ hart s p. forked w s p (free_slot w)) refl on k.quiet k.in_kernel).1)) (fork_as s p (free_slot w) refl)
 
     pub exec_replies : (image : Image) → ExecReply w image (step w (step_of.Exec h image)).reply
     exec_replies image =
         let x = step_of.Exec h image in
-        subst (ExecReply w image) (sym (step_reply w x ∙ ap (λ (o : Outcome). o.reply) (call_runs w h s p true (λ hart s p. replaced w s p (image_loads w.scheme image)) refl on k.quiet k.in_kernel).1)) (exec_as s p image (image_loads w.scheme image) refl)
+        subst (ExecReply w image) (sym (step_reply w x ∙ ap (λ (o : StepOutcome). o.reply) (call_runs w h s p true (λ hart s p. replaced w s p (image_loads w.scheme image)) refl on k.quiet k.in_kernel).1)) (exec_as s p image (image_loads w.scheme image) refl)

@@ -1,5 +1,4 @@
--- A slot (place in the process table) is among those that a step changed if and only if its process started or its leaves
--- changed (`among_changed`).
+-- A slot is among those that a step changed if and only if its process started or its leaves changed (`among_changed`).
 use Rattle.std.proofs.Common.{◌≡◌, ◌==◌, ◌||◌, ◌+◌, ◌<◌, ℕ, zero, suc, Bool, true, false, refl, ap, ◌∙◌, arith, List, [], ◌∷◌, Option, None, Some}
 use Rattle.std.specs.List.{list_any}
 use Rattle.std.specs.Prelude.{slice_get, if◌then◌else◌}

@@ -1,5 +1,5 @@
--- Lemmas about the child of a fork: a reply `Forked` gives the lowest free slot (place in the process table), and the
--- process in it then has its parent's regions, heap base and size, waits for nothing, and has no dirty mark (D).
+-- Lemmas about the child of a fork: a reply `Forked` gives the lowest free slot, and the process in it then has its parent's
+-- regions, heap base and size, waits for nothing, and has no dirty mark (D).
 use Rattle.std.proofs.Common.{◌≡◌, ℕ, Bool, true, false, cond, refl, sym, ap, ◌∙◌, arith, List, [], ◌∷◌, Option, None, Some}
 use Rattle.std.specs.Ordering.{eq_by_cmp, nat_cmp}
 use Rattle.std.specs.FinMap.Entries.{find}
@@ -14,9 +14,10 @@ use Rattle.process_model.specs.PageMap.{each_value}
 use Rattle.process_model.specs.Process.{Page, Process}
 use Rattle.process_model.specs.Residence.{child_of, child_page, marked}
 use Rattle.process_model.specs.Steps.{plain_step, step}
-use Rattle.process_model.specs.World.{always, can_call, free_slot, Outcome, process_in, with_its_process, with_process, World}
-use Rattle.process_model.specs.declared.step.Reply.{Reply}
-use Rattle.process_model.specs.declared.step.Reply.TheVariants.{Forked}
+use Rattle.process_model.specs.World.{always, can_call, free_slot, StepOutcome, process_in, with_its_process, with_process, World}
+use Rattle.process_model.specs.declared.reply.Reply.{Reply}
+use Rattle.process_model.specs.declared.reply.ScalarReply.TheVariants.{Forked}
+use Rattle.process_model.specs.declared.reply.Reply.TheVariants.{Scalar}
 use Rattle.process_model.specs.declared.step.Step.TheVariants as step_of
 
 unstored_at : (f : ℕ → Page → Page) → ((n : ℕ) (x : Page) → (f n x).dirty ≡ false) → (es : List (ℕ × Page)) (page : ℕ) → has_mark (λ z. z.dirty) (find nat_cmp page (each_value f es)) ≡ false
@@ -40,7 +41,7 @@ module _ (w : World) (h s : ℕ) (p : Process) (on : IsOnHart w h s p) (t : ℕ)
   abbrev Bears : World → Type 0
   Bears v = (free_slot w ≡ Some t) × (c : Process) × (process_in v t ≡ Some c) × IsChild p c
 
-  child_unless : (child : ℕ) (b : Bool) → free_slot w ≡ Some child → (forked_unless w s p child b).reply ≡ Forked t → Bears (forked_unless w s p child b).world
+  child_unless : (child : ℕ) (b : Bool) → free_slot w ≡ Some child → (forked_unless w s p child b).reply ≡ Scalar (Forked t) → Bears (forked_unless w s p child b).world
   child_unless child true free e = absurd cc
   child_unless child false free e =
       let same : child ≡ t = cc in (
@@ -50,19 +51,19 @@ module _ (w : World) (h s : ℕ) (p : Process) (on : IsOnHart w h s p) (t : ℕ)
         record { same = refl; base = refl; size = refl; quiet = refl; unstored = child_unstored p },
       )
 
-  child_of_fork : (o : Option ℕ) → free_slot w ≡ o → (forked w s p o).reply ≡ Forked t → Bears (forked w s p o).world
+  child_of_fork : (o : Option ℕ) → free_slot w ≡ o → (forked w s p o).reply ≡ Scalar (Forked t) → Bears (forked w s p o).world
   child_of_fork None free e = absurd cc
   child_of_fork (Some child) free e = child_unless child _ free e
 
-  forked_made : (r : Reply) → r ≡ Forked t → IsMade r
+  forked_made : (r : Reply) → r ≡ Scalar (Forked t) → IsMade r
   forked_made r e f g = absurd cc
 
-  pub child_is : (step w (step_of.Fork h)).reply ≡ Forked t → Bears (step w (step_of.Fork h)).world
+  pub child_is : (step w (step_of.Fork h)).reply ≡ Scalar (Forked t) → Bears (step w (step_of.Fork h)).world
   child_is e =
       let x = step_of.Fork h in
       let run = λ (hart : Hart) (s : ℕ) (p : Process). forked w s p (free_slot w) in
-      let plain : (plain_step w x).reply ≡ Forked t = sym (step_reply w x) ∙ e in
+      let plain : (plain_step w x).reply ≡ (Scalar (Forked t)) = sym (step_reply w x) ∙ e in
       let r = ran_on w h true (can_call w) always (λ hart. with_its_process w hart (run hart)) (forked_made _ plain) in
       let is : plain_step w x ≡ forked w s p (free_slot w) = r.is ∙ process_runs w r.hart (run r.hart) s p (has_it w h s r.hart on.there r.there) on.lives in
-      let k = child_of_fork (free_slot w) refl (ap (λ (o : Outcome). o.reply) (sym is) ∙ plain) in
-      (k.0, k.1, step_process w x t ∙ ap (λ (o : Outcome). process_in o.world t) is ∙ k.2, k.3)
+      let k = child_of_fork (free_slot w) refl (ap (λ (o : StepOutcome). o.reply) (sym is) ∙ plain) in
+      (k.0, k.1, step_process w x t ∙ ap (λ (o : StepOutcome). process_in o.world t) is ∙ k.2, k.3)

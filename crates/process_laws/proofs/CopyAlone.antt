@@ -22,12 +22,13 @@ use Rattle.process_model.specs.Residence.{is_resident}
 use Rattle.process_model.specs.Service.{environment_of, initial_progress, with_progress}
 use Rattle.process_model.specs.Stale.{with_stale_slots}
 use Rattle.process_model.specs.Steps.{plain_step, step}
-use Rattle.process_model.specs.World.{answers, free, Outcome, process_in, World}
+use Rattle.process_model.specs.World.{answers, free, StepOutcome, process_in, World}
 use Rattle.process_model.specs.declared.config.Policy.{Policy}
 use Rattle.process_model.specs.declared.config.Policy.TheVariants.{Full, Asid}
 use Rattle.process_model.specs.declared.phase.Phase.TheVariants.{Kernel}
-use Rattle.process_model.specs.declared.step.Reply.{Reply}
-use Rattle.process_model.specs.declared.step.Reply.TheVariants.{Ended}
+use Rattle.process_model.specs.declared.reply.Reply.{Reply}
+use Rattle.process_model.specs.declared.reply.ScalarReply.TheVariants.{Ended}
+use Rattle.process_model.specs.declared.reply.Reply.TheVariants.{Scalar}
 use Rattle.process_model.specs.declared.step.Step.{Step}
 use Rattle.process_model.specs.declared.step.Step.TheVariants.{CopyIn, CopyOut}
 use Rattle.sv39_entry.specs.Address.{page_of}
@@ -38,11 +39,11 @@ use Rattle.sv39_entry.specs.declared.rule.Rule.TheVariants.{Misaligned, NoFrame}
 
 -- marks are not round a process
 
-marks_around : (policy : Policy) (w : World) (o : Outcome) (s : ℕ) → environment_of (with_stale_slots policy w o).world s ≡ environment_of o.world s
+marks_around : (policy : Policy) (w : World) (o : StepOutcome) (s : ℕ) → environment_of (with_stale_slots policy w o).world s ≡ environment_of o.world s
 marks_around Full w o s = refl
 marks_around Asid w o s = refl
 
-marks_begun : (policy : Policy) (w : World) (o : Outcome) (q : Process) → initial_progress (with_stale_slots policy w o).world q ≡ initial_progress o.world q
+marks_begun : (policy : Policy) (w : World) (o : StepOutcome) (q : Process) → initial_progress (with_stale_slots policy w o).world q ≡ initial_progress o.world q
 marks_begun Full w o q = refl
 marks_begun Asid w o q = refl
 
@@ -78,10 +79,10 @@ module _ (w : World) (h s : ℕ) (p : Process) (on : IsOnHart w h s p) (kernel :
   dry_by None e = unshift g.taken (resident_at (environment_of there s) kind (page_of at) (initial_progress there q)) (sym (shift w s p holds on.lives g k kind at) ∙ e)
 
   around_is : environment_of v s ≡ environment_of there s
-  around_is = step_around w x s ∙ ap (λ (o : Outcome). environment_of o.world s) is
+  around_is = step_around w x s ∙ ap (λ (o : StepOutcome). environment_of o.world s) is
 
   begun_is : initial_progress v (without_pending q) ≡ initial_progress there q
-  begun_is = ap (initial_progress v) (no_wait q idle) ∙ step_begun w x q ∙ ap (λ (o : Outcome). initial_progress o.world q) is
+  begun_is = ap (initial_progress v) (no_wait q idle) ∙ step_begun w x q ∙ ap (λ (o : StepOutcome). initial_progress o.world q) is
 
   pub dry : reached_in (environment_of v s) kind (initial_progress v (without_pending q)) at ≡ Err NoFrame
   dry = ap (λ (a : Environment). reached_in a kind (initial_progress v (without_pending q)) at) around_is ∙ ap (λ (f : Progress). reached_in (environment_of there s) kind f at) begun_is ∙ dry_by (copy_rule q.scheme (regions q) kind at) halted
@@ -90,21 +91,21 @@ module _ (w : World) (h s : ℕ) (p : Process) (on : IsOnHart w h s p) (kernel :
   on_there =
       let a : At there h (Some s) Kernel = record { on = on.there; is_in = kernel } in
       record {
-        there = (step_at w x h (Some s) Kernel (subst (λ (o : Outcome). At o.world h (Some s) Kernel) (sym is) a)).on;
-        lives = step_process w x s ∙ ap (λ (o : Outcome). process_in o.world s) is ∙ set_lives w.slots s p q on.lives;
+        there = (step_at w x h (Some s) Kernel (subst (λ (o : StepOutcome). At o.world h (Some s) Kernel) (sym is) a)).on;
+        lives = step_process w x s ∙ ap (λ (o : StepOutcome). process_in o.world s) is ∙ set_lives w.slots s p q on.lives;
       }
 
   pub kernel_there : IsInPhase v h Kernel
   kernel_there =
       let a : At there h (Some s) Kernel = record { on = on.there; is_in = kernel } in
-      (step_at w x h (Some s) Kernel (subst (λ (o : Outcome). At o.world h (Some s) Kernel) (sym is) a)).is_in
+      (step_at w x h (Some s) Kernel (subst (λ (o : StepOutcome). At o.world h (Some s) Kernel) (sym is) a)).is_in
 
   -- no rule has too few frames
   no_rule : (rule : Rule) → copy_rule q.scheme (regions q) kind at ≡ Some rule → rule ≢ NoFrame
   no_rule rule e same =
       let whole : is_aligned at 1 ≡ true = eq-eqb (at % 1) 0 (omega arith) in
       let first : first_rule q.scheme (regions q) kind at 1 ≡ Some rule = ap (λ b. cond b (copy_rule q.scheme (regions q) kind at) (Some Misaligned)) whole ∙ e in
-      false≢true (sym (quiet_rule q kind at 1 rule first) ∙ ap (λ r. is_no_frame_reply (Ended r)) same)
+      false≢true (sym (quiet_rule q kind at 1 rule first) ∙ ap (λ r. is_no_frame_reply (Scalar (Ended r))) same)
 
   -- so few are free
   few_at : (f : Progress) → f.process ≡ without_pending q → f.taken ≡ 0 → (b : Bool) → is_resident f.process kind (page_of at) ≡ b → unless_resident (environment_of v s) kind (page_of at) f b ≡ Err NoFrame

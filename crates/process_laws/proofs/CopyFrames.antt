@@ -19,7 +19,7 @@ use Rattle.process_laws.specs.Words.{in_memory, is_no_frame_reply}
 use Rattle.process_model.specs.Environment.{Environment, need_at, Progress, resident_at_address, resident_at, unless_dry, unless_resident}
 use Rattle.process_model.specs.Bytes.{numbers_from}
 use Rattle.process_model.specs.Calls.{copy_in_outcome, copy_out_outcome}
-use Rattle.process_model.specs.Copies.{Copied, copied_in, copied_out, copy_begun, in_reply, longest_copy, next_in, next_out, one_in, one_out, out_reply, reached_in, with_byte_on}
+use Rattle.process_model.specs.Copies.{Copied, copied_in, copied_out, copy_begun, in_reply, next_in, next_out, one_in, one_out, out_reply, reached_in, with_byte_on}
 use Rattle.process_model.specs.Frames.{copies_of}
 use Rattle.process_model.specs.PageMap.{get}
 use Rattle.process_model.specs.Process.{Page, Process, regions, without_pending}
@@ -34,6 +34,7 @@ use Rattle.sv39_entry.specs.declared.access.Access.{Access}
 use Rattle.sv39_entry.specs.declared.access.Access.TheVariants as access
 use Rattle.sv39_entry.specs.declared.rule.Rule.{Rule}
 use Rattle.sv39_entry.specs.declared.rule.Rule.TheVariants as rule
+use Rattle.process_model.specs.declared.limits.TheConstants.{LONGEST_COPY}
 
 abbrev pub New : ℕ → Process → Type 0
 New n p = IsFresh n p.settled
@@ -262,9 +263,9 @@ module _ (w : World) (holds : Holds New w) where
   pub copies_in_spend : (h address n : ℕ) → (k : ℕ) × ((m : ℕ) → Spends (in_memory w m) (step (in_memory w m) (CopyIn h address n)) k)
   unfolding InEach
   copies_in_spend h address n = step_spends w (are_new w holds) (CopyIn h address n)
-      (each_call Spends w (refused_spends w) h (nat_le n longest_copy) (λ u hart s p. copy_in_outcome u s (copied_in (environment_of u s) (initial_progress u (without_pending p)) address n)) (λ hart s p lives. in_takes s p lives address n))
+      (each_call Spends w (refused_spends w) h (nat_le n LONGEST_COPY) (λ u hart s p. copy_in_outcome u s (copied_in (environment_of u s) (initial_progress u (without_pending p)) address n)) (λ hart s p lives. in_takes s p lives address n))
 
   pub copies_out_spend : (h address : ℕ) (bytes : Bor (List ℕ)) → (k : ℕ) × ((m : ℕ) → Spends (in_memory w m) (step (in_memory w m) (CopyOut h address bytes)) k)
   unfolding InEach
   copies_out_spend h address bytes = step_spends w (are_new w holds) (CopyOut h address bytes)
-      (each_call Spends w (refused_spends w) h (nat_le (length bytes.now) longest_copy) (λ u hart s p. copy_out_outcome u s (copied_out (environment_of u s) (initial_progress u (without_pending p)) address bytes.now)) (λ hart s p lives. out_takes s p lives address bytes.now))
+      (each_call Spends w (refused_spends w) h (nat_le (length bytes.now) LONGEST_COPY) (λ u hart s p. copy_out_outcome u s (copied_out (environment_of u s) (initial_progress u (without_pending p)) address bytes.now)) (λ hart s p lives. out_takes s p lives address bytes.now))

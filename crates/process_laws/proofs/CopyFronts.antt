@@ -12,13 +12,13 @@ use Rattle.process_laws.specs.Words.{copied, IsOnHart}
 use Rattle.process_model.specs.Environment.{Environment, Progress}
 use Rattle.process_model.specs.Bytes.{numbers_from}
 use Rattle.process_model.specs.Calls.{copy_in_outcome, copy_out_outcome}
-use Rattle.process_model.specs.Copies.{Copied, copied_in, copied_out, copy_begun, in_reply, longest_copy, one_in, one_out, out_reply, reached_in}
+use Rattle.process_model.specs.Copies.{Copied, copied_in, copied_out, copy_begun, in_reply, one_in, one_out, out_reply, reached_in}
 use Rattle.process_model.specs.Harts.{Hart}
 use Rattle.process_model.specs.Process.{Process, without_pending}
 use Rattle.process_model.specs.Service.{environment_of, initial_progress, with_progress}
 use Rattle.process_model.specs.Stale.{changed_slots, with_stale, with_stale_slots}
 use Rattle.process_model.specs.Steps.{plain_step, step}
-use Rattle.process_model.specs.World.{always, can_call, Outcome, with_its_process, World}
+use Rattle.process_model.specs.World.{always, can_call, StepOutcome, with_its_process, World}
 use Rattle.process_model.specs.declared.config.Policy.{Policy}
 use Rattle.process_model.specs.declared.config.Policy.TheVariants.{Full, Asid}
 use Rattle.process_model.specs.declared.step.Step.{Step}
@@ -26,6 +26,7 @@ use Rattle.process_model.specs.declared.step.Step.TheVariants.{CopyIn, CopyOut}
 use Rattle.sv39_entry.specs.declared.access.Access.{Access}
 use Rattle.sv39_entry.specs.declared.access.Access.TheVariants as access
 use Rattle.sv39_entry.specs.declared.rule.Rule.{Rule}
+use Rattle.process_model.specs.declared.limits.TheConstants.{LONGEST_COPY}
 
 -- ---- so many addresses
 
@@ -107,7 +108,7 @@ module _ (a : Environment) (g : Progress) (address : ℕ) where
 
 -- ---- worlds
 
-marks_same : (policy : Policy) (w : World) (o u : Outcome) → o.world ≡ u.world → (with_stale_slots policy w o).world ≡ (with_stale_slots policy w u).world
+marks_same : (policy : Policy) (w : World) (o u : StepOutcome) → o.world ≡ u.world → (with_stale_slots policy w o).world ≡ (with_stale_slots policy w u).world
 marks_same Full w o u e = e
 marks_same Asid w o u e = ap (λ (v : World). record v { harts = map (with_stale (changed_slots 0 w.slots v.slots)) v.harts }) e
 
@@ -133,13 +134,13 @@ module _ (w : World) (h s : ℕ) (p : Process) (on : IsOnHart w h s p) (address 
       let f = in_front (environment_of w s) begin address n in
       let k = length c.bytes in
       let some = f.0 in
-      let most = leb-true n longest_copy ran.fits in
+      let most = leb-true n LONGEST_COPY ran.fits in
       let call = λ (hart : Hart) (s : ℕ) (p : Process). copy_in_outcome w s (copied_in (environment_of w s) (initial_progress w (without_pending p)) address k) in
       let goes : plain_step w (CopyIn h address k) ≡ copy_in_outcome w s (copied_in (environment_of w s) begin address k) =
-      hart_runs w h (nat_le k longest_copy) (can_call w) always (λ hart. with_its_process w hart (call hart)) ran.hart ran.there (le-leb k longest_copy (omega (arith, some, most))) ran.can refl
+      hart_runs w h (nat_le k LONGEST_COPY) (can_call w) always (λ hart. with_its_process w hart (call hart)) ran.hart ran.there (le-leb k LONGEST_COPY (omega (arith, some, most))) ran.can refl
       ∙ process_runs w ran.hart (call ran.hart) s p (has_it w h s ran.hart on.there ran.there) on.lives in
-      let told : copied (step w (CopyIn h address n)).reply ≡ k = ap copied (step_reply w (CopyIn h address n) ∙ ap (λ (o : Outcome). o.reply) ran.is) ∙ copied_of_in c.bytes c.stop in
-      step_same w (CopyIn h address n) (CopyIn h address k) (ap (λ (o : Outcome). o.world) ran.is ∙ ap (with_progress w s) (sym f.1) ∙ ap (λ (o : Outcome). o.world) (sym goes))
+      let told : copied (step w (CopyIn h address n)).reply ≡ k = ap copied (step_reply w (CopyIn h address n) ∙ ap (λ (o : StepOutcome). o.reply) ran.is) ∙ copied_of_in c.bytes c.stop in
+      step_same w (CopyIn h address n) (CopyIn h address k) (ap (λ (o : StepOutcome). o.world) ran.is ∙ ap (with_progress w s) (sym f.1) ∙ ap (λ (o : StepOutcome). o.world) (sym goes))
       ∙ ap (λ i. (step w (CopyIn h address i)).world) (sym told)
 
   pub out_front_world : (bytes front : Bor (List ℕ)) → OutRan w h s p address bytes → front.now ≡ take (copied (step w (CopyOut h address bytes)).reply) bytes.now
@@ -147,14 +148,14 @@ module _ (w : World) (h s : ℕ) (p : Process) (on : IsOnHart w h s p) (address 
   out_front_world bytes front ran are =
       let c = copied_out (environment_of w s) begin address bytes.now in
       let k = length c.bytes in
-      let told : copied (step w (CopyOut h address bytes)).reply ≡ k = ap copied (step_reply w (CopyOut h address bytes) ∙ ap (λ (o : Outcome). o.reply) ran.is) ∙ copied_of_out c.bytes c.stop in
+      let told : copied (step w (CopyOut h address bytes)).reply ≡ k = ap copied (step_reply w (CopyOut h address bytes) ∙ ap (λ (o : StepOutcome). o.reply) ran.is) ∙ copied_of_out c.bytes c.stop in
       let same : front.now ≡ take k bytes.now = are ∙ ap (λ i. take i bytes.now) told in
       let short = length-take k bytes.now in
       let long : length front.now ≡ length (take k bytes.now) = ap length same in
-      let most = leb-true (length bytes.now) longest_copy ran.fits in
+      let most = leb-true (length bytes.now) LONGEST_COPY ran.fits in
       let call = λ (hart : Hart) (s : ℕ) (p : Process). copy_out_outcome w s (copied_out (environment_of w s) (initial_progress w (without_pending p)) address front.now) in
       let goes : plain_step w (CopyOut h address front) ≡ copy_out_outcome w s (copied_out (environment_of w s) begin address front.now) =
-      hart_runs w h (nat_le (length front.now) longest_copy) (can_call w) always (λ hart. with_its_process w hart (call hart)) ran.hart ran.there (le-leb (length front.now) longest_copy (omega (arith, long, short, most))) ran.can refl
+      hart_runs w h (nat_le (length front.now) LONGEST_COPY) (can_call w) always (λ hart. with_its_process w hart (call hart)) ran.hart ran.there (le-leb (length front.now) LONGEST_COPY (omega (arith, long, short, most))) ran.can refl
       ∙ process_runs w ran.hart (call ran.hart) s p (has_it w h s ran.hart on.there ran.there) on.lives in
       let progress : (copied_out (environment_of w s) begin address front.now).progress ≡ c.progress = ap (λ bs. (copied_out (environment_of w s) begin address bs).progress) same ∙ out_front (environment_of w s) begin address bytes.now in
-      step_same w (CopyOut h address bytes) (CopyOut h address front) (ap (λ (o : Outcome). o.world) ran.is ∙ ap (with_progress w s) (sym progress) ∙ ap (λ (o : Outcome). o.world) (sym goes))
+      step_same w (CopyOut h address bytes) (CopyOut h address front) (ap (λ (o : StepOutcome). o.world) ran.is ∙ ap (with_progress w s) (sym progress) ∙ ap (λ (o : StepOutcome). o.world) (sym goes))

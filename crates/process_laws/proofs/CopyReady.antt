@@ -21,7 +21,7 @@ use Rattle.process_model.specs.Residence.{is_resident, is_resident_page, region_
 use Rattle.process_model.specs.ResidenceLaws.{reached_serves, stays_resident}
 use Rattle.process_model.specs.Service.{environment_of, initial_progress}
 use Rattle.process_model.specs.Steps.{step}
-use Rattle.process_model.specs.World.{Outcome, process_in, World}
+use Rattle.process_model.specs.World.{StepOutcome, process_in, World}
 use Rattle.process_model.specs.declared.step.Step.TheVariants.{CopyOut}
 use Rattle.sv39_entry.specs.Address.{page_of}
 use Rattle.sv39_entry.specs.declared.access.Access.TheVariants as access
@@ -89,6 +89,6 @@ pub out_ready : (w : World) (h s address : ℕ) (bytes : Bor (List ℕ)) (p : Pr
 out_ready w h s address bytes p on ran q i less there =
     let x = CopyOut h address bytes in
     let c = copied_out (environment_of w s) (initial_progress w (without_pending p)) address bytes.now in
-    let told : copied (step w x).reply ≡ length c.bytes = ap copied (step_reply w x ∙ ap (λ (o : Outcome). o.reply) ran.is) ∙ copied_of_out c.bytes c.stop in
-    let is : (c.progress).process ≡ q = same_Some _ q (sym (set_lives w.slots s p ((c.progress).process) on.lives) ∙ sym (ap (λ (o : Outcome). process_in o.world s) ran.is) ∙ sym (step_process w x s) ∙ there) in
+    let told : copied (step w x).reply ≡ length c.bytes = ap copied (step_reply w x ∙ ap (λ (o : StepOutcome). o.reply) ran.is) ∙ copied_of_out c.bytes c.stop in
+    let is : (c.progress).process ≡ q = same_Some _ q (sym (set_lives w.slots s p ((c.progress).process) on.lives) ∙ sym (ap (λ (o : StepOutcome). process_in o.world s) ran.is) ∙ sym (step_process w x s) ∙ there) in
     subst (λ (z : Process). Stands z (page_of (address + i))) is ((copy_far (environment_of w s) address (initial_progress w (without_pending p)) bytes.now).there i (omega (arith, less, told)))

@@ -9,21 +9,22 @@ use Rattle.process_laws.proofs.OnHarts.{kernel_good}
 use Rattle.process_laws.specs.Words.{CopiesBytes, in_memory, is_no_frame_reply}
 use Rattle.process_model.specs.Bytes.{numbers_from}
 use Rattle.process_model.specs.Calls.{copy_in_outcome, copy_out_outcome}
-use Rattle.process_model.specs.Copies.{Copied, copied_in, copied_out, copy_begun, longest_copy, one_in, one_out}
+use Rattle.process_model.specs.Copies.{Copied, copied_in, copied_out, copy_begun, one_in, one_out}
 use Rattle.process_model.specs.Environment.{Progress}
 use Rattle.process_model.specs.Process.{Process, without_pending}
 use Rattle.process_model.specs.Service.{environment_of, initial_progress, with_progress}
 use Rattle.process_model.specs.Stale.{with_stale_slots}
 use Rattle.process_model.specs.Steps.{plain_step, step}
-use Rattle.process_model.specs.World.{free, Outcome, process_in, World}
+use Rattle.process_model.specs.World.{free, StepOutcome, process_in, World}
 use Rattle.process_model.specs.declared.config.Policy.{Policy}
 use Rattle.process_model.specs.declared.config.Policy.TheVariants.{Full, Asid}
 use Rattle.process_model.specs.declared.step.Step.{Step}
 use Rattle.process_model.specs.declared.step.Step.TheVariants.{CopyIn, CopyOut}
 use Rattle.sv39_entry.specs.declared.access.Access.TheVariants as access
+use Rattle.process_model.specs.declared.limits.TheConstants.{LONGEST_COPY}
 
 module _ (w : World) where
-  abbrev HasRoom : Outcome → Type 0
+  abbrev HasRoom : StepOutcome → Type 0
   HasRoom o = is_no_frame_reply o.reply ≡ false → (frames : ℕ) → free (in_memory w frames) ≤ free (in_memory o.world frames) + free w
 
   module _ (holds : Holds New w) (s : ℕ) (p : Process) (lives : process_in w s ≡ Some p) where
@@ -67,7 +68,7 @@ module _ (w : World) where
         beside_all access.Store (λ x. x.0) (λ c x g. one_out c x.0 x.1 (Ok g)) out_next out_goes (environment_of w s) (free (in_memory w m)) places (copy_begun first) (copy_begun first) (nothing_beside (free (in_memory w m)) w (without_pending p)) in
         room_by m c e d b f (sym (tells_out c.bytes c.stop) ∙ wet) (spent_out_all (in_memory w m) s p (holds_at w holds m) lives places (copy_begun first) (not_begun (in_memory w m) s p (holds_at w holds m) lives))
 
-  marks_room : (policy : Policy) (o : Outcome) → HasRoom o → HasRoom (with_stale_slots policy w o)
+  marks_room : (policy : Policy) (o : StepOutcome) → HasRoom o → HasRoom (with_stale_slots policy w o)
   marks_room Full o f = f
   marks_room Asid o f = f
 
@@ -77,6 +78,6 @@ module _ (w : World) where
 
   pub copy_room : Holds New w → (h k : ℕ) (x : Step) → CopiesBytes h k x → HasRoom (step w x)
   copy_room holds h k x (CopiesBytes.copy_in {address} {n}) = step_room (CopyIn h address n)
-      (kernel_good w HasRoom (λ r wet m. omega arith) h (nat_le n longest_copy) _ (λ hart t q at here. in_room holds t q here address n))
+      (kernel_good w HasRoom (λ r wet m. omega arith) h (nat_le n LONGEST_COPY) _ (λ hart t q at here. in_room holds t q here address n))
   copy_room holds h k x (CopiesBytes.copy_out {address} {bytes}) = step_room (CopyOut h address bytes)
-      (kernel_good w HasRoom (λ r wet m. omega arith) h (nat_le (length bytes.now) longest_copy) _ (λ hart t q at here. out_room holds t q here address bytes.now))
+      (kernel_good w HasRoom (λ r wet m. omega arith) h (nat_le (length bytes.now) LONGEST_COPY) _ (λ hart t q at here. out_room holds t q here address bytes.now))

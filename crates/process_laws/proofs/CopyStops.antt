@@ -11,7 +11,8 @@ use Rattle.process_model.specs.Copies.{Copied, reached_in}
 use Rattle.process_model.specs.Process.{regions}
 use Rattle.process_model.specs.Regions.{copy_rule}
 use Rattle.process_model.specs.Residence.{is_resident}
-use Rattle.process_model.specs.declared.step.Reply.TheVariants.{Ended}
+use Rattle.process_model.specs.declared.reply.ScalarReply.TheVariants.{Ended}
+use Rattle.process_model.specs.declared.reply.Reply.TheVariants.{Scalar}
 use Rattle.sv39_entry.specs.Address.{page_of}
 use Rattle.sv39_entry.specs.declared.access.Access.{Access}
 use Rattle.sv39_entry.specs.declared.rule.Rule.{Rule}
@@ -19,7 +20,7 @@ use Rattle.sv39_entry.specs.declared.rule.Rule.TheVariants.{NoFrame}
 
 abbrev pub is_dry_stop : Option Rule → Bool
 is_dry_stop None = false
-is_dry_stop (Some r) = is_no_frame_reply (Ended r)
+is_dry_stop (Some r) = is_no_frame_reply (Scalar (Ended r))
 
 -- with so many frames, and with as many as are asked for
 

@@ -17,7 +17,7 @@ use Rattle.process_model.specs.ResidenceLaws.{made_settles}
 use Rattle.process_model.specs.Environment.{Environment, Progress, resident_at_address, resident_at, unless_dry, unless_resident}
 use Rattle.process_model.specs.Bytes.{numbers_from}
 use Rattle.process_model.specs.Calls.{copy_in_outcome, copy_out_outcome}
-use Rattle.process_model.specs.Copies.{byte_of, Copied, copied_in, copied_out, copy_begun, in_reply, longest_copy, next_in, next_out, one_in, one_out, out_reply, reached_in, with_byte, with_byte_on}
+use Rattle.process_model.specs.Copies.{byte_of, Copied, copied_in, copied_out, copy_begun, in_reply, next_in, next_out, one_in, one_out, out_reply, reached_in, with_byte, with_byte_on}
 use Rattle.process_model.specs.Files.{File}
 use Rattle.process_model.specs.Harts.{Hart, is_kernel}
 use Rattle.process_model.specs.PageMap.{get}
@@ -26,16 +26,17 @@ use Rattle.process_model.specs.Regions.{copy_rule, first_rule}
 use Rattle.process_model.specs.Residence.{made_resident_from, taken_over_unless}
 use Rattle.process_model.specs.Service.{environment_of, initial_progress}
 use Rattle.process_model.specs.Steps.{plain_step, step}
-use Rattle.process_model.specs.World.{always, can_call, Outcome, with_its_process, World}
+use Rattle.process_model.specs.World.{always, can_call, StepOutcome, with_its_process, World}
 use Rattle.process_model.specs.declared.phase.Phase.{Phase}
 use Rattle.process_model.specs.declared.phase.Phase.TheVariants.{Enter0, Enter1, Enter2, Idle, Kernel, Leave1, Leave2, User}
-use Rattle.process_model.specs.declared.step.Reply.{Reply}
+use Rattle.process_model.specs.declared.reply.Reply.{Reply}
 use Rattle.process_model.specs.declared.step.Step.TheVariants.{CopyIn, CopyOut}
 use Rattle.sv39_entry.specs.Address.{page_of}
 use Rattle.sv39_entry.specs.declared.access.Access.{Access}
 use Rattle.sv39_entry.specs.declared.access.Access.TheVariants as access
 use Rattle.sv39_entry.specs.declared.rule.Rule.{Rule}
 use Rattle.sv39_entry.specs.declared.rule.Rule.TheVariants.{Misaligned, NoFrame}
+use Rattle.process_model.specs.declared.limits.TheConstants.{LONGEST_COPY}
 
 -- a byte is always aligned, so its first rule is the copy's
 
@@ -258,7 +259,7 @@ pub record InRan (w : World) (h s : ℕ) (p : Process) (address n : ℕ) : Type 
   pub hart : Hart
   pub there : slice_get w.harts h ≡ Some hart
   pub can : can_call w hart ≡ true
-  pub fits : nat_le n longest_copy ≡ true
+  pub fits : nat_le n LONGEST_COPY ≡ true
   pub in_kernel : IsInPhase w h Kernel
   pub is : plain_step w (CopyIn h address n) ≡ copy_in_outcome w s (copied_in (environment_of w s) (initial_progress w (without_pending p)) address n)
 
@@ -266,7 +267,7 @@ pub record OutRan (w : World) (h s : ℕ) (p : Process) (address : ℕ) (bytes :
   pub hart : Hart
   pub there : slice_get w.harts h ≡ Some hart
   pub can : can_call w hart ≡ true
-  pub fits : nat_le (length bytes.now) longest_copy ≡ true
+  pub fits : nat_le (length bytes.now) LONGEST_COPY ≡ true
   pub in_kernel : IsInPhase w h Kernel
   pub is : plain_step w (CopyOut h address bytes) ≡ copy_out_outcome w s (copied_out (environment_of w s) (initial_progress w (without_pending p)) address bytes.now)
 
@@ -286,13 +287,13 @@ in_phase w h hart phase there is = ap (option_map (λ (hart : Hart). hart.phase)
 pub in_ran : (w : World) (h s address n : ℕ) (p : Process) → IsOnHart w h s p → IsMade (step w (CopyIn h address n)).reply → InRan w h s p address n
 in_ran w h s address n p on made =
     let call = λ (hart : Hart) (s : ℕ) (p : Process). copy_in_outcome w s (copied_in (environment_of w s) (initial_progress w (without_pending p)) address n) in
-    let r = ran_on w h (nat_le n longest_copy) (can_call w) always (λ hart. with_its_process w hart (call hart)) (was_made w (CopyIn h address n) made) in
+    let r = ran_on w h (nat_le n LONGEST_COPY) (can_call w) always (λ hart. with_its_process w hart (call hart)) (was_made w (CopyIn h address n) made) in
     record { hart = r.hart; there = r.there; can = r.can; fits = r.fits; in_kernel = in_phase w h r.hart Kernel r.there (kernel_phase r.hart.phase _ r.can); is = r.is ∙ process_runs w r.hart (call r.hart) s p (has_it w h s r.hart on.there r.there) on.lives }
 
 pub out_ran : (w : World) (h s address : ℕ) (bytes : Bor (List ℕ)) (p : Process) → IsOnHart w h s p → IsMade (step w (CopyOut h address bytes)).reply → OutRan w h s p address bytes
 out_ran w h s address bytes p on made =
     let call = λ (hart : Hart) (s : ℕ) (p : Process). copy_out_outcome w s (copied_out (environment_of w s) (initial_progress w (without_pending p)) address bytes.now) in
-    let r = ran_on w h (nat_le (length bytes.now) longest_copy) (can_call w) always (λ hart. with_its_process w hart (call hart)) (was_made w (CopyOut h address bytes) made) in
+    let r = ran_on w h (nat_le (length bytes.now) LONGEST_COPY) (can_call w) always (λ hart. with_its_process w hart (call hart)) (was_made w (CopyOut h address bytes) made) in
     record { hart = r.hart; there = r.there; can = r.can; fits = r.fits; in_kernel = in_phase w h r.hart Kernel r.there (kernel_phase r.hart.phase _ r.can); is = r.is ∙ process_runs w r.hart (call r.hart) s p (has_it w h s r.hart on.there r.there) on.lives }
 
 pub copies_in : (w : World) (h s address n : ℕ) (p : Process) (Lacks : ℕ → Type 0) → InRan w h s p address n
@@ -301,7 +302,7 @@ pub copies_in : (w : World) (h s address n : ℕ) (p : Process) (Lacks : ℕ →
 unfolding Says
 copies_in w h s address n p Lacks ran says =
     let c = copied_in (environment_of w s) (initial_progress w (without_pending p)) address n in
-    subst (Says p access.Load address n Lacks) (sym (step_reply w (CopyIn h address n) ∙ ap (λ (o : Outcome). o.reply) ran.is))
+    subst (Says p access.Load address n Lacks) (sym (step_reply w (CopyIn h address n) ∙ ap (λ (o : StepOutcome). o.reply) ran.is))
     (in_says p address n Lacks c.bytes c.stop
     (copies_same (Lacks (length c.bytes)) p access.Load address n (length c.bytes) c.stop (ends_so (Lacks (length c.bytes)) (environment_of w s) (without_pending p) access.Load address n c c.stop refl (in_so_far (environment_of w s) (initial_progress w (without_pending p)) address n) says)))
 
@@ -311,7 +312,7 @@ pub copies_out : (w : World) (h s address : ℕ) (bytes : Bor (List ℕ)) (p : P
 unfolding Says
 copies_out w h s address bytes p Lacks ran says =
     let c = copied_out (environment_of w s) (initial_progress w (without_pending p)) address bytes.now in
-    subst (Says p access.Store address (length bytes.now) Lacks) (sym (step_reply w (CopyOut h address bytes) ∙ ap (λ (o : Outcome). o.reply) ran.is))
+    subst (Says p access.Store address (length bytes.now) Lacks) (sym (step_reply w (CopyOut h address bytes) ∙ ap (λ (o : StepOutcome). o.reply) ran.is))
     (out_says p address (length bytes.now) Lacks c.bytes c.stop
     (copies_same (Lacks (length c.bytes)) p access.Store address (length bytes.now) (length c.bytes) c.stop
     (ends_so (Lacks (length c.bytes)) (environment_of w s) (without_pending p) access.Store address (length bytes.now) c c.stop refl (out_so_far (environment_of w s) (initial_progress w (without_pending p)) address bytes.now) says)))

@@ -25,14 +25,15 @@ use Rattle.process_model.specs.Residence.{is_resident, made_resident}
 use Rattle.process_model.specs.Service.{environment_of, initial_progress, ended, is_dry, served, served_or_ended, with_progress, with_served}
 use Rattle.process_model.specs.Stale.{with_stale_slots}
 use Rattle.process_model.specs.Steps.{plain_step, step}
-use Rattle.process_model.specs.World.{free, free_slot, Outcome, process_in, refuses, with_process, World}
+use Rattle.process_model.specs.World.{free, free_slot, StepOutcome, process_in, refuses, with_process, World}
 use Rattle.process_model.specs.declared.config.Policy.{Policy}
 use Rattle.process_model.specs.declared.config.Policy.TheVariants.{Full, Asid}
 use Rattle.process_model.specs.declared.image.BadImage.{BadImage}
 use Rattle.process_model.specs.declared.image.Image.{Image}
-use Rattle.process_model.specs.declared.step.Refusal.{Refusal}
-use Rattle.process_model.specs.declared.step.Refusal.TheVariants as refusal
-use Rattle.process_model.specs.declared.step.Reply.TheVariants.{Ended, Refused}
+use Rattle.process_model.specs.declared.reply.Refusal.{Refusal}
+use Rattle.process_model.specs.declared.reply.Refusal.TheVariants as refusal
+use Rattle.process_model.specs.declared.reply.ScalarReply.TheVariants.{Ended, Refused}
+use Rattle.process_model.specs.declared.reply.Reply.TheVariants.{Scalar}
 use Rattle.process_model.specs.declared.step.Step.{Step}
 use Rattle.process_model.specs.declared.step.Step.TheVariants.{Fork, Serve, Start}
 use Rattle.sv39_entry.specs.Address.{page_of}
@@ -42,27 +43,27 @@ use Rattle.sv39_entry.specs.declared.rule.Rule.TheVariants as rule
 
 -- ---- one outcome, in a world
 
-abbrev pub Spends : World → Outcome → ℕ → Type 0
+abbrev pub Spends : World → StepOutcome → ℕ → Type 0
 Spends v o n = (is_no_frame_reply o.reply ≡ nat_lt (free v) n) × (is_no_frame_reply o.reply ≡ false → free v - free o.world ≡ n)
 
 pub none_less : (a : ℕ) → nat_lt a 0 ≡ false
 none_less a = grind arith
 
 -- nothing is taken
-pub spends_none : (v : World) (o : Outcome) → is_no_frame_reply o.reply ≡ false → free v ≤ free o.world → Spends v o 0
+pub spends_none : (v : World) (o : StepOutcome) → is_no_frame_reply o.reply ≡ false → free v ≤ free o.world → Spends v o 0
 spends_none v o e le = (e ∙ sym (none_less (free v)), λ _. omega (arith, le))
 
 -- so much is taken, or it is dry
-pub spends_need : (v : World) (n : ℕ) (f : Bool → Outcome) (b : Bool) → nat_lt (free v) n ≡ b → is_no_frame_reply (f true).reply ≡ true → is_no_frame_reply (f false).reply ≡ false
+pub spends_need : (v : World) (n : ℕ) (f : Bool → StepOutcome) (b : Bool) → nat_lt (free v) n ≡ b → is_no_frame_reply (f true).reply ≡ true → is_no_frame_reply (f false).reply ≡ false
     → (nat_lt (free v) n ≡ false → free (f false).world + n ≡ free v) → Spends v (f b) n
 spends_need v n f true e dry wet spends = (dry ∙ sym e, λ is. absurd (let no : true ≡ false = sym dry ∙ is in cc))
 spends_need v n f false e dry wet spends = (wet ∙ sym e, λ is. let h = spends e in omega (arith, h))
 
-pub marks_spend : (policy : Policy) (v : World) (o : Outcome) (n : ℕ) → Spends v o n → Spends v (with_stale_slots policy v o) n
+pub marks_spend : (policy : Policy) (v : World) (o : StepOutcome) (n : ℕ) → Spends v o n → Spends v (with_stale_slots policy v o) n
 marks_spend Full v o n t = t
 marks_spend Asid v o n t = t
 
-pub refused_spends : (w : World) (m : ℕ) (r : Refusal) → is_no_frame_reply (Refused r) ≡ false → Spends (in_memory w m) (refuses (in_memory w m) r) 0
+pub refused_spends : (w : World) (m : ℕ) (r : Refusal) → is_no_frame_reply (Scalar (Refused r)) ≡ false → Spends (in_memory w m) (refuses (in_memory w m) r) 0
 refused_spends w m r quiet = spends_none (in_memory w m) (refuses (in_memory w m) r) quiet (omega arith)
 
 -- ---- frames of a process that is changed or gone
@@ -113,7 +114,7 @@ frees v s p e =
     (omega (arith, before, fewer, old, now)) (omega (arith, sums)))
 
 -- no region has too few frames
-pub quiet_rule : (p : Process) (kind : Access) (address width : ℕ) (r : Rule) → first_rule p.scheme (regions p) kind address width ≡ Some r → is_no_frame_reply (Ended r) ≡ false
+pub quiet_rule : (p : Process) (kind : Access) (address width : ℕ) (r : Rule) → first_rule p.scheme (regions p) kind address width ≡ Some r → is_no_frame_reply (Scalar (Ended r)) ≡ false
 quiet_rule p kind address width rule.NoFrame e = absurd ((answered_is_first p.scheme (regions p) kind address width rule.NoFrame e).denies)
 quiet_rule p kind address width rule.Misaligned e = refl
 quiet_rule p kind address width rule.BeyondMax e = refl
@@ -130,13 +131,13 @@ module _ (w : World) (new : HasNewCopies w) where
   abbrev at : ℕ → World
   at m = in_memory w m
 
-  abbrev pub Each : (World → Outcome) → Type 0
+  abbrev pub Each : (World → StepOutcome) → Type 0
   Each f = InEach Spends w (refused_spends w) f
 
   new_at : (m : ℕ) → HasNewCopies (at m)
   new_at m = record { below = new.below; once = new.once }
 
-  pub spends_refused : (r : Refusal) → is_no_frame_reply (Refused r) ≡ false → Each (λ u. refuses u r)
+  pub spends_refused : (r : Refusal) → is_no_frame_reply (Scalar (Refused r)) ≡ false → Each (λ u. refuses u r)
   unfolding InEach
   spends_refused r quiet = (0, λ m. refused_spends w m r quiet)
 
@@ -175,7 +176,7 @@ module _ (w : World) (new : HasNewCopies w) where
     abbrev page : ℕ
     page = page_of a.address
 
-    abbrev serves_it : World → Result Progress Rule → Outcome
+    abbrev serves_it : World → Result Progress Rule → StepOutcome
     serves_it u r = served_or_ended u h hart s p a r
 
     abbrev need : ℕ
@@ -216,7 +217,7 @@ module _ (w : World) (new : HasNewCopies w) where
     rule_takes : (o : Option Rule) → first_rule p.scheme (regions p) a.access a.address a.width ≡ o → Each (λ u. serves_it u (resident_at_address (environment_of u s) a.access a.address (initial_progress u p) o))
     unfolding InEach
     rule_takes None e = page_takes
-    rule_takes (Some r) e = (0, λ m. spends_none (at m) (ended (at m) h hart s p (Ended r)) (quiet_rule p a.access a.address a.width r e) (frees (at m) s p lives))
+    rule_takes (Some r) e = (0, λ m. spends_none (at m) (ended (at m) h hart s p (Scalar (Ended r))) (quiet_rule p a.access a.address a.width r e) (frees (at m) s p lives))
 
   serve_takes : (h : ℕ) (hart : Hart) (s : ℕ) (p : Process) (o : Option Pending) → process_in w s ≡ Some p → Each (λ u. served u h hart s p o)
   unfolding InEach

@@ -22,7 +22,7 @@ use Rattle.process_model.specs.Mappings.{mapping_place, map_refusal, mapping_of,
 use Rattle.process_model.specs.Images.{LoadSegment, image_loads}
 use Rattle.process_model.specs.ImageProcess.{image_pages, process_of}
 use Rattle.process_model.specs.Harts.{Hart}
-use Rattle.process_model.specs.World.{World, Outcome, flat, process_in, with_process, booted, common_refusal, unless_refused, on_hart_at, on_hart, with_process_of, with_slot_of, with_its_process, kernel_call, can_call, always}
+use Rattle.process_model.specs.World.{World, StepOutcome, flat, process_in, with_process, booted, common_refusal, unless_refused, on_hart_at, on_hart, with_process_of, with_slot_of, with_its_process, kernel_call, can_call, always}
 use Rattle.process_model.specs.Environment.{Environment, Progress, unless_dry, unless_resident, resident_at, resident_at_address}
 use Rattle.process_model.specs.Service.{Answer, AccessRequest, access_step, environment_of, initial_progress, faulted, if_resident, if_settled, access_outcome_if, unless_denied, user_access, ended, served_or_ended, served, with_progress, with_served}
 use Rattle.process_model.specs.Copies.{Copied, copy_begun, with_byte_on, one_in, next_in, one_out, next_out, copied_in, copied_out}
@@ -41,9 +41,10 @@ use Rattle.process_model.specs.declared.config.Policy.TheVariants.{Full, Asid}
 use Rattle.process_model.specs.declared.phase.Phase.{Phase}
 use Rattle.process_model.specs.declared.image.BadImage.{BadImage}
 use Rattle.process_model.specs.declared.image.Image.{Image}
-use Rattle.process_model.specs.declared.step.Refusal.{Refusal}
-use Rattle.process_model.specs.declared.step.Reply.{Reply}
-use Rattle.process_model.specs.declared.step.Reply.TheVariants.{Ended, Exited}
+use Rattle.process_model.specs.declared.reply.Refusal.{Refusal}
+use Rattle.process_model.specs.declared.reply.Reply.{Reply}
+use Rattle.process_model.specs.declared.reply.ScalarReply.TheVariants.{Ended, Exited}
+use Rattle.process_model.specs.declared.reply.Reply.TheVariants.{Scalar}
 use Rattle.process_model.specs.declared.step.Step.{Step}
 use Rattle.process_model.specs.declared.step.Step.TheVariants.{Start, Switch, Trap, Next, Fill, Evict, Fetch, Load as load_step, Store, TrampolineFetch, Serve, Fork, Exec, Sbrk, Mmap, Munmap, CopyIn, CopyOut, Exit}
 
@@ -318,34 +319,34 @@ module _ (P : ℕ → Process → Type 0) where
       progress_holds s g i = put_holds w _ s g.process refl i.rises i.keeps h
 
       -- steps on a hart
-      unless_refused_holds : (run : Hart → Outcome) (hart : Hart) (r : Option Refusal) → (r ≡ None → Holds (run hart).world) → Holds (unless_refused w run hart r).world
+      unless_refused_holds : (run : Hart → StepOutcome) (hart : Hart) (r : Option Refusal) → (r ≡ None → Holds (run hart).world) → Holds (unless_refused w run hart r).world
       unless_refused_holds run hart (Some r) f = h
       unless_refused_holds run hart None f = f refl
 
-      hart_holds : (proper : Bool) (possible entry : Hart → Bool) (run : Hart → Outcome) (o : Option Hart) → ((hart : Hart) → proper ≡ true → Holds (run hart).world)
+      hart_holds : (proper : Bool) (possible entry : Hart → Bool) (run : Hart → StepOutcome) (o : Option Hart) → ((hart : Hart) → proper ≡ true → Holds (run hart).world)
           → Holds (on_hart_at w proper possible entry run o).world
       hart_holds proper possible entry run None f = h
       hart_holds proper possible entry run (Some hart) f = unless_refused_holds run hart _ (λ e. f hart (proper_of hart proper possible entry e))
 
-      on_hart_holds : (number : ℕ) (proper : Bool) (possible entry : Hart → Bool) (run : Hart → Outcome) → ((hart : Hart) → proper ≡ true → Holds (run hart).world)
+      on_hart_holds : (number : ℕ) (proper : Bool) (possible entry : Hart → Bool) (run : Hart → StepOutcome) → ((hart : Hart) → proper ≡ true → Holds (run hart).world)
           → Holds (on_hart w number proper possible entry run).world
       unfolding on_hart
       on_hart_holds number proper possible entry run f = hart_holds proper possible entry run _ f
 
-      process_holds : (phase : Phase) (s : ℕ) (run : ℕ → Process → Outcome) (o : Option Process) → process_in w s ≡ o → ((p : Process) → P w.counter p → Holds (run s p).world)
+      process_holds : (phase : Phase) (s : ℕ) (run : ℕ → Process → StepOutcome) (o : Option Process) → process_in w s ≡ o → ((p : Process) → P w.counter p → Holds (run s p).world)
           → Holds (with_process_of w phase run s o).world
       process_holds phase s run None e f = h
       process_holds phase s run (Some p) e f = f p (h.each s p e)
 
-      slot_holds : (phase : Phase) (run : ℕ → Process → Outcome) (o : Option ℕ) → ((s : ℕ) (p : Process) → P w.counter p → Holds (run s p).world) → Holds (with_slot_of w phase run o).world
+      slot_holds : (phase : Phase) (run : ℕ → Process → StepOutcome) (o : Option ℕ) → ((s : ℕ) (p : Process) → P w.counter p → Holds (run s p).world) → Holds (with_slot_of w phase run o).world
       slot_holds phase run None f = h
       slot_holds phase run (Some s) f = process_holds phase s run _ refl (f s)
 
-      its_holds : (hart : Hart) (run : ℕ → Process → Outcome) → ((s : ℕ) (p : Process) → P w.counter p → Holds (run s p).world) → Holds (with_its_process w hart run).world
+      its_holds : (hart : Hart) (run : ℕ → Process → StepOutcome) → ((s : ℕ) (p : Process) → P w.counter p → Holds (run s p).world) → Holds (with_its_process w hart run).world
       unfolding with_its_process
       its_holds hart run f = slot_holds hart.phase run hart.slot f
 
-      kernel_holds : (number : ℕ) (proper : Bool) (run : Hart → ℕ → Process → Outcome) → ((hart : Hart) (s : ℕ) (p : Process) → P w.counter p → Holds (run hart s p).world)
+      kernel_holds : (number : ℕ) (proper : Bool) (run : Hart → ℕ → Process → StepOutcome) → ((hart : Hart) (s : ℕ) (p : Process) → P w.counter p → Holds (run hart s p).world)
           → Holds (kernel_call w number proper run).world
       kernel_holds number proper run f = on_hart_holds number proper (can_call w) always _ (λ hart e. its_holds hart (run hart) (f hart))
 
@@ -407,7 +408,7 @@ module _ (P : ℕ → Process → Type 0) where
       ended_holds number hart s p reply = end_holds w _ s refl refl h
 
       served_or_ended_holds : (number : ℕ) (hart : Hart) (s : ℕ) (p : Process) (a : Pending) (r : Result Progress Rule) → GoesIfOk w.counter r → Holds (served_or_ended w number hart s p a r).world
-      served_or_ended_holds number hart s p a (Err r) stopped = ended_holds number hart s p (Ended r)
+      served_or_ended_holds number hart s p a (Err r) stopped = ended_holds number hart s p (Scalar (Ended r))
       served_or_ended_holds number hart s p a (Ok g) (went i) = progress_holds s (with_served g a) (record { keeps = k.awaiting g.fresh g.process _ i.keeps; rises = i.rises })
 
       begun_goes : (p : Process) → P w.counter p → Goes w.counter (initial_progress w p)
@@ -438,9 +439,9 @@ module _ (P : ℕ → Process → Type 0) where
     plain_holds w same h (Munmap n address len) = kernel_holds w same h n _ _ (λ hart s p f. unmapped_holds w same h s p f address len _ refl)
     plain_holds w same h (CopyIn n address count) = kernel_holds w same h n _ _ (λ hart s p f. progress_holds w same h s _ (copied_in_goes (environment_of w s) w.counter (initial_progress w (without_pending p)) address count (begun_goes w same h (without_pending p) (k.awaiting w.counter p None f))))
     plain_holds w same h (CopyOut n address bytes) = kernel_holds w same h n _ _ (λ hart s p f. progress_holds w same h s _ (copied_out_goes (environment_of w s) w.counter (initial_progress w (without_pending p)) address bytes.now (begun_goes w same h (without_pending p) (k.awaiting w.counter p None f))))
-    plain_holds w same h (Exit n status) = kernel_holds w same h n _ _ (λ hart s p f. ended_holds w same h n hart s p (Exited status))
+    plain_holds w same h (Exit n status) = kernel_holds w same h n _ _ (λ hart s p f. ended_holds w same h n hart s p (Scalar (Exited status)))
 
-    marks_hold : (policy : Policy) (w : World) (o : Outcome) → Holds o.world → Holds (with_stale_slots policy w o).world
+    marks_hold : (policy : Policy) (w : World) (o : StepOutcome) → Holds o.world → Holds (with_stale_slots policy w o).world
     marks_hold Full w o h = h
     marks_hold Asid w o h = same_slots o.world _ refl refl h
 

@@ -1,6 +1,5 @@
--- Lemma: a user access that is made (not refused) but not granted, or whose page is not resident (in memory and ready for
--- it), faults with its own cause, and leaves the process waiting for service and its hart at the first instruction of kernel
--- entry.
+-- Lemma: a user access that is made (not refused) but not granted, or whose page is not resident, faults with its own cause,
+-- and leaves the process waiting for service and its hart at the first instruction of kernel entry.
 use Rattle.std.proofs.Common.{◌≡◌, ℕ, Bool, true, false, cond, ◌%◌, refl, sym, ap, subst, ◌∙◌, Option, None, Some}
 use Rattle.std.proofs.lemmas.Bool.{eq-eqb, eqb-true}
 use Rattle.std.proofs.lemmas.Option.{same_Some}
@@ -19,9 +18,10 @@ use Rattle.process_model.specs.Residence.{can_complete, is_resident, is_resident
 use Rattle.process_model.specs.Service.{access_step, faulted, if_resident, if_settled, access_outcome, unless_denied, user_access}
 use Rattle.process_model.specs.Service as service
 use Rattle.process_model.specs.Steps.{plain_step, step}
-use Rattle.process_model.specs.World.{Outcome, process_in, with_process, World}
+use Rattle.process_model.specs.World.{StepOutcome, process_in, with_process, World}
 use Rattle.process_model.specs.declared.phase.Phase.TheVariants.{Enter0}
-use Rattle.process_model.specs.declared.step.Reply.TheVariants.{Fault}
+use Rattle.process_model.specs.declared.reply.ScalarReply.TheVariants.{Fault}
+use Rattle.process_model.specs.declared.reply.Reply.TheVariants.{Scalar}
 use Rattle.process_model.specs.declared.step.Step.{Step}
 use Rattle.sv39_entry.specs.Address.{page_of}
 use Rattle.sv39_entry.specs.Causes.{misaligned_cause, page_fault_cause}
@@ -92,21 +92,21 @@ module _ (p : Process) (kind : Access) (address width value : ℕ) where
 -- what the world is then
 
 abbrev Faulted : World → ℕ → ℕ → Process → UserAccess → Step → Type 0
-Faulted w h s p a x = ((step w x).reply ≡ Fault (cause a)) × IsOnHart (step w x).world h s (with_pending_access p a) × IsInPhase (step w x).world h Enter0
+Faulted w h s p a x = ((step w x).reply ≡ Scalar (Fault (cause a))) × IsOnHart (step w x).world h s (with_pending_access p a) × IsInPhase (step w x).world h Enter0
 
 module _ (w : World) (h s : ℕ) (p : Process) (on : IsOnHart w h s p) (x : Step) where
   faults_as : (kind : Access) (address width value : ℕ) (via : Option ℕ) → plain_step w x ≡ access_step w h kind address width value via → IsMade (plain_step w x).reply
       → let a : UserAccess = record { access = kind; address = address; width = width } in (IsGranted p a → IsResident p a → ⊥) → Faulted w h s p a x
   faults_as kind address width value via same made not =
       let a : UserAccess = record { access = kind; address = address; width = width } in
-      let r = user_ran w h s p kind address width value via on (subst (λ (o : Outcome). IsMade o.reply) same made) in
+      let r = user_ran w h s p kind address width value via on (subst (λ (o : StepOutcome). IsMade o.reply) same made) in
       let hart : Hart = record r.hart { phase = Enter0 } in
       let v : World = with_process w s (with_pending_access p a) in
       let is : plain_step w x ≡ access_outcome w h r.hart s (faulted p (asks kind address width value) (cause a)) = same ∙ r.is ∙ ap (access_outcome w h r.hart s) (faults_user p kind address width value not) in
       let at : At (access_outcome w h r.hart s (faulted p (asks kind address width value) (cause a))).world h hart.slot Enter0 = put_at v h r.hart hart r.there in
-      let there = step_at w x h hart.slot Enter0 (subst (λ (o : Outcome). At o.world h hart.slot Enter0) (sym is) at) in
-      let lives : process_in (step w x).world s ≡ Some (with_pending_access p a) = step_process w x s ∙ ap (λ (o : Outcome). process_in o.world s) is ∙ set_lives w.slots s p (with_pending_access p a) on.lives in
-      (step_reply w x ∙ ap (λ (o : Outcome). o.reply) is, record { there = there.on ∙ has_it w h s r.hart on.there r.there; lives = lives }, there.is_in)
+      let there = step_at w x h hart.slot Enter0 (subst (λ (o : StepOutcome). At o.world h hart.slot Enter0) (sym is) at) in
+      let lives : process_in (step w x).world s ≡ Some (with_pending_access p a) = step_process w x s ∙ ap (λ (o : StepOutcome). process_in o.world s) is ∙ set_lives w.slots s p (with_pending_access p a) on.lives in
+      (step_reply w x ∙ ap (λ (o : StepOutcome). o.reply) is, record { there = there.on ∙ has_it w h s r.hart on.there r.there; lives = lives }, there.is_in)
 
 faults_plain : (w : World) (h s : ℕ) (p : Process) (a : UserAccess) (via : Option ℕ) (x : Step) → IsOnHart w h s p → IsAccessStep h via a x → IsMade (plain_step w x).reply → (IsGranted p a → IsResident p a → ⊥) → Faulted w h s p a x
 faults_plain w h s p a via x on (IsAccessStep.fetch {address}) made not = faults_as w h s p on x access.Fetch address 4 0 via refl made not
@@ -114,5 +114,5 @@ faults_plain w h s p a via x on (IsAccessStep.load {address} {width}) made not =
 faults_plain w h s p a via x on (IsAccessStep.store {address} {width} {value}) made not = faults_as w h s p on x access.Store address width value via refl made not
 
 pub faults : (w : World) (h s : ℕ) (p : Process) (a : UserAccess) (via : Option ℕ) (x : Step) → IsOnHart w h s p → IsAccessStep h via a x → IsMade (step w x).reply → (IsGranted p a → IsResident p a → ⊥)
-    → ((step w x).reply ≡ Fault (cause a)) × IsOnHart (step w x).world h s (with_pending_access p a) × IsInPhase (step w x).world h Enter0
+    → ((step w x).reply ≡ Scalar (Fault (cause a))) × IsOnHart (step w x).world h s (with_pending_access p a) × IsInPhase (step w x).world h Enter0
 faults w h s p a via x on asked made not = faults_plain w h s p a via x on asked (was_made w x made) not

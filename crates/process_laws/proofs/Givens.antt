@@ -22,7 +22,7 @@ use Rattle.process_model.specs.Process.{heap_of, Page, Process}
 use Rattle.process_model.specs.RegionRows.{row_up}
 use Rattle.process_model.specs.Regions.{end_of, file, guard, heap, holds_page, image, Region, region_at, segment, stack, zeros}
 use Rattle.process_model.specs.World.{is_unserved_access}
-use Rattle.process_model.specs.declared.step.Refusal.TheVariants.{BadSize, NoRoom}
+use Rattle.process_model.specs.declared.reply.Refusal.TheVariants.{BadSize, NoRoom}
 use Rattle.sv39_entry.specs.Address.{page_of}
 use Rattle.sv39_entry.specs.declared.scheme.Scheme.{Scheme}
 use Rattle.sv39_entry.specs.Schemes.{trapframe_page}

@@ -1,6 +1,6 @@
--- Lemmas about the way of a process: a start puts the image's process in the lowest free slot (place in the process table);
--- a switch puts a process on a hart or takes it off; `Next` is one instruction in the trampoline; a trap enters the kernel.
--- Each says which slot and which phase the hart has then.
+-- Lemmas about the way of a process: a start puts the image's process in the lowest free slot; a switch puts a process on a
+-- hart or takes it off; `Next` is one instruction in the trampoline; a trap enters the kernel. Each says which slot and which
+-- phase the hart has then.
 use Rattle.std.proofs.Common.{◌≡◌, ◌≢◌, ◌⊎◌, ◌==◌, ℕ, zero, suc, Bool, true, false, ◌&&◌, inl, inr, refl, sym, ap, subst, ◌∙◌, arith, List, [], ◌∷◌, Option, None, Some, pos}
 use Rattle.std.specs.Prelude.{Err, Ok, option_map, Result, slice_get, slice_set, unwrap_or}
 use Rattle.std.specs.List.{list_any}
@@ -20,15 +20,16 @@ use Rattle.process_model.specs.ImageProcess.{process_of}
 use Rattle.process_model.specs.Process.{Process, without_pending}
 use Rattle.process_model.specs.Stale.{changed_slots, with_stale, with_stale_slots}
 use Rattle.process_model.specs.Steps.{advanced, plain_step, step}
-use Rattle.process_model.specs.World.{always, answers, can_go_on, can_run, free_slot, has_slot, is_unserved_access, Outcome, process_in, with_hart, with_its_process, with_process, World}
+use Rattle.process_model.specs.World.{always, answers, can_go_on, can_run, free_slot, has_slot, is_unserved_access, StepOutcome, process_in, with_hart, with_its_process, with_process, World}
 use Rattle.process_model.specs.declared.config.Policy.{Policy}
 use Rattle.process_model.specs.declared.config.Policy.TheVariants.{Full, Asid}
 use Rattle.process_model.specs.declared.image.BadImage.{BadImage}
 use Rattle.process_model.specs.declared.image.Image.{Image}
 use Rattle.process_model.specs.declared.phase.Phase.{Phase}
 use Rattle.process_model.specs.declared.phase.Phase.TheVariants.{Idle, User, Enter0, Enter1, Enter2, Kernel, Leave1, Leave2}
-use Rattle.process_model.specs.declared.step.Reply.{Reply}
-use Rattle.process_model.specs.declared.step.Reply.TheVariants.{Done, Started}
+use Rattle.process_model.specs.declared.reply.Reply.{Reply}
+use Rattle.process_model.specs.declared.reply.ScalarReply.TheVariants.{Done, Started}
+use Rattle.process_model.specs.declared.reply.Reply.TheVariants.{Scalar}
 use Rattle.process_model.specs.declared.step.Step.{Step}
 use Rattle.process_model.specs.declared.step.Step.TheVariants.{Next, Start, Switch, Trap}
 
@@ -73,7 +74,7 @@ pub record At (w : World) (h : ℕ) (slot : Option ℕ) (phase : Phase) : Type 0
   pub is_in : IsInPhase w h phase
 
 -- marks change neither
-marks_at : (policy : Policy) (w : World) (o : Outcome) (h : ℕ) (slot : Option ℕ) (phase : Phase) → At o.world h slot phase → At (with_stale_slots policy w o).world h slot phase
+marks_at : (policy : Policy) (w : World) (o : StepOutcome) (h : ℕ) (slot : Option ℕ) (phase : Phase) → At o.world h slot phase → At (with_stale_slots policy w o).world h slot phase
 marks_at Full w o h slot phase a = a
 marks_at Asid w o h slot phase a =
     let f = with_stale (changed_slots 0 w.slots (o.world).slots) in
@@ -117,8 +118,8 @@ next_goes w h s p phase after on in_phase next quiet =
     let goes = hart_runs w h true (can_go_on w) always (advanced w h) k.hart k.there refl can refl in
     let hart = record (fenced w.policy k.hart) { phase = unwrap_or (next_phase k.hart.phase) k.hart.phase } in
     let at : At (with_hart w h hart) h hart.slot hart.phase = put_at w h k.hart hart k.there in
-    let there = step_at w (Next h) h hart.slot hart.phase (subst (λ (o : Outcome). At o.world h hart.slot hart.phase) (sym goes) at) in
-    let lives : process_in (step w (Next h)).world s ≡ Some p = step_process w (Next h) s ∙ ap (λ (o : Outcome). process_in o.world s) goes ∙ on.lives in
+    let there = step_at w (Next h) h hart.slot hart.phase (subst (λ (o : StepOutcome). At o.world h hart.slot hart.phase) (sym goes) at) in
+    let lives : process_in (step w (Next h)).world s ≡ Some p = step_process w (Next h) s ∙ ap (λ (o : StepOutcome). process_in o.world s) goes ∙ on.lives in
     let moved : hart.phase ≡ after = rw (k.in_phase, next) refl in
     (record { there = there.on ∙ fenced_slot w.policy k.hart ∙ runs; lives = lives }, there.is_in ∙ ap Some moved)
 
@@ -148,10 +149,10 @@ switch_goes w h s p lives apart phase = by phase
         let k = stands w h from in_phase in
         let can : (may_switch k.hart.phase && can_run w (Some s)) ≡ true = rw (k.in_phase, may, runs_on) refl in
         let hart = record k.hart { phase = Kernel; slot = Some s } in
-        let goes = hart_runs w h true (λ hart. may_switch hart.phase && can_run w (Some s)) always (λ hart. answers (with_hart w h (record hart { phase = phase_for (Some s); slot = Some s })) Done) k.hart k.there refl can refl in
+        let goes = hart_runs w h true (λ hart. may_switch hart.phase && can_run w (Some s)) always (λ hart. answers (with_hart w h (record hart { phase = phase_for (Some s); slot = Some s })) (Scalar Done)) k.hart k.there refl can refl in
         let at : At (with_hart w h hart) h (Some s) Kernel = put_at w h k.hart hart k.there in
-        let there = step_at w (Switch h (Some s)) h (Some s) Kernel (subst (λ (o : Outcome). At o.world h (Some s) Kernel) (sym goes) at) in
-        let alive : process_in (step w (Switch h (Some s))).world s ≡ Some p = step_process w (Switch h (Some s)) s ∙ ap (λ (o : Outcome). process_in o.world s) goes ∙ lives in
+        let there = step_at w (Switch h (Some s)) h (Some s) Kernel (subst (λ (o : StepOutcome). At o.world h (Some s) Kernel) (sym goes) at) in
+        let alive : process_in (step w (Switch h (Some s))).world s ≡ Some p = step_process w (Switch h (Some s)) s ∙ ap (λ (o : StepOutcome). process_in o.world s) goes ∙ lives in
         (record { there = there.on; lives = alive }, there.is_in)
 
     by : IsInPhase w h Idle ⊎ IsInPhase w h Kernel → IsOnHart (step w (Switch h (Some s))).world h s p × IsInPhase (step w (Switch h (Some s))).world h Kernel
@@ -164,11 +165,11 @@ pub trap_goes : (w : World) (h s : ℕ) (p : Process) → IsOnHart w h s p → I
 trap_goes w h s p on user =
     let k = stands w h User user in
     let runs = has_it w h s k.hart on.there k.there in
-    let run = λ (hart : Hart) (s : ℕ) (p : Process). answers (with_hart (with_process w s (without_pending p)) h (record hart { phase = Enter0 })) Done in
+    let run = λ (hart : Hart) (s : ℕ) (p : Process). answers (with_hart (with_process w s (without_pending p)) h (record hart { phase = Enter0 })) (Scalar Done) in
     let goes = hart_runs w h true (λ hart. is_user hart.phase) always (λ hart. with_its_process w hart (run hart)) k.hart k.there refl (ap is_user k.in_phase) refl ∙ process_runs w k.hart (run k.hart) s p runs on.lives in
     let hart = record k.hart { phase = Enter0 } in
     let at : At (with_hart (with_process w s (without_pending p)) h hart) h hart.slot Enter0 = put_at (with_process w s (without_pending p)) h k.hart hart k.there in
-    let there = step_at w (Trap h) h hart.slot Enter0 (subst (λ (o : Outcome). At o.world h hart.slot Enter0) (sym goes) at) in
+    let there = step_at w (Trap h) h hart.slot Enter0 (subst (λ (o : StepOutcome). At o.world h hart.slot Enter0) (sym goes) at) in
     (there.on ∙ runs, there.is_in)
 
 -- ---- a start
@@ -180,7 +181,7 @@ module _ (w : World) (image : Image) where
   put : (s : ℕ) (ls : List LoadSegment) → free_slot w ≡ Some s → Puts w s (Some (process_of w.scheme w.counter ls)) (with_image w s ls)
   put s ls free = set_puts w (with_image w s ls) s (Some (process_of w.scheme w.counter ls)) (let room = free_there w.slots 0 s free in omega (arith, room)) refl
 
-  module _ (v : World) (r : Reply) (s : ℕ) (told : r ≡ Started s) where
+  module _ (v : World) (r : Reply) (s : ℕ) (told : r ≡ Scalar (Started s)) where
     begins : (ls : List LoadSegment) → image_loads w.scheme image ≡ Ok ls → Begins (record { before = w; step = Start image; reply = r; after = v }) (process_of w.scheme w.counter ls)
     begins ls loads = record {
       grants = λ page. image_given w.scheme w.counter ls page ∙ ap (λ l. image_grant l page) (sym loads);
@@ -190,20 +191,20 @@ module _ (w : World) (image : Image) where
       base = image_based w.scheme w.counter ls;
     }
 
-    unless : (t : ℕ) (ls : List LoadSegment) (b : Bool) → free_slot w ≡ Some t → image_loads w.scheme image ≡ Ok ls → (started_unless w t ls b).reply ≡ Started s → ((n : ℕ) → process_in v n ≡ process_in (started_unless w t ls b).world n) → Starts w image s r v
+    unless : (t : ℕ) (ls : List LoadSegment) (b : Bool) → free_slot w ≡ Some t → image_loads w.scheme image ≡ Ok ls → (started_unless w t ls b).reply ≡ Scalar (Started s) → ((n : ℕ) → process_in v n ≡ process_in (started_unless w t ls b).world n) → Starts w image s r v
     unless t ls true free loads e there = absurd cc
     unless t ls false free loads e there =
         let same : t ≡ s = cc in
         (free ∙ ap Some same, process_of w.scheme w.counter ls, ap (process_in v) (sym same) ∙ there t ∙ (put t ls free).here, begins ls loads)
 
-    judged : (t : ℕ) (l : Result (List LoadSegment) BadImage) → free_slot w ≡ Some t → image_loads w.scheme image ≡ l → (started_as w t l).reply ≡ Started s → ((n : ℕ) → process_in v n ≡ process_in (started_as w t l).world n) → Starts w image s r v
+    judged : (t : ℕ) (l : Result (List LoadSegment) BadImage) → free_slot w ≡ Some t → image_loads w.scheme image ≡ l → (started_as w t l).reply ≡ Scalar (Started s) → ((n : ℕ) → process_in v n ≡ process_in (started_as w t l).world n) → Starts w image s r v
     judged t (Err b) free loads e there = absurd cc
     judged t (Ok ls) free loads e there = unless t ls _ free loads e there
 
-    in_slot : (o : Option ℕ) → free_slot w ≡ o → (started w (image_loads w.scheme image) o).reply ≡ Started s → ((n : ℕ) → process_in v n ≡ process_in (started w (image_loads w.scheme image) o).world n) → Starts w image s r v
+    in_slot : (o : Option ℕ) → free_slot w ≡ o → (started w (image_loads w.scheme image) o).reply ≡ Scalar (Started s) → ((n : ℕ) → process_in v n ≡ process_in (started w (image_loads w.scheme image) o).world n) → Starts w image s r v
     in_slot None free e there = absurd cc
     in_slot (Some t) free e there = judged t _ free refl e there
 
   -- the process that it brings
-  pub start_brings : (s : ℕ) → (step w (Start image)).reply ≡ Started s → Starts w image s (step w (Start image)).reply (step w (Start image)).world
+  pub start_brings : (s : ℕ) → (step w (Start image)).reply ≡ Scalar (Started s) → Starts w image s (step w (Start image)).reply (step w (Start image)).world
   start_brings s e = in_slot (step w (Start image)).world (step w (Start image)).reply s e (free_slot w) refl (sym (step_reply w (Start image)) ∙ e) (step_process w (Start image))

@@ -1,5 +1,5 @@
--- `Granted`: the regions of a process are in order, and each of its settled pages (in memory) has a grant. Lemma: every
--- process has this in every run since boot.
+-- `Granted`: the regions of a process are in order, and each of its settled pages has a grant. Lemma: every process has this
+-- in every run since boot.
 use Rattle.std.proofs.Common.{◌≡◌, ℕ, ℤ, Bool, true, false, cond, ◌||◌, ◌+◌, ◌++◌, ◌≤◌, ◌*◌, ◌%◌, inl, inr, refl, sym, ap, ◌∙◌, arith, List, [], ◌∷◌, None, Some}
 use Rattle.std.specs.Prelude.{nat_abs, nat_lt}
 use Rattle.std.proofs.lemmas.Bool.Decides.{nat_tests}

@@ -12,35 +12,37 @@ use Rattle.process_laws.proofs.Users.{told_reply}
 use Rattle.process_laws.specs.CallReplies.{has_refusals, refusal_on}
 use Rattle.process_laws.specs.Words.{hart_of, hart_of_step, IsMade, IsOnHart, keys_after, keys_on}
 use Rattle.process_model.specs.Copies.{copied_in, copied_out}
-use Rattle.process_model.specs.Harts.{buffer_size, Hart, is_kernel, Key, present_asid, with_key}
+use Rattle.process_model.specs.Harts.{Hart, is_kernel, Key, present_asid, with_key}
 use Rattle.process_model.specs.Process.{Pending, Process, regions, without_pending}
 use Rattle.process_model.specs.Regions.{first_rule}
 use Rattle.process_model.specs.Service.{access_outcome, AccessRequest, environment_of, initial_progress, is_fault, served, user_access}
 use Rattle.process_model.specs.Environment.{resident_at_address}
 use Rattle.process_model.specs.Steps.{filled, plain_step, step}
-use Rattle.process_model.specs.World.{always, awaits_service, common_refusal, is_unserved, is_unserved_access, on_hart, on_hart_at, Outcome, process_of_slot, unless_refused, with_its_process, World}
-use Rattle.process_model.specs.declared.step.Refusal.{Refusal}
-use Rattle.process_model.specs.declared.step.Refusal.TheVariants.{BadArgument}
-use Rattle.process_model.specs.declared.step.Reply.TheVariants.{Filled, Refused}
+use Rattle.process_model.specs.World.{always, awaits_service, common_refusal, is_unserved, is_unserved_access, on_hart, on_hart_at, StepOutcome, process_of_slot, unless_refused, with_its_process, World}
+use Rattle.process_model.specs.declared.reply.Refusal.{Refusal}
+use Rattle.process_model.specs.declared.reply.Refusal.TheVariants.{BadArgument}
+use Rattle.process_model.specs.declared.reply.ScalarReply.TheVariants.{Filled, Refused}
+use Rattle.process_model.specs.declared.reply.Reply.TheVariants.{Scalar}
 use Rattle.process_model.specs.declared.step.Step.{Step}
 use Rattle.process_model.specs.declared.step.Step.TheVariants as step_of
 use Rattle.sv39_entry.specs.Address.{page_of}
 use Rattle.sv39_entry.specs.declared.access.Access.{Access}
 use Rattle.sv39_entry.specs.declared.access.Access.TheVariants as access
+use Rattle.process_model.specs.declared.limits.TheConstants.{BUFFER_SIZE}
 
 module _ (w : World) where
   -- ---- the first refusal that applies
 
-  module _ (x : Step) (h : ℕ) (proper : Bool) (possible entry : Hart → Bool) (run : Hart → Outcome) (same : (hart : Hart) → refusal_on w x (Some hart) ≡ common_refusal hart proper possible entry) where
-    refused_by : (hart : Hart) (o : Option Refusal) (e : Refusal) → o ≡ Some e → (unless_refused w run hart o).reply ≡ Refused e
+  module _ (x : Step) (h : ℕ) (proper : Bool) (possible entry : Hart → Bool) (run : Hart → StepOutcome) (same : (hart : Hart) → refusal_on w x (Some hart) ≡ common_refusal hart proper possible entry) where
+    refused_by : (hart : Hart) (o : Option Refusal) (e : Refusal) → o ≡ Some e → (unless_refused w run hart o).reply ≡ Scalar (Refused e)
     refused_by hart None e is = absurd cc
-    refused_by hart (Some r) e is = ap Refused (same_Some r e is)
+    refused_by hart (Some r) e is = ap (λ x. Scalar (Refused x)) (same_Some r e is)
 
-    refused_at : (e : Refusal) (o : Option Hart) → refusal_on w x o ≡ Some e → (on_hart_at w proper possible entry run o).reply ≡ Refused e
-    refused_at e None is = ap Refused (same_Some BadArgument e is)
+    refused_at : (e : Refusal) (o : Option Hart) → refusal_on w x o ≡ Some e → (on_hart_at w proper possible entry run o).reply ≡ Scalar (Refused e)
+    refused_at e None is = ap (λ x. Scalar (Refused x)) (same_Some BadArgument e is)
     refused_at e (Some hart) is = refused_by hart (common_refusal hart proper possible entry) e (sym (same hart) ∙ is)
 
-    refused_on : (e : Refusal) → refusal_on w x (slice_get w.harts h) ≡ Some e → (on_hart w h proper possible entry run).reply ≡ Refused e
+    refused_on : (e : Refusal) → refusal_on w x (slice_get w.harts h) ≡ Some e → (on_hart w h proper possible entry run).reply ≡ Scalar (Refused e)
     unfolding on_hart
     refused_on e is = refused_at e (slice_get w.harts h) is
 
@@ -64,7 +66,7 @@ module _ (w : World) where
   at_hart : (x : Step) (e : Refusal) (k h : ℕ) → Some k ≡ Some h → Applies x e h → Applies x e k
   at_hart x e k h same is = subst (Applies x e) (sym (same_Some k h same)) is
 
-  plain_refused : (x : Step) (h : ℕ) (e : Refusal) → hart_of x ≡ Some h → Applies x e h → (plain_step w x).reply ≡ Refused e
+  plain_refused : (x : Step) (h : ℕ) (e : Refusal) → hart_of x ≡ Some h → Applies x e h → (plain_step w x).reply ≡ Scalar (Refused e)
   plain_refused (step_of.Start image) h e on is = absurd cc
   plain_refused (step_of.Switch k slot) h e on is = refused_on (step_of.Switch k slot) k _ _ _ _ (λ hart. refl) e (at_hart (step_of.Switch k slot) e k h on is)
   plain_refused (step_of.Trap k) h e on is = refused_on (step_of.Trap k) k _ _ _ _ (λ hart. refl) e (at_hart (step_of.Trap k) e k h on is)
@@ -85,7 +87,7 @@ module _ (w : World) where
   plain_refused (step_of.CopyOut k address bytes) h e on is = refused_on (step_of.CopyOut k address bytes) k _ _ _ _ (λ hart. refl) e (at_hart (step_of.CopyOut k address bytes) e k h on is)
   plain_refused (step_of.Exit k status) h e on is = refused_on (step_of.Exit k status) k _ _ _ _ (λ hart. refl) e (at_hart (step_of.Exit k status) e k h on is)
 
-  pub is_refused : (x : Step) (h : ℕ) (e : Refusal) → hart_of x ≡ Some h → Applies x e h → (step w x).reply ≡ Refused e
+  pub is_refused : (x : Step) (h : ℕ) (e : Refusal) → hart_of x ≡ Some h → Applies x e h → (step w x).reply ≡ Scalar (Refused e)
   is_refused x h e on is = step_reply w x ∙ plain_refused x h e on is
 
   -- ---- what is made
@@ -93,10 +95,10 @@ module _ (w : World) where
   abbrev Host : ℕ → Type 0
   Host n = (s : ℕ) × (p : Process) × IsOnHart w n s p
 
-  its_made : (k : ℕ) (hart : Hart) (run : ℕ → Process → Outcome) → slice_get w.harts k ≡ Some hart → Host k → ((s : ℕ) (p : Process) → IsOnHart w k s p → IsMade (run s p).reply) → IsMade (with_its_process w hart run).reply
+  its_made : (k : ℕ) (hart : Hart) (run : ℕ → Process → StepOutcome) → slice_get w.harts k ≡ Some hart → Host k → ((s : ℕ) (p : Process) → IsOnHart w k s p → IsMade (run s p).reply) → IsMade (with_its_process w hart run).reply
   its_made k hart run there host each =
       let on = host.2 in
-      same_made _ _ (ap (λ (o : Outcome). o.reply) (process_runs w hart run host.0 host.1 (has_it w k host.0 hart on.there there) on.lives)) (each host.0 host.1 on)
+      same_made _ _ (ap (λ (o : StepOutcome). o.reply) (process_runs w hart run host.0 host.1 (has_it w k host.0 hart on.there there) on.lives)) (each host.0 host.1 on)
 
   asked_made : (k : ℕ) (hart : Hart) (kind : Access) (address width value s : ℕ) (p : Process) → let a : AccessRequest = record { access = kind; address = address; width = width; value = value } in IsMade (access_outcome w k hart s (user_access p a)).reply
   asked_made k hart kind address width value s p =
@@ -144,15 +146,15 @@ module _ (w : World) where
 
 -- ---- the number that a fill replies
 
-pub fill_counts : (w : World) (h address n : ℕ) → (step w (step_of.Fill h address)).reply ≡ Filled n → option_map length (keys_on (step w (step_of.Fill h address)).world h) ≡ Some (n + 1)
+pub fill_counts : (w : World) (h address n : ℕ) → (step w (step_of.Fill h address)).reply ≡ Scalar (Filled n) → option_map length (keys_on (step w (step_of.Fill h address)).world h) ≡ Some (n + 1)
 fill_counts w h address n e =
     let x = step_of.Fill h address in
     let made : IsMade (step w x).reply = λ r f. absurd (let no = sym e ∙ f in cc) in
     let r = ran_on w h true always always (filled w h address) (was_made w x made) in
-    let older : List Key = if nat_lt (length (r.hart).keys) buffer_size then (r.hart).keys else drop 1 (r.hart).keys in
+    let older : List Key = if nat_lt (length (r.hart).keys) BUFFER_SIZE then (r.hart).keys else drop 1 (r.hart).keys in
     let key : Key = record { page = page_of address; asid = present_asid w.policy r.hart } in
     let keys = with_key (r.hart).keys key in
-    let told : Filled (length keys - 1) ≡ Filled n = ap (λ (o : Outcome). o.reply) (sym r.is) ∙ sym (step_reply w x) ∙ e in
+    let told : (Scalar (Filled (length keys - 1))) ≡ (Scalar (Filled n)) = ap (λ (o : StepOutcome). o.reply) (sym r.is) ∙ sym (step_reply w x) ∙ e in
     let number : length keys - 1 ≡ n = cc in
     let long : length keys ≡ length older + 1 = length-append older (key ∷ []) in
     let after : keys_on (step w x).world h ≡ Some keys = (step_keeps w x).buffers made h r.hart r.there ∙ ap (λ b. Some (if b then keys_after w.policy r.hart x else (r.hart).keys)) (eq-eqb h h refl) in

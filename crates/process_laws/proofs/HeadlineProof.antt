@@ -49,10 +49,11 @@ use Rattle.process_laws.specs.Words.{UserAccess, IsAccessStep, Begins, byte, cop
 use Rattle.process_model.specs.Files.{File}
 use Rattle.process_model.specs.Process.{Process, regions}
 use Rattle.process_model.specs.Steps.{plain_step, run, step}
-use Rattle.process_model.specs.World.{booted, free, Outcome, process_in, without_process, World}
+use Rattle.process_model.specs.World.{booted, free, StepOutcome, process_in, without_process, World}
 use Rattle.process_model.specs.declared.config.Config.{Config}
 use Rattle.process_model.specs.declared.phase.Phase.TheVariants.{Enter0, Idle, Kernel}
-use Rattle.process_model.specs.declared.step.Reply.TheVariants.{Done, Ended, Exited, Filled, Forked, InFrame, Ready, Started, Value}
+use Rattle.process_model.specs.declared.reply.ScalarReply.TheVariants.{Done, Ended, Exited, Filled, Forked, InFrame, Ready, Started, Value}
+use Rattle.process_model.specs.declared.reply.Reply.TheVariants.{Scalar}
 use Rattle.process_model.specs.declared.step.Step.{Step}
 use Rattle.process_model.specs.declared.step.Step.TheVariants.{CopyIn, CopyOut, Fork, Next, Store, Switch}
 use Rattle.sv39_entry.specs.Address.{page_of}
@@ -72,17 +73,17 @@ module _ (w : World) (x : Step) where
       apart = λ lives rule g f. granted_is_denied_by_none p.scheme (regions p) a.access a.address a.width rule (sound_grants p a (sound s p lives) g) f.denies;
       answered = λ t g resident. users.answers w sound h s p a t.via x t.on t.asks t.made g resident;
       faults = λ t not. faults w h s p a t.via x t.on t.asks t.made not;
-      served = λ t g. subst (λ (y : Step). (((step w y).reply ≡ Ready) × ((q : Process) → process_in (step w y).world s ≡ Some q → IsResident q a)) ⊎ ((step w y).reply ≡ Ended NoFrame)) (sym t.serves)
+      served = λ t g. subst (λ (y : Step). (((step w y).reply ≡ Scalar Ready) × ((q : Process) → process_in (step w y).world s ≡ Some q → IsResident q a)) ⊎ ((step w y).reply ≡ Scalar (Ended NoFrame))) (sym t.serves)
           (users.serves w sound h s p a t.on (subst (λ (y : Step). IsMade (step w y).reply) t.serves t.made) g);
-      ended = λ t not. subst (λ (y : Step). (rule : Rule) × ((step w y).reply ≡ Ended rule) × Forbids p a rule) (sym t.serves)
+      ended = λ t not. subst (λ (y : Step). (rule : Rule) × ((step w y).reply ≡ Scalar (Ended rule)) × Forbids p a rule) (sym t.serves)
           (ends w h s p a t.on (subst (λ (y : Step). IsMade (step w y).reply) t.serves t.made) not);
     }
 
     own_steps : (h s : ℕ) (p : Process) → IsOnHart w h s p → hart_of_step x ≡ Some h → ChangesOwn m h s p
     own_steps h s p on makes = by (owns w h s p on (sound s p on.lives) x makes) (own_files w h s p on (sound s p on.lives) (sized.pages s p on.lives) x makes) (own_written w h s p on (sound s p on.lives) (sized.pages s p on.lives) x makes)
       where
-        children : (t : ℕ) → x ≡ Fork h → (step w x).reply ≡ Forked t → (c : Process) × (process_in (step w x).world t ≡ Some c) × IsChild p c
-        children t is = subst (λ (y : Step). (step w y).reply ≡ Forked t → (c : Process) × (process_in (step w y).world t ≡ Some c) × IsChild p c) (sym is) (λ e. let k = child_is w h s p on t e in (k.1, k.2, k.3))
+        children : (t : ℕ) → x ≡ Fork h → (step w x).reply ≡ Scalar (Forked t) → (c : Process) × (process_in (step w x).world t ≡ Some c) × IsChild p c
+        children t is = subst (λ (y : Step). (step w y).reply ≡ Scalar (Forked t) → (c : Process) × (process_in (step w y).world t ≡ Some c) × IsChild p c) (sym is) (λ e. let k = child_is w h s p on t e in (k.1, k.2, k.3))
 
         by : Own w h s x p (step w x) → Written x p w.files ((step w x).world).files → (writes_back x (step w x).reply ≡ true → IsWritten x p w.files ((step w x).world).files) → ChangesOwn m h s p
         by (Own.alive q e lives k) written all = record {
@@ -129,7 +130,7 @@ module _ (w : World) (x : Step) where
         harts = keeps.harts;
         buffers = λ k hart made. keeps.buffers made k hart;
         stale = λ k t hart made. keeps.marks made k t hart;
-        filled = λ h address n is. subst (λ (y : Step). (step w y).reply ≡ Filled n → option_map length (keys_on (step w y).world h) ≡ Some (n + 1)) (sym is) (fill_counts w h address n);
+        filled = λ h address n is. subst (λ (y : Step). (step w y).reply ≡ Scalar (Filled n) → option_map length (keys_on (step w y).world h) ≡ Some (n + 1)) (sym is) (fill_counts w h address n);
         one_hart = one_after w x one;
         files = keeps.files;
         memory = (step_suits w x).memory;
@@ -162,13 +163,13 @@ module _ (w : World) (x : Step) where
   makes_steps : MakesSteps m
   makes_steps = record {
     replies = (step_suits w x).replies;
-    exited = λ h status code is. subst (λ (y : Step). (step w y).reply ≡ Exited code → code ≡ status) (sym is) (exit_tells w h status code);
-    in_frame = λ h offset n via is. subst (λ (y : Step). (step w y).reply ≡ InFrame n → n ≡ 0) (sym is) (fetch_tells w h offset n via);
+    exited = λ h status code is. subst (λ (y : Step). (step w y).reply ≡ Scalar (Exited code) → code ≡ status) (sym is) (exit_tells w h status code);
+    in_frame = λ h offset n via is. subst (λ (y : Step). (step w y).reply ≡ Scalar (InFrame n) → n ≡ 0) (sym is) (fetch_tells w h offset n via);
     refused = λ h e on applies. is_refused w x h e on applies;
     made = λ h on none own host. is_made w x h on none own host;
     hosted = λ h e made. step_hosted w h x e made;
     start = λ image is. subst (λ (y : Step). StartReply w image (step w y).reply) (sym is) (start_replies w image);
-    started = λ image s is. subst (λ (y : Step). (step w y).reply ≡ Started s → (p : Process) × (process_in (step w y).world s ≡ Some p) × Begins (moment_of w y) p) (sym is) (λ e. let k = start_brings w image s e in (k.1, k.2, k.3));
+    started = λ image s is. subst (λ (y : Step). (step w y).reply ≡ Scalar (Started s) → (p : Process) × (process_in (step w y).world s ≡ Some p) × Begins (moment_of w y) p) (sym is) (λ e. let k = start_brings w image s e in (k.1, k.2, k.3));
     switch = λ h s p is made lives. let goes = as_made (Switch h (Some s)) is made in subst (λ (y : Step). IsOnHart (step w y).world h s p × IsInPhase (step w y).world h Kernel) (sym is)
         (switch_goes w h s p lives (switch_was w h s goes).2 (switch_phase w h s goes));
     left = λ h is made. subst (λ (y : Step). (slot_on (step w y).world h ≡ None) × IsInPhase (step w y).world h Idle) (sym is) (switch_off w h (as_made (Switch h None) is made));
@@ -187,7 +188,7 @@ module _ (w : World) (x : Step) where
     counts_frames : CountsFrames m
     counts_frames = record {
       start = λ image s ls to loads is. subst (λ (y : Step). Spends w (step w y) (1 + frames_for_image w.scheme ls)) (sym is) (start_needs w (are_new w holds) image s ls to loads);
-      exec = λ h s p image ls on k loads is. subst (λ (y : Step). (is_no_frame_reply (step w y).reply ≡ nat_lt (free w) (frames_for_image w.scheme ls)) × ((step w y).reply ≡ Done → free (step w y).world + (1 + frames_for_image w.scheme ls) ≡ free (without_process w s))) (sym is)
+      exec = λ h s p image ls on k loads is. subst (λ (y : Step). (is_no_frame_reply (step w y).reply ≡ nat_lt (free w) (frames_for_image w.scheme ls)) × ((step w y).reply ≡ Scalar Done → free (step w y).world + (1 + frames_for_image w.scheme ls) ≡ free (without_process w s))) (sym is)
           (exec_needs w (are_new w holds) h s p on image ls k loads);
       fork = λ h s t p on k to is. subst (λ (y : Step). Spends w (step w y) (frames_for_child p)) (sym is) (fork_needs w (are_new w holds) h s p on t k to);
       serve = λ h s p a t g. subst (λ (y : Step). Spends w (step w y) (frames_for_page w s p a.access (page_of a.address))) (sym t.serves)
@@ -202,9 +203,9 @@ module _ (w : World) (x : Step) where
     holds_frames f later shares = record {
       once = one_copy m.after (are_new m.after later);
       shared = shared_page m.after shares;
-      started = λ image s p is. subst (λ (y : Step). (step w y).reply ≡ Started s → process_in (step w y).world s ≡ Some p → HasNewFrames w p) (sym is) (started_frames w (are_new w holds) s p image);
-      replaced = λ h s p q image on is. subst (λ (y : Step). (step w y).reply ≡ Done → process_in (step w y).world s ≡ Some q → HasNewFrames w q) (sym is) (replaced_frames w h s p on (lone_of w s p on.lives f) (are_new w holds) image q);
-      child = λ h s t p c on is. subst (λ (y : Step). (step w y).reply ≡ Forked t → process_in (step w y).world t ≡ Some c → SharesFrames p c) (sym is) (child_frames w h s p on (lone_of w s p on.lives f) t c);
+      started = λ image s p is. subst (λ (y : Step). (step w y).reply ≡ Scalar (Started s) → process_in (step w y).world s ≡ Some p → HasNewFrames w p) (sym is) (started_frames w (are_new w holds) s p image);
+      replaced = λ h s p q image on is. subst (λ (y : Step). (step w y).reply ≡ Scalar Done → process_in (step w y).world s ≡ Some q → HasNewFrames w q) (sym is) (replaced_frames w h s p on (lone_of w s p on.lives f) (are_new w holds) image q);
+      child = λ h s t p c on is. subst (λ (y : Step). (step w y).reply ≡ Scalar (Forked t) → process_in (step w y).world t ≡ Some c → SharesFrames p c) (sym is) (child_frames w h s p on (lone_of w s p on.lives f) t c);
       kept = λ h s p q on makes not there. kept_frames w h s p on (lone_of w s p on.lives f) (are_new w holds) x q makes not there;
     }
 
@@ -214,15 +215,15 @@ module _ (w : World) (x : Step) where
   reads_latest past l = record { has = λ s a. has_latest (m ∷ past) (step w x).world s a (run_holds (x ∷ []) w past l); read = read; brought = brought }
     where
       -- a store answers no value
-      no_value : (h address width value v : ℕ) (via : Option ℕ) → (plain_step w (Store h address width value via)).reply ≢ Value v
-      no_value h address width value v via = access_good w (λ (o : Outcome). o.reply ≢ Value v) (λ r e. cc) h access.Store address width value via (λ hart t p cause lives on e. cc) (λ hart t p page lives on there fits e. cc)
+      no_value : (h address width value v : ℕ) (via : Option ℕ) → (plain_step w (Store h address width value via)).reply ≢ Scalar (Value v)
+      no_value h address width value v via = access_good w (λ (o : StepOutcome). o.reply ≢ Scalar (Value v)) (λ r e. cc) h access.Store address width value via (λ hart t p cause lives on e. cc) (λ hart t p page lives on there fits e. cc)
 
-      by : (h s v : ℕ) (a : UserAccess) (via : Option ℕ) (y : Step) → slot_on w h ≡ Some s → IsAccessStep h via a y → (step w y).reply ≡ Value v → IsLatest past s a.address a.width v
+      by : (h s v : ℕ) (a : UserAccess) (via : Option ℕ) (y : Step) → slot_on w h ≡ Some s → IsAccessStep h via a y → (step w y).reply ≡ Scalar (Value v) → IsLatest past s a.address a.width v
       by h s v a via y on (IsAccessStep.fetch {address}) e = read_is_latest past w s address 4 v l (fetch_reads w h s address v via on e)
       by h s v a via y on (IsAccessStep.load {address} {width}) e = read_is_latest past w s address width v l (load_reads w h s address width v via on e)
       by h s v a via y on (IsAccessStep.store {address} {width} {value}) e = absurd (no_value h address width value v via (sym (step_reply w (Store h address width value via)) ∙ e))
 
-      read : (h s v : ℕ) (a : UserAccess) (via : Option ℕ) → slot_on w h ≡ Some s → IsAccessStep h via a x → (step w x).reply ≡ Value v → IsLatest past s a.address a.width v
+      read : (h s v : ℕ) (a : UserAccess) (via : Option ℕ) → slot_on w h ≡ Some s → IsAccessStep h via a x → (step w x).reply ≡ Scalar (Value v) → IsLatest past s a.address a.width v
       read h s v a via on asks e = by h s v a via x on asks e
 
       brought : (h s address n : ℕ) → slot_on w h ≡ Some s → x ≡ CopyIn h address n → AreLatest (m ∷ past) s address (bytes_in (step w x).reply)

@@ -1,6 +1,5 @@
--- `held`: the byte of a settled page (in memory) at an address of the process in a slot (place in the process table) of a
--- world. Lemmas: what a world holds after one slot is set or emptied (`Puts`), and that an address that is reached has its
--- page settled and no other byte changed.
+-- `held`: the byte of a settled page at an address of the process in a slot of a world. Lemmas: what a world holds after one
+-- slot is set or emptied (`Puts`), and that an address that is reached has its page settled and no other byte changed.
 use Rattle.std.proofs.Common.{◌≡◌, ◌≢◌, ℕ, zero, suc, Bool, true, false, cond, ◌&&◌, ◌==◌, ◌+◌, ◌<◌, refl, sym, ap, ◌∙◌, arith, inl, inr, List, [], ◌∷◌, length, Option, None, Some}
 use Rattle.std.specs.Prelude.{slice_get, slice_set, Result, Ok, Err}
 use Rattle.std.proofs.lemmas.Bool.{cases_eq, eq-eqb, ne_eqb, false≢true}

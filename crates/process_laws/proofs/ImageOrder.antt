@@ -4,9 +4,8 @@ use Rattle.std.proofs.Common.{◌≡◌, ℕ, Bool, true, false, not, ◌+◌, �
 use Rattle.std.specs.Prelude.{Result, Ok, Err, fold, map, if◌then◌else◌, nat_lt, nat_le, ◌==◌, ◌^◌}
 use Rattle.std.proofs.lemmas.Bool.{not-false, eqb-true, ltb-true, ltb-false}
 use Rattle.sv39_entry.specs.declared.scheme.Scheme.{Scheme}
-use Rattle.process_model.specs.Images.{LoadSegment, ProgramHeader, outside, passed_over, load, has_pages, end_page, end_of_loads, most_segments, load_fault, with_load, unless_faulty, next_judged, at_least_one, all_judged, headers_from, field, file_fault, loads_unless, elf_loads, load_of, segment_loads, image_loads}
+use Rattle.process_model.specs.Images.{LoadSegment, ProgramHeader, outside, passed_over, load, has_pages, end_page, end_of_loads, load_fault, with_load, unless_faulty, next_judged, at_least_one, all_judged, headers_from, field, file_fault, loads_unless, elf_loads, load_of, segment_loads, image_loads}
 use Rattle.process_model.specs.Order.{InRow, IsPlaced, StandsAt}
-use Rattle.process_model.specs.Regions.{guard_pages, stack_pages}
 use Rattle.sv39_entry.specs.Address.{page_of}
 use Rattle.sv39_entry.specs.Schemes.{of_scheme, trapframe_page}
 use Rattle.process_model.specs.declared.image.BadImage.{BadImage}
@@ -14,6 +13,7 @@ use Rattle.process_model.specs.declared.image.BadImage.TheVariants as part
 use Rattle.process_model.specs.declared.image.Image.{Image}
 use Rattle.process_model.specs.declared.image.Image.TheVariants.{Elf, Segments}
 use Rattle.process_model.specs.GrantLaws.{none_true}
+use Rattle.process_model.specs.declared.limits.TheConstants.{GUARD_PAGES, MOST_SEGMENTS, STACK_PAGES}
 
 row_more : (low : ℕ) (ls : List LoadSegment) (l : LoadSegment) → InRow low ls → StandsAt (end_of_loads low ls) l → InRow low (ls ++ l ∷ [])
 row_more low [] l row at = (at, tt)
@@ -34,17 +34,17 @@ load_placed z before l none has is =
     ∷ (nat_le (2 ^ 64) (l.address + l.memory_size), part.Wraps)
     ∷ (not (l.address % 4096 == 0), part.Align)
     ∷ (has_pages l && not l.inside, part.Contents)
-    ∷ (has_pages l && nat_lt (trapframe_page z) (end_page l + (guard_pages + stack_pages)), part.TooHigh)
+    ∷ (has_pages l && nat_lt (trapframe_page z) (end_page l + (GUARD_PAGES + STACK_PAGES)), part.TooHigh)
     ∷ (has_pages l && nat_lt (page_of l.address) (end_of_loads 0 before), part.Order)
-    ∷ (has_pages l && nat_le most_segments (length before), part.TooMany)
+    ∷ (has_pages l && nat_le MOST_SEGMENTS (length before), part.TooMany)
     ∷ []) none in
     let aligned : l.address % 4096 ≡ 0 = eqb-true (l.address % 4096) 0 (not-false (l.address % 4096 == 0) tests.1.1.0) in
-    let below : end_page l + (guard_pages + stack_pages) ≤ trapframe_page z = ltb-false (trapframe_page z) (end_page l + (guard_pages + stack_pages)) (right_false (has_pages l) _ has tests.1.1.1.1.0) in
+    let below : end_page l + (GUARD_PAGES + STACK_PAGES) ≤ trapframe_page z = ltb-false (trapframe_page z) (end_page l + (GUARD_PAGES + STACK_PAGES)) (right_false (has_pages l) _ has tests.1.1.1.1.0) in
     let above : end_of_loads 0 before ≤ page_of l.address = ltb-false (page_of l.address) (end_of_loads 0 before) (right_false (has_pages l) _ has tests.1.1.1.1.1.0) in
     let some : 0 < l.memory_size = ltb-true 0 l.memory_size has in
     record {
       row = row_more 0 before l is.row (record { above = above; some = omega (some, arith); end = omega (aligned, arith) });
-      below = subst (λ n. n + (guard_pages + stack_pages) ≤ trapframe_page z) (sym (end_more 0 before l)) below;
+      below = subst (λ n. n + (GUARD_PAGES + STACK_PAGES) ≤ trapframe_page z) (sym (end_more 0 before l)) below;
     }
 
 -- of a result, where there is one

@@ -13,11 +13,12 @@ use Rattle.process_model.specs.Order.{EachRegion, HasLeaves, HasNoFile, InRow, I
 use Rattle.process_model.specs.OrderLaws.{mapped_order, regions_row, resized_order, same_order, unmapped_order}
 use Rattle.process_model.specs.Process.{Process, regions}
 use Rattle.process_model.specs.RegionRows.{held, row_append}
-use Rattle.process_model.specs.Regions.{Region, end_of, guard_pages, holds_page, stack_pages}
+use Rattle.process_model.specs.Regions.{Region, end_of, holds_page}
 use Rattle.sv39_entry.specs.Address.{page_of}
 use Rattle.sv39_entry.specs.Schemes.{trapframe_page}
 use Rattle.process_laws.proofs.EveryChange.{IsKept}
 use Rattle.process_laws.proofs.ImageOrder.{accepted_is_placed}
+use Rattle.process_model.specs.declared.limits.TheConstants.{GUARD_PAGES, STACK_PAGES}
 
 -- no page is in two regions of a row
 
@@ -69,14 +70,14 @@ segments_row low (l ∷ ls) row = (row.0.above, row.0.some, subst (λ n. Row 1 n
 made_order : (z : Scheme) (n : ℕ) (ls : List LoadSegment) → IsPlaced z ls → IsInOrder (process_of z n ls)
 unfolding process_of
 made_order z n ls is =
-    let below : end_of_loads 0 ls + (guard_pages + stack_pages) ≤ trapframe_page z = is.below in
+    let below : end_of_loads 0 ls + (GUARD_PAGES + STACK_PAGES) ≤ trapframe_page z = is.below in
     record {
-      parts = row_append 1 0 (end_of_loads 0 ls) (page_of (4096 * (end_of_loads 0 ls + (guard_pages + stack_pages)))) (map segment_region ls) (guard_at (end_of_loads 0 ls) ∷ stack_at (end_of_loads 0 ls + guard_pages) ∷ []) (segments_row 0 ls is.row)
+      parts = row_append 1 0 (end_of_loads 0 ls) (page_of (4096 * (end_of_loads 0 ls + (GUARD_PAGES + STACK_PAGES)))) (map segment_region ls) (guard_at (end_of_loads 0 ls) ∷ stack_at (end_of_loads 0 ls + GUARD_PAGES) ∷ []) (segments_row 0 ls is.row)
           (omega arith, omega arith, (omega arith, omega arith, omega arith));
       room = omega arith;
       above = omega arith;
-      leaves = segments_leaves ls (guard_at (end_of_loads 0 ls) ∷ stack_at (end_of_loads 0 ls + guard_pages) ∷ []) (refl, (refl, tt));
-      sources = segments_without_file ls (guard_at (end_of_loads 0 ls) ∷ stack_at (end_of_loads 0 ls + guard_pages) ∷ []) (refl, (refl, tt));
+      leaves = segments_leaves ls (guard_at (end_of_loads 0 ls) ∷ stack_at (end_of_loads 0 ls + GUARD_PAGES) ∷ []) (refl, (refl, tt));
+      sources = segments_without_file ls (guard_at (end_of_loads 0 ls) ∷ stack_at (end_of_loads 0 ls + GUARD_PAGES) ∷ []) (refl, (refl, tt));
       mapped = tt;
     }
 

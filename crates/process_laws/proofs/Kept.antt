@@ -1,7 +1,7 @@
 -- `Keeps`, proved of every step: a hart that the step does not move keeps its process and phase; a process that a step puts
--- on a hart was on none; files change only by a step that writes back; an empty slot (place in the process table) stays
--- empty unless the reply says that a process began in it; the number of slots stays; buffers change by fills, evictions and
--- fences; and a hart is marked for the slots that change.
+-- on a hart was on none; files change only by a step that writes back; an empty slot stays empty unless the reply says that a
+-- process began in it; the number of slots stays; buffers change by fills, evictions and fences; and a hart is marked for the
+-- slots that change.
 use Rattle.std.proofs.Common.{◌≡◌, ◌≢◌, ◌⊎◌, ◌==◌, ◌&&◌, ◌||◌, not, ℕ, zero, suc, Bool, true, false, length, refl, sym, ap, subst, ◌∙◌, inl, inr, List, [], ◌∷◌, Option, None, Some}
 use Rattle.std.specs.List.{list_any}
 use Rattle.std.specs.Prelude.{is_some, option_map, Result, Ok, Err, slice_get, slice_set, if◌then◌else◌}
@@ -25,14 +25,15 @@ use Rattle.process_model.specs.Process.{Pending, Process, without_pending}
 use Rattle.process_model.specs.Service.{environment_of, initial_progress, served, served_or_ended, with_progress}
 use Rattle.process_model.specs.Stale.{changed_slots, with_stale, with_stale_slots}
 use Rattle.process_model.specs.Steps.{plain_step, step}
-use Rattle.process_model.specs.World.{answers, can_run, flat, free_slot, has_slot, Outcome, process_in, refuses, World}
+use Rattle.process_model.specs.World.{answers, can_run, flat, free_slot, has_slot, StepOutcome, process_in, refuses, World}
 use Rattle.process_model.specs.declared.config.Policy.{Policy}
 use Rattle.process_model.specs.declared.config.Policy.TheVariants.{Full, Asid}
 use Rattle.process_model.specs.declared.image.BadImage.{BadImage}
 use Rattle.process_model.specs.declared.image.Image.{Image}
-use Rattle.process_model.specs.declared.step.Refusal.{Refusal}
-use Rattle.process_model.specs.declared.step.Reply.{Reply}
-use Rattle.process_model.specs.declared.step.Reply.TheVariants.{Done, Refused, Started}
+use Rattle.process_model.specs.declared.reply.Refusal.{Refusal}
+use Rattle.process_model.specs.declared.reply.Reply.{Reply}
+use Rattle.process_model.specs.declared.reply.ScalarReply.TheVariants.{Done, Refused, Started}
+use Rattle.process_model.specs.declared.reply.Reply.TheVariants.{Scalar}
 use Rattle.process_model.specs.declared.step.Step.{Step}
 use Rattle.process_model.specs.declared.step.Step.TheVariants as step_of
 use Rattle.sv39_entry.specs.declared.access.Access.TheVariants as access
@@ -42,7 +43,7 @@ abbrev SameHart : World → World → ℕ → Type 0
 SameHart w v k = (slot_on v k ≡ slot_on w k) × (phase_on v k ≡ phase_on w k)
 
 -- where no process was, none comes but one that is told of
-abbrev StaysEmpty : World → Outcome → Type 0
+abbrev StaysEmpty : World → StepOutcome → Type 0
 StaysEmpty w o = (s : ℕ) → process_in w s ≡ None → starts_in_slot o.reply s ≡ false → process_in o.world s ≡ None
 
 -- a hart has the process that it had, or one that was on no hart
@@ -64,7 +65,7 @@ Leaves w x before after = (after.keys ≡ keys_after w.policy before x) × (afte
 abbrev IsStill : World → Step → Type 0
 IsStill w x = (hart : Hart) → Leaves w x hart hart
 
-pub record KeepsWith (w : World) (x : Step) (added : ℕ → Bool) (o : Outcome) : Type 0 where
+pub record KeepsWith (w : World) (x : Step) (added : ℕ → Bool) (o : StepOutcome) : Type 0 where
   pub comes : (k : ℕ) → Comes w k (slot_on o.world k)
   pub harts : (k : ℕ) → moved_hart x o.reply ≢ Some k → SameHart w o.world k
   pub files : writes_back x o.reply ≡ false → (o.world).files ≡ w.files
@@ -77,7 +78,7 @@ pub record KeepsWith (w : World) (x : Step) (added : ℕ → Bool) (o : Outcome)
 abbrev none_added : ℕ → Bool
 none_added t = false
 
-abbrev Keeps : World → Step → Outcome → Type 0
+abbrev Keeps : World → Step → StepOutcome → Type 0
 Keeps w x o = KeepsWith w x none_added o
 
 -- the harts are as they were
@@ -211,7 +212,7 @@ slots_empty w v r (set t p o lives e) = set_empty w v r t p o lives e
 slots_empty w v r (born t o is e) = born_empty w v r t o is e
 slots_empty w v r (both t p o child u lives is e) = λ s none calm.
     let middle : World = record w { slots = slice_set w.slots t o } in
-    born_empty middle v r child u is e s (set_empty w middle Done t p o lives refl s none refl) calm
+    born_empty middle v r child u is e s (set_empty w middle (Scalar Done) t p o lives refl s none refl) calm
 
 slots_long : (w v : World) (r : Reply) → Slots w v r → length v.slots ≡ length w.slots
 slots_long w v r (same e) = ap length e
@@ -221,7 +222,7 @@ slots_long w v r (both t p o child u lives is e) = ap length e ∙ length-set (s
 
 module _ (w : World) where
   quiet : (x : Step) (r : Refusal) → Keeps w x (refuses w r)
-  quiet x r = record { comes = λ k. came w w k refl; harts = λ k other. same_harts w w refl k; files = λ e. refl; empty = same_empty w w (Refused r) refl; places = refl; buffers = λ made. absurd (made r refl); marks = λ made. absurd (made r refl) }
+  quiet x r = record { comes = λ k. came w w k refl; harts = λ k other. same_harts w w refl k; files = λ e. refl; empty = same_empty w w (Scalar (Refused r)) refl; places = refl; buffers = λ made. absurd (made r refl); marks = λ made. absurd (made r refl) }
 
   -- neither changes
   still : (x : Step) (v : World) (r : Reply) → IsStill w x → v.harts ≡ w.harts → v.files ≡ w.files → Slots w v r → Keeps w x (answers v r)
@@ -245,7 +246,7 @@ module _ (w : World) where
 
   image_keeps : (x : Step) → IsStill w x → (s : ℕ) (ls : List LoadSegment) (b : Bool) → Keeps w x (started_unless w s ls b)
   image_keeps x calm s ls true = quiet x _
-  image_keeps x calm s ls false = still x (with_image w s ls) (Started s) calm refl refl (born s _ (λ t. refl) refl)
+  image_keeps x calm s ls false = still x (with_image w s ls) (Scalar (Started s)) calm refl refl (born s _ (λ t. refl) refl)
 
   start_keeps : (x : Step) → IsStill w x → (loads : Result (List LoadSegment) BadImage) (o : Option ℕ) → Keeps w x (started w loads o)
   start_keeps x calm loads None = quiet x _
@@ -336,7 +337,7 @@ module _ (w : World) where
   stale_marks slots t None = refl
   stale_marks slots t (Some hart) = refl
 
-  marks_keep : (policy : Policy) (x : Step) (o : Outcome) → Keeps w x o → KeepsWith w x (marks_slot policy w o.world) (with_stale_slots policy w o)
+  marks_keep : (policy : Policy) (x : Step) (o : StepOutcome) → Keeps w x o → KeepsWith w x (marks_slot policy w o.world) (with_stale_slots policy w o)
   marks_keep Full x o k = k
   marks_keep Asid x o k = record {
     comes = λ n s e.
@@ -361,7 +362,7 @@ module _ (w : World) where
         ∙ ap (λ b. Some (b || (if is_on_hart x n then stale_after w.policy hart x t else hart.stale t))) (among_changed w.slots (o.world).slots t);
   }
 
-  slots_after : (policy : Policy) (o : Outcome) → ((with_stale_slots policy w o).world).slots ≡ (o.world).slots
+  slots_after : (policy : Policy) (o : StepOutcome) → ((with_stale_slots policy w o).world).slots ≡ (o.world).slots
   slots_after Full o = refl
   slots_after Asid o = refl
 

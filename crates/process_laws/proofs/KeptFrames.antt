@@ -23,11 +23,11 @@ use Rattle.process_model.specs.Residence.{access_answer, with_page}
 use Rattle.process_model.specs.Service.{access_step, Answer, answered, access_outcome, access_outcome_if}
 use Rattle.process_model.specs.Stale.{with_stale_slots}
 use Rattle.process_model.specs.Steps.{plain_step, step}
-use Rattle.process_model.specs.World.{free, Outcome, process_in, refuses, with_process, World}
+use Rattle.process_model.specs.World.{free, StepOutcome, process_in, refuses, with_process, World}
 use Rattle.process_model.specs.declared.config.Policy.{Policy}
 use Rattle.process_model.specs.declared.config.Policy.TheVariants.{Full, Asid}
 use Rattle.process_model.specs.declared.image.Image.{Image}
-use Rattle.process_model.specs.declared.step.Refusal.{Refusal}
+use Rattle.process_model.specs.declared.reply.Refusal.{Refusal}
 use Rattle.process_model.specs.declared.step.Step.{Step}
 use Rattle.process_model.specs.declared.step.Step.TheVariants as step_of
 use Rattle.sv39_entry.specs.Address.{page_of}
@@ -68,19 +68,19 @@ same_within xs ys e q = subst (Among q) e
 -- ---- one process
 
 module _ (w : World) where
-  Keeps : Outcome → Type 0
+  Keeps : StepOutcome → Type 0
   Keeps o = free w ≤ free o.world
 
   quiet : (r : Refusal) → Keeps (refuses w r)
   unfolding Keeps
   quiet r = omega arith
 
-  same : (o : Outcome) → free o.world ≡ free w → Keeps o
+  same : (o : StepOutcome) → free o.world ≡ free w → Keeps o
   unfolding Keeps
   same o e = omega (arith, e)
 
   -- its pages are of no new copies, and its tables are the same
-  fewer : (s : ℕ) (p q : Process) (o : Outcome) → process_in w s ≡ Some p → Within (copies_of q) (copies_of p) → own_frames q ≡ own_frames p → free o.world ≡ free (with_process w s q) → Keeps o
+  fewer : (s : ℕ) (p q : Process) (o : StepOutcome) → process_in w s ≡ Some p → Within (copies_of q) (copies_of p) → own_frames q ≡ own_frames p → free o.world ≡ free (with_process w s q) → Keeps o
   unfolding Keeps
   fewer s p q o e within own is =
       let full : slice_get w.slots s ≡ Some (Some p) = full_slot (slice_get w.slots s) p e in
@@ -98,13 +98,13 @@ module _ (w : World) where
       (omega (arith, before, after, less, old, new)) (omega (arith, sums, own))) in
       omega (arith, room, is)
 
-  ends : (s : ℕ) (p : Process) (o : Outcome) → process_in w s ≡ Some p → free o.world ≡ free_frames w.scheme w.frames (slice_set w.slots s None) → Keeps o
+  ends : (s : ℕ) (p : Process) (o : StepOutcome) → process_in w s ≡ Some p → free o.world ≡ free_frames w.scheme w.frames (slice_set w.slots s None) → Keeps o
   unfolding Keeps
   ends s p o e is = let room = frees w s p e in omega (arith, room, is)
 
   -- calls that change regions
 
-  released : (s : ℕ) (p : Process) (first end : ℕ) (q : Process) (o : Outcome) → process_in w s ≡ Some p → copies_of q ≡ copies_of (without_pages p first end) → own_frames q ≡ own_frames p → free o.world ≡ free (with_process w s q) → Keeps o
+  released : (s : ℕ) (p : Process) (first end : ℕ) (q : Process) (o : StepOutcome) → process_in w s ≡ Some p → copies_of q ≡ copies_of (without_pages p first end) → own_frames q ≡ own_frames p → free o.world ≡ free (with_process w s q) → Keeps o
   released s p first end q o e copies own is =
       fewer s p q o e (λ n i. only_within (λ page. nat_lt page first || nat_le end page) p.settled.entries n (subst (Among n) copies i)) own is
 
@@ -181,7 +181,7 @@ module _ (w : World) where
   plain_keeps (step_of.CopyOut h address bytes) e not = absurd cc
   plain_keeps (step_of.Exit h status) e not = kernel_good w Keeps quiet h _ _ (λ hart t p on here. ends t p _ here refl)
 
-  marks_keep : (policy : Policy) (o : Outcome) → Keeps o → Keeps (with_stale_slots policy w o)
+  marks_keep : (policy : Policy) (o : StepOutcome) → Keeps o → Keeps (with_stale_slots policy w o)
   unfolding Keeps
   marks_keep Full o k = k
   marks_keep Asid o k = k

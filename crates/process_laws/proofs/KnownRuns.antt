@@ -18,12 +18,13 @@ use Rattle.process_model.specs.Calls.{copy_in_outcome}
 use Rattle.process_model.specs.Stale.{with_stale_slots}
 use Rattle.process_model.specs.Steps
 use Rattle.process_model.specs.Steps.{run, plain_step}
-use Rattle.process_model.specs.World.{World, Outcome, answers, booted, flat, process_in}
+use Rattle.process_model.specs.World.{World, StepOutcome, answers, booted, flat, process_in}
 use Rattle.process_model.specs.Service.{environment_of, initial_progress, with_progress}
 use Rattle.process_model.specs.declared.config.Config.{Config}
 use Rattle.process_model.specs.declared.config.Policy.{Policy}
 use Rattle.process_model.specs.declared.config.Policy.TheVariants.{Full, Asid}
-use Rattle.process_model.specs.declared.step.Reply.TheVariants.{Value}
+use Rattle.process_model.specs.declared.reply.ScalarReply.TheVariants.{Value}
+use Rattle.process_model.specs.declared.reply.Reply.TheVariants.{Scalar}
 use Rattle.process_model.specs.declared.step.Step.{Step}
 use Rattle.process_model.specs.declared.step.Step.TheVariants as step
 use Rattle.process_laws.specs.Latest.{byte_had, latest, byte_at, bytes_in, IsLatest, page_byte}
@@ -97,11 +98,11 @@ pub record ReadAt (w : World) (s address width v : ℕ) : Type 0 where
   pub is : v ≡ loaded page (address % 4096) width
 
 -- an outcome that answers a value
-record Reads (w : World) (h s address width : ℕ) (o : Outcome) : Type 0 where
-  reads : (v : ℕ) → o.reply ≡ Value v → slot_on w h ≡ Some s → ReadAt w s address width v
+record Reads (w : World) (h s address width : ℕ) (o : StepOutcome) : Type 0 where
+  reads : (v : ℕ) → o.reply ≡ Scalar (Value v) → slot_on w h ≡ Some s → ReadAt w s address width v
 
 answer_reads : (w v : World) (h s t address width : ℕ) (p : Process) (page : Page) → process_in w t ≡ Some p → slot_on w h ≡ Some t → get p.settled (page_of address) ≡ Some page → address % 4096 + width ≤ 4096
-    → Reads w h s address width (answers v (Value (loaded page (address % 4096) width)))
+    → Reads w h s address width (answers v (Scalar (Value (loaded page (address % 4096) width))))
 answer_reads w v h s t address width p page here on e fits = record {
   reads = λ n is at. record {
     process = p;
@@ -113,18 +114,18 @@ answer_reads w v h s t address width p page here on e fits = record {
   };
 }
 
-marks_read : (policy : Policy) (w : World) (h s address width : ℕ) (o : Outcome) → Reads w h s address width o → Reads w h s address width (with_stale_slots policy w o)
+marks_read : (policy : Policy) (w : World) (h s address width : ℕ) (o : StepOutcome) → Reads w h s address width o → Reads w h s address width (with_stale_slots policy w o)
 marks_read Full w h s address width o f = f
 marks_read Asid w h s address width o f = record { reads = f.reads }
 
-pub load_reads : (w : World) (h s address width v : ℕ) (via : Option ℕ) → slot_on w h ≡ Some s → (Steps.step w (step.Load h address width via)).reply ≡ Value v → ReadAt w s address width v
+pub load_reads : (w : World) (h s address width v : ℕ) (via : Option ℕ) → slot_on w h ≡ Some s → (Steps.step w (step.Load h address width via)).reply ≡ Scalar (Value v) → ReadAt w s address width v
 unfolding Steps.step
 load_reads w h s address width v via on e =
     let r : Reads w h s address width (plain_step w (step.Load h address width via)) = access_good w (Reads w h s address width) (λ r. record { reads = λ n is. cc }) h access.Load address width 0 via
     (λ hart t p cause here on. record { reads = λ n is. cc }) (λ hart t p page here on e fits. answer_reads w _ h s t address width p page here on e fits) in
     (marks_read w.policy w h s address width (plain_step w (step.Load h address width via)) r).reads v e on
 
-pub fetch_reads : (w : World) (h s address v : ℕ) (via : Option ℕ) → slot_on w h ≡ Some s → (Steps.step w (step.Fetch h address via)).reply ≡ Value v → ReadAt w s address 4 v
+pub fetch_reads : (w : World) (h s address v : ℕ) (via : Option ℕ) → slot_on w h ≡ Some s → (Steps.step w (step.Fetch h address via)).reply ≡ Scalar (Value v) → ReadAt w s address 4 v
 unfolding Steps.step
 fetch_reads w h s address v via on e =
     let r : Reads w h s address 4 (plain_step w (step.Fetch h address via)) = access_good w (Reads w h s address 4) (λ r. record { reads = λ n is. cc }) h access.Fetch address 4 0 via
@@ -164,10 +165,10 @@ read_is_latest moments w s address width v l r =
 -- copies to the kernel
 
 -- what an outcome brings is what its world holds
-record Brings (w : World) (h s address : ℕ) (o : Outcome) : Type 0 where
+record Brings (w : World) (h s address : ℕ) (o : StepOutcome) : Type 0 where
   brings : slot_on w h ≡ Some s → (i : ℕ) → i < length (bytes_in o.reply) → held o.world s (address + i) ≡ Some (byte_at (bytes_in o.reply) i)
 
-marks_bring : (policy : Policy) (w : World) (h s address : ℕ) (o : Outcome) → Brings w h s address o → Brings w h s address (with_stale_slots policy w o)
+marks_bring : (policy : Policy) (w : World) (h s address : ℕ) (o : StepOutcome) → Brings w h s address o → Brings w h s address (with_stale_slots policy w o)
 marks_bring Full w h s address o f = f
 marks_bring Asid w h s address o f = record { brings = f.brings }
 

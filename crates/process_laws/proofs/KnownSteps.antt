@@ -16,7 +16,7 @@ use Rattle.process_model.specs.Mappings.{mapped_unless, mapped, unmapped_unless,
 use Rattle.process_model.specs.Images.{LoadSegment, image_loads}
 use Rattle.process_model.specs.ImageProcess.{process_of}
 use Rattle.process_model.specs.Harts.{Hart}
-use Rattle.process_model.specs.World.{World, Outcome, answers, refuses, process_in, with_process, with_hart, always, lowest_free, has_slot}
+use Rattle.process_model.specs.World.{World, StepOutcome, answers, refuses, process_in, with_process, with_hart, always, lowest_free, has_slot}
 use Rattle.process_model.specs.Environment.{Progress}
 use Rattle.process_model.specs.Service.{AccessRequest, environment_of, initial_progress, faulted, answered, ended, served_or_ended, served, access_outcome, with_progress, with_served}
 use Rattle.process_model.specs.Calls.{with_image, started_unless, started_as, started, replaced_unless, replaced, forked_unless, forked, resized_to, mapped_to, unmapped_to, copy_in_outcome, copy_out_outcome}
@@ -28,9 +28,10 @@ use Rattle.process_model.specs.declared.config.Policy.{Policy}
 use Rattle.process_model.specs.declared.config.Policy.TheVariants.{Full, Asid}
 use Rattle.process_model.specs.declared.image.BadImage.{BadImage}
 use Rattle.process_model.specs.declared.image.Image.{Image}
-use Rattle.process_model.specs.declared.step.Refusal.{Refusal}
-use Rattle.process_model.specs.declared.step.Reply.{Reply}
-use Rattle.process_model.specs.declared.step.Reply.TheVariants as reply
+use Rattle.process_model.specs.declared.reply.Refusal.{Refusal}
+use Rattle.process_model.specs.declared.reply.Reply.{Reply}
+use Rattle.process_model.specs.declared.reply.ScalarReply.TheVariants as scalar
+use Rattle.process_model.specs.declared.reply.Reply.TheVariants as reply
 use Rattle.process_model.specs.declared.step.Step.{Step}
 use Rattle.process_model.specs.declared.step.Step.TheVariants as step
 use Rattle.process_laws.specs.Latest.{image_byte, initial_byte, of_slot, byte_at, is_among, left_by, or_initial, is_in_served, is_in_pending, is_released, is_unmapped, is_in_their_pages, put_by}
@@ -43,7 +44,7 @@ use Rattle.process_laws.proofs.CopyBytes.{CameIn, CameOut, copy_came_in, copy_ca
 use Rattle.process_laws.proofs.HeldBytes.{byte_held, held, Sized, Puts, in_range, free_there, set_puts, held_put, sized_process, sized_gone, told_put, told_where, told_same, Reaches, stopped, came, reached_reaches}
 
 -- after the step the world holds what is known
-pub record Known (w : World) (st : Step) (o : Outcome) : Type 0 where
+pub record Known (w : World) (st : Step) (o : StepOutcome) : Type 0 where
   pub sized : Sized o.world
   pub told : (s a : ℕ) → held o.world s a ≡ left_by w st o.reply (held w) s a
 
@@ -53,7 +54,7 @@ length-low_bytes v zero = refl
 length-low_bytes v (suc n) = ap suc (length-low_bytes (v / 2 ^ 8) n)
 
 -- a refusal says nothing
-refused_silent : (w : World) (st : Step) (r : Refusal) (s a : ℕ) → held w s a ≡ left_by w st (reply.Refused r) (held w) s a
+refused_silent : (w : World) (st : Step) (r : Refusal) (s a : ℕ) → held w s a ≡ left_by w st (reply.Scalar (scalar.Refused r)) (held w) s a
 refused_silent w (step.Start image) r s a = refl
 refused_silent w _ r s a = refl
 
@@ -83,11 +84,11 @@ module _ (w : World) (k : Sized w) (t : ℕ) (p : Process) (here : process_in w 
 
   -- accesses
 
-  faulted_known : (st : Step) (h : ℕ) (hart : Hart) (x : AccessRequest) (cause : ℕ) → ((s a : ℕ) → held w s a ≡ left_by w st (reply.Fault cause) (held w) s a) → Known w st (access_outcome w h hart t (faulted p x cause))
+  faulted_known : (st : Step) (h : ℕ) (hart : Hart) (x : AccessRequest) (cause : ℕ) → ((s a : ℕ) → held w s a ≡ left_by w st (reply.Scalar (scalar.Fault cause)) (held w) s a) → Known w st (access_outcome w h hart t (faulted p x cause))
   faulted_known st h hart x cause silent = same_known st _ _ _ refl (λ n. refl) silent
 
   -- a page that only was read
-  read_known : (st : Step) (h : ℕ) (hart : Hart) (x : AccessRequest) (page : Page) (v : ℕ) → get p.settled (page_of x.address) ≡ Some page → ((s a : ℕ) → held w s a ≡ left_by w st (reply.Value v) (held w) s a) → Known w st (access_outcome w h hart t (answered p x (reply.Value v, page)))
+  read_known : (st : Step) (h : ℕ) (hart : Hart) (x : AccessRequest) (page : Page) (v : ℕ) → get p.settled (page_of x.address) ≡ Some page → ((s a : ℕ) → held w s a ≡ left_by w st (reply.Scalar (scalar.Value v)) (held w) s a) → Known w st (access_outcome w h hart t (answered p x (reply.Scalar (scalar.Value v), page)))
   read_known st h hart x page v e silent = same_known st _ _ _ refl (put_same p.settled (page_of x.address) page page e refl) silent
 
   -- bytes that were stored
@@ -128,7 +129,7 @@ module _ (w : World) (k : Sized w) (t : ℕ) (p : Process) (here : process_in w 
   in_pending x a e = ap (λ o. is_in_served o a) here ∙ ap (λ o. is_in_pending o a) e
 
   served_known : (h : ℕ) (hart : Hart) (x : Pending) (r : Result Progress Rule) → slot_on w h ≡ Some t → p.pending ≡ Some x → Reaches w.files (page_of x.address) p r → Known w (step.Serve h) (served_or_ended w h hart t p x r)
-  served_known h hart x (Err r) on e stopped = ended_known (step.Serve h) (reply.Ended r) h h hart on (λ s a. refl)
+  served_known h hart x (Err r) on e stopped = ended_known (step.Serve h) (reply.Scalar (scalar.Ended r)) h h hart on (λ s a. refl)
   served_known h hart x (Ok g) on e (came i) =
       let after : Puts w t (Some ((with_served g x).process)) (with_progress w t (with_served g x)) = puts _ _ refl in
       record {
@@ -143,7 +144,7 @@ module _ (w : World) (k : Sized w) (t : ℕ) (p : Process) (here : process_in w 
 
   -- calls
 
-  image_known : (h : ℕ) (image : Image) (ls : List LoadSegment) (v : World) → slot_on w h ≡ Some t → image_loads w.scheme image ≡ Ok ls → v.slots ≡ slice_set w.slots t (Some (process_of w.scheme w.counter ls)) → Known w (step.Exec h image) (answers v reply.Done)
+  image_known : (h : ℕ) (image : Image) (ls : List LoadSegment) (v : World) → slot_on w h ≡ Some t → image_loads w.scheme image ≡ Ok ls → v.slots ≡ slice_set w.slots t (Some (process_of w.scheme w.counter ls)) → Known w (step.Exec h image) (answers v (reply.Scalar scalar.Done))
   image_known h image ls v on e is = put_known _ _ _ _ is (image_sized w.scheme w.counter ls)
       (λ f. told_put w v h t _ (λ s a. image_byte (image_loads w.scheme image) a) on f (λ a. byte_in-image w.scheme w.counter ls a ∙ loads_byte_is ls a ∙ sym (ap (λ r. image_byte r a) e)))
 
@@ -188,11 +189,11 @@ module _ (w : World) (k : Sized w) (t : ℕ) (p : Process) (here : process_in w 
   unfolding sbrk_result
   sbrk_known h delta on = sbrk_unless h delta _ on
 
-  mmap_unless : (st : Step) (m : Region) (o : Option Refusal) → ((first s a : ℕ) → held w s a ≡ left_by w st (reply.MappedAt first) (held w) s a) → Known w st (mapped_to w t (mapped_unless p m o))
+  mmap_unless : (st : Step) (m : Region) (o : Option Refusal) → ((first s a : ℕ) → held w s a ≡ left_by w st (reply.Scalar (scalar.MappedAt first)) (held w) s a) → Known w st (mapped_to w t (mapped_unless p m o))
   mmap_unless st m (Some r) silent = refused_known w k _ _
   mmap_unless st m None silent = same_known st _ _ _ refl (λ n. refl) (silent _)
 
-  mmap_known : (st : Step) (len protection flags n : ℕ) → ((first s a : ℕ) → held w s a ≡ left_by w st (reply.MappedAt first) (held w) s a) → Known w st (mapped_to w t (mapped w.files p len protection flags n))
+  mmap_known : (st : Step) (len protection flags n : ℕ) → ((first s a : ℕ) → held w s a ≡ left_by w st (reply.Scalar (scalar.MappedAt first)) (held w) s a) → Known w st (mapped_to w t (mapped w.files p len protection flags n))
   unfolding mapped
   mmap_known st len protection flags n silent = mmap_unless st _ _ silent
 
@@ -315,7 +316,7 @@ plain_known w k (step.CopyOut h address bytes) = kernel_good w (Known w _) (refu
 plain_known w k (step.Exit h status) = kernel_good w (Known w _) (refused_known w k _) h true _ (λ hart t p on here. ended_known w k t p here _ _ h h hart on (λ s a. refl))
 
 -- marks change no slot
-marks_known : (policy : Policy) (w : World) (st : Step) (o : Outcome) → Known w st o → Known w st (with_stale_slots policy w o)
+marks_known : (policy : Policy) (w : World) (st : Step) (o : StepOutcome) → Known w st o → Known w st (with_stale_slots policy w o)
 marks_known Full w st o l = l
 marks_known Asid w st o l = record { sized = record { pages = l.sized.pages }; told = l.told }
 

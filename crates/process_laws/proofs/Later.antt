@@ -1,6 +1,5 @@
--- Lemma: making the page of an address resident (in memory and ready for an access) in the middle of a kernel copy has the
--- result that it has at the beginning of one in the world as it is by then; only the number of frames taken differs
--- (`shifted`).
+-- Lemma: making the page of an address resident in the middle of a kernel copy has the result that it has at the beginning of
+-- one in the world as it is by then; only the number of frames taken differs (`shifted`).
 use Rattle.std.proofs.Common.{◌≡◌, ℕ, ◌+◌, Bool, true, false, refl, ap, sym, ◌∙◌, arith, Option, None, Some, Result, Ok, Err}
 use Rattle.std.specs.Prelude.{nat_lt}
 use Rattle.std.proofs.lemmas.Bool.{le-ltb, lt-ltb, ltb-false, ltb-true}

@@ -1,5 +1,5 @@
--- `IsOfAnother`, a predicate: the hart that makes a step does not have the process of a given slot (place in the process
--- table); true of a step of no hart.
+-- `IsOfAnother`, a predicate: the hart that makes a step does not have the process of a given slot; true of a step of no
+-- hart.
 use Rattle.std.specs.Prelude.{◌≡◌, ◌≢◌, ℕ, Some, slice_get}
 use Rattle.process_laws.specs.Words.{hart_of}
 use Rattle.process_model.specs.Harts.{Hart}

@@ -1,6 +1,6 @@
 -- Lemmas about the dirty mark (D: made ready for a store): making a page resident for a fetch or a load sets none; pages
--- without it are not written back; and after a service the page is resident (in memory and ready), for a store without
--- copy-on-write mark and, in a writable shared mapping, with the dirty mark.
+-- without it are not written back; and after a service the page is resident, for a store without copy-on-write mark and, in a
+-- writable shared mapping, with the dirty mark.
 use Rattle.std.proofs.Common.{◌≡◌, ◌≢◌, ℕ, Bool, true, false, not, ◌&&◌, ◌||◌, ◌-◌, ◌*◌, ◌<◌, ◌≤◌, inl, inr, refl, ap, sym, ◌∙◌, arith, List, [], ◌∷◌, Option, None, Some, cond}
 use Rattle.std.specs.Prelude.{T, Ok, fold, nat_le, nat_lt}
 use Rattle.std.specs.Ordering.{nat_cmp}

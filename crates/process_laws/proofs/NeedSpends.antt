@@ -38,15 +38,16 @@ use Rattle.process_model.specs.Residence.{can_complete, is_resident, is_resident
 use Rattle.process_model.specs.Service.{environment_of, initial_progress, is_dry, served_or_ended}
 use Rattle.process_model.specs.Stale.{with_stale_slots}
 use Rattle.process_model.specs.Steps.{plain_step, step}
-use Rattle.process_model.specs.World.{always, awaits_service, can_call, flat, free, free_slot, is_unserved, on_hart, on_hart_at, others_have, Outcome, process_in, process_of_slot, unless_refused, with_its_process, with_process_of, with_slot_of, without_process, World}
+use Rattle.process_model.specs.World.{always, awaits_service, can_call, flat, free, free_slot, is_unserved, on_hart, on_hart_at, others_have, StepOutcome, process_in, process_of_slot, unless_refused, with_its_process, with_process_of, with_slot_of, without_process, World}
 use Rattle.process_model.specs.declared.config.Policy.{Policy}
 use Rattle.process_model.specs.declared.config.Policy.TheVariants.{Full, Asid}
 use Rattle.process_model.specs.declared.image.BadImage.{BadImage}
 use Rattle.process_model.specs.declared.image.Image.{Image}
 use Rattle.process_model.specs.declared.phase.Phase.{Phase}
 use Rattle.process_model.specs.declared.phase.Phase.TheVariants.{Enter0, Enter1, Enter2, Idle, Kernel, Leave1, Leave2, User}
-use Rattle.process_model.specs.declared.step.Refusal.TheVariants.{BadArgument, Impossible, NoEntry}
-use Rattle.process_model.specs.declared.step.Reply.TheVariants.{Done}
+use Rattle.process_model.specs.declared.reply.Refusal.TheVariants.{BadArgument, Impossible, NoEntry}
+use Rattle.process_model.specs.declared.reply.ScalarReply.TheVariants.{Done}
+use Rattle.process_model.specs.declared.reply.Reply.TheVariants.{Scalar}
 use Rattle.process_model.specs.declared.step.Step.{Step}
 use Rattle.process_model.specs.declared.step.Step.TheVariants as step_of
 use Rattle.sv39_entry.specs.Address.{page_of}
@@ -82,7 +83,7 @@ page_need w s p kind page = by (get p.settled page) refl
 -- ---- steps
 
 -- marks change no process
-marks_free : (policy : Policy) (w : World) (o : Outcome) → free (with_stale_slots policy w o).world ≡ free o.world
+marks_free : (policy : Policy) (w : World) (o : StepOutcome) → free (with_stale_slots policy w o).world ≡ free o.world
 marks_free Full w o = refl
 marks_free Asid w o = refl
 
@@ -106,7 +107,7 @@ module _ (w : World) (new : HasNewCopies w) where
       let is : plain_step w (step_of.Start image) ≡ started_unless w s ls (is_dry w n) = ap (λ r. started w r (free_slot w)) loads ∙ ap (started w (Ok ls)) to in
       let spends : Spends w (started_unless w s ls (is_dry w n)) n = spends_need w n (started_unless w s ls) (is_dry w n) refl refl refl (λ wet. start_spends w s image ls new to loads wet) in
       subst (λ k. Spends w (step w (step_of.Start image)) (1 + k)) (image_need w.scheme image ls loads)
-      (step_spends w (step_of.Start image) n (subst (λ (o : Outcome). Spends w o n) (sym is) spends))
+      (step_spends w (step_of.Start image) n (subst (λ (o : StepOutcome). Spends w o n) (sym is) spends))
 
   module _ (h s : ℕ) (p : Process) (on : IsOnHart w h s p) where
     -- a fork
@@ -114,7 +115,7 @@ module _ (w : World) (new : HasNewCopies w) where
     fork_needs t k to =
         let n = fork_need p in
         let is : plain_step w (step_of.Fork h) ≡ forked_unless w s p t (is_dry w n) = (call_runs w h s p true (λ hart s p. forked w s p (free_slot w)) refl on k.quiet k.in_kernel).1 ∙ ap (forked w s p) to in
-        step_spends w (step_of.Fork h) n (subst (λ (o : Outcome). Spends w o n) (sym is)
+        step_spends w (step_of.Fork h) n (subst (λ (o : StepOutcome). Spends w o n) (sym is)
         (spends_need w n (forked_unless w s p t) (is_dry w n) refl refl refl (λ wet. fork_spends w s t p on.lives to wet)))
 
     -- an exec
@@ -178,20 +179,20 @@ module _ (w : World) (new : HasNewCopies w) where
             not_less (free v) (start_need w.scheme ls) (omega (arith, room, more))
 
     exec_as : (image : Image) (ls : List LoadSegment) → image_loads w.scheme image ≡ Ok ls → (b : Bool) → is_dry w (exec_need w.scheme ls) ≡ b
-        → (is_no_frame_reply (replaced_unless w s p ls b).reply ≡ b) × ((replaced_unless w s p ls b).reply ≡ Done → free (replaced_unless w s p ls b).world + start_need w.scheme ls ≡ free v)
+        → (is_no_frame_reply (replaced_unless w s p ls b).reply ≡ b) × ((replaced_unless w s p ls b).reply ≡ Scalar Done → free (replaced_unless w s p ls b).world + start_need w.scheme ls ≡ free v)
     exec_as image ls loads true dry = (refl, λ done. absurd cc)
     exec_as image ls loads false wet = (refl, λ done. exec_frees image ls loads wet)
 
     pub exec_needs : (image : Image) (ls : List LoadSegment) → MayCall w h p → image_loads w.scheme image ≡ Ok ls
         → (is_no_frame_reply (step w (step_of.Exec h image)).reply ≡ nat_lt (free w) (frames_for_image w.scheme ls))
-        × ((step w (step_of.Exec h image)).reply ≡ Done → free (step w (step_of.Exec h image)).world + (1 + frames_for_image w.scheme ls) ≡ free v)
+        × ((step w (step_of.Exec h image)).reply ≡ Scalar Done → free (step w (step_of.Exec h image)).world + (1 + frames_for_image w.scheme ls) ≡ free v)
     exec_needs image ls k loads =
         let n = exec_need w.scheme ls in
         let x = step_of.Exec h image in
         let is : plain_step w x ≡ replaced_unless w s p ls (is_dry w n) = (call_runs w h s p true (λ hart s p. replaced w s p (image_loads w.scheme image)) refl on k.quiet k.in_kernel).1 ∙ ap (replaced w s p) loads in
         let t = exec_as image ls loads (is_dry w n) refl in
-        let reply : (step w x).reply ≡ (replaced_unless w s p ls (is_dry w n)).reply = step_reply w x ∙ ap (λ (o : Outcome). o.reply) is in
-        let left : free (step w x).world ≡ free (replaced_unless w s p ls (is_dry w n)).world = step_free w x ∙ ap (λ (o : Outcome). free o.world) is in (
+        let reply : (step w x).reply ≡ (replaced_unless w s p ls (is_dry w n)).reply = step_reply w x ∙ ap (λ (o : StepOutcome). o.reply) is in
+        let left : free (step w x).world ≡ free (replaced_unless w s p ls (is_dry w n)).world = step_free w x ∙ ap (λ (o : StepOutcome). free o.world) is in (
           ap is_no_frame_reply reply ∙ t.0 ∙ ap (nat_lt (free w)) (image_need w.scheme image ls loads),
           λ done. ap (λ k. k + (1 + frames_for_image w.scheme ls)) left ∙ ap (λ k. free (replaced_unless w s p ls (is_dry w n)).world + (1 + k)) (sym (image_need w.scheme image ls loads)) ∙ t.1 (sym reply ∙ done),
         )
@@ -209,16 +210,16 @@ module _ (w : World) (new : HasNewCopies w) where
       r.is ∙ ap (λ o. served_or_ended w h r.hart s z (fault_of a) (resident_at_address (environment_of w s) a.access a.address (initial_progress w z) o)) granted in
       let spends = page_spends w new h r.hart s z (fault_of a) on.lives w.frames in
       subst (Spends w (step w x)) (page_need w s z a.access (page_of a.address))
-      (step_spends w x (cond (is_resident z a.access (page_of a.address)) 0 (need_at (environment_of w s) a.access (page_of a.address) z)) (subst (λ (o : Outcome). Spends w o (cond (is_resident z a.access (page_of a.address)) 0 (need_at (environment_of w s) a.access (page_of a.address) z))) (sym is) spends))
+      (step_spends w x (cond (is_resident z a.access (page_of a.address)) 0 (need_at (environment_of w s) a.access (page_of a.address) z)) (subst (λ (o : StepOutcome). Spends w o (cond (is_resident z a.access (page_of a.address)) 0 (need_at (environment_of w s) a.access (page_of a.address) z))) (sym is) spends))
 
 -- ---- which steps say NoFrame
 
 module _ (w : World) where
-  abbrev Lacks : Outcome → Type 0
+  abbrev Lacks : StepOutcome → Type 0
   Lacks o = is_no_frame_reply o.reply ≡ true
 
   -- what ran on a hart, and was not refused before
-  record Tried (h : ℕ) (possible : Hart → Bool) (run : Hart → ℕ → Process → Outcome) : Type 0 where
+  record Tried (h : ℕ) (possible : Hart → Bool) (run : Hart → ℕ → Process → StepOutcome) : Type 0 where
     hart : Hart
     there : slice_get w.harts h ≡ Some hart
     can : possible hart ≡ true
@@ -228,7 +229,7 @@ module _ (w : World) where
     lives : process_in w s ≡ Some p
     lacks : Lacks (run hart s p)
 
-  module _ (h : ℕ) (possible : Hart → Bool) (run : Hart → ℕ → Process → Outcome) where
+  module _ (h : ℕ) (possible : Hart → Bool) (run : Hart → ℕ → Process → StepOutcome) where
     by_process : (hart : Hart) → slice_get w.harts h ≡ Some hart → possible hart ≡ true → (s : ℕ) (o : Option Process) → hart.slot ≡ Some s → process_in w s ≡ o → Lacks (with_process_of w hart.phase (run hart) s o) → Tried h possible run
     by_process hart there can s None slot lives e = absurd cc
     by_process hart there can s (Some p) slot lives e = record { hart = hart; there = there; can = can; s = s; p = p; slot = slot; lives = lives; lacks = e }
@@ -267,7 +268,7 @@ module _ (w : World) where
   not_true true e = absurd cc
   not_true false e = refl
 
-  called : (h : ℕ) (run : Hart → ℕ → Process → Outcome) (t : Tried h (can_call w) run) → IsOnHart w h t.s t.p × MayCall w h t.p
+  called : (h : ℕ) (run : Hart → ℕ → Process → StepOutcome) (t : Tried h (can_call w) run) → IsOnHart w h t.s t.p × MayCall w h t.p
   called h run t =
       let parts = and_parts (is_kernel (t.hart).phase) (not (awaits_service w t.hart)) t.can in (
         record { there = ap slot_at t.there ∙ t.slot; lives = t.lives },

@@ -15,11 +15,11 @@ use Rattle.process_model.specs.Regions.{is_aligned, first_rule, copy_rule}
 use Rattle.process_model.specs.Process.{Process, Page, regions}
 use Rattle.process_model.specs.Residence.{access_answer}
 use Rattle.process_model.specs.Harts.{Hart}
-use Rattle.process_model.specs.World.{World, Outcome, refuses, process_in, can_call, always, common_refusal, unless_refused, on_hart_at, on_hart, with_process_of, with_slot_of, with_its_process, kernel_call}
+use Rattle.process_model.specs.World.{World, StepOutcome, refuses, process_in, can_call, always, common_refusal, unless_refused, on_hart_at, on_hart, with_process_of, with_slot_of, with_its_process, kernel_call}
 use Rattle.process_model.specs.Service.{Answer, AccessRequest, faulted, answered, if_resident, if_settled, access_outcome, unless_denied, access_step}
 use Rattle.process_model.specs.declared.phase.Phase.{Phase}
-use Rattle.process_model.specs.declared.step.Refusal.{Refusal}
-use Rattle.process_model.specs.declared.step.Refusal.TheVariants.{Impossible}
+use Rattle.process_model.specs.declared.reply.Refusal.{Refusal}
+use Rattle.process_model.specs.declared.reply.Refusal.TheVariants.{Impossible}
 use Rattle.process_laws.specs.Moments.{slot_at, slot_on}
 
 abbrev pub asks : Access → ℕ → ℕ → ℕ → AccessRequest
@@ -67,26 +67,26 @@ granted_fits : (p : Process) (access : Access) (address w : ℕ) → is_width w 
 granted_fits p access address w e f = access_fits w address e (if_aligned (is_aligned address w) (copy_rule p.scheme (regions p) access address) rule.Misaligned f)
 
 -- facts of an outcome
-module _ (w : World) (Good : Outcome → Type 0) (quiet : (r : Refusal) → Good (refuses w r)) where
-  if_not_refused : (run : Hart → Outcome) (hart : Hart) (o : Option Refusal) → Good (run hart) → Good (unless_refused w run hart o)
+module _ (w : World) (Good : StepOutcome → Type 0) (quiet : (r : Refusal) → Good (refuses w r)) where
+  if_not_refused : (run : Hart → StepOutcome) (hart : Hart) (o : Option Refusal) → Good (run hart) → Good (unless_refused w run hart o)
   if_not_refused run hart (Some r) f = quiet r
   if_not_refused run hart None f = f
 
-  if_proper : (h : ℕ) (proper : Bool) (possible entry : Hart → Bool) (run : Hart → Outcome) (hart : Hart) → (proper ≡ true → Good (run hart)) → Good (unless_refused w run hart (common_refusal hart proper possible entry))
+  if_proper : (h : ℕ) (proper : Bool) (possible entry : Hart → Bool) (run : Hart → StepOutcome) (hart : Hart) → (proper ≡ true → Good (run hart)) → Good (unless_refused w run hart (common_refusal hart proper possible entry))
   if_proper h false possible entry run hart f = quiet _
   if_proper h true possible entry run hart f = if_not_refused run hart _ (f refl)
 
-  at_hart : (h : ℕ) (proper : Bool) (possible entry : Hart → Bool) (run : Hart → Outcome) (o : Option Hart) → slice_get w.harts h ≡ o → ((hart : Hart) → slice_get w.harts h ≡ Some hart → proper ≡ true → Good (run hart))
+  at_hart : (h : ℕ) (proper : Bool) (possible entry : Hart → Bool) (run : Hart → StepOutcome) (o : Option Hart) → slice_get w.harts h ≡ o → ((hart : Hart) → slice_get w.harts h ≡ Some hart → proper ≡ true → Good (run hart))
       → Good (on_hart_at w proper possible entry run o)
   at_hart h proper possible entry run None e f = quiet _
   at_hart h proper possible entry run (Some hart) e f = if_proper h proper possible entry run hart (f hart e)
 
-  pub on_hart_good : (h : ℕ) (proper : Bool) (possible entry : Hart → Bool) (run : Hart → Outcome) → ((hart : Hart) → slice_get w.harts h ≡ Some hart → proper ≡ true → Good (run hart)) → Good (on_hart w h proper possible entry run)
+  pub on_hart_good : (h : ℕ) (proper : Bool) (possible entry : Hart → Bool) (run : Hart → StepOutcome) → ((hart : Hart) → slice_get w.harts h ≡ Some hart → proper ≡ true → Good (run hart)) → Good (on_hart w h proper possible entry run)
   unfolding on_hart
   on_hart_good h proper possible entry run f = at_hart h proper possible entry run (slice_get w.harts h) refl f
 
   -- what is proper runs where it is possible
-  pub on_hart_can : (h : ℕ) (possible entry : Hart → Bool) (run : Hart → Outcome) → ((hart : Hart) → slice_get w.harts h ≡ Some hart → possible hart ≡ true → Good (run hart)) → Good (on_hart w h true possible entry run)
+  pub on_hart_can : (h : ℕ) (possible entry : Hart → Bool) (run : Hart → StepOutcome) → ((hart : Hart) → slice_get w.harts h ≡ Some hart → possible hart ≡ true → Good (run hart)) → Good (on_hart w h true possible entry run)
   unfolding on_hart
   on_hart_can h possible entry run f = at (slice_get w.harts h) refl
     where
@@ -98,19 +98,19 @@ module _ (w : World) (Good : Outcome → Type 0) (quiet : (r : Refusal) → Good
       at None e = quiet _
       at (Some hart) e = by hart (possible hart) refl e
 
-  if_process : (phase : Phase) (run : ℕ → Process → Outcome) (t : ℕ) (o : Option Process) → process_in w t ≡ o → ((p : Process) → process_in w t ≡ Some p → Good (run t p)) → Good (with_process_of w phase run t o)
+  if_process : (phase : Phase) (run : ℕ → Process → StepOutcome) (t : ℕ) (o : Option Process) → process_in w t ≡ o → ((p : Process) → process_in w t ≡ Some p → Good (run t p)) → Good (with_process_of w phase run t o)
   if_process phase run t None e f = quiet _
   if_process phase run t (Some p) e f = f p e
 
-  if_slot : (phase : Phase) (run : ℕ → Process → Outcome) (o : Option ℕ) → ((t : ℕ) (p : Process) → o ≡ Some t → process_in w t ≡ Some p → Good (run t p)) → Good (with_slot_of w phase run o)
+  if_slot : (phase : Phase) (run : ℕ → Process → StepOutcome) (o : Option ℕ) → ((t : ℕ) (p : Process) → o ≡ Some t → process_in w t ≡ Some p → Good (run t p)) → Good (with_slot_of w phase run o)
   if_slot phase run None f = quiet _
   if_slot phase run (Some t) f = if_process phase run t (process_in w t) refl (λ p. f t p refl)
 
-  pub its_good : (h : ℕ) (hart : Hart) (run : ℕ → Process → Outcome) → slice_get w.harts h ≡ Some hart → ((t : ℕ) (p : Process) → slot_on w h ≡ Some t → process_in w t ≡ Some p → Good (run t p)) → Good (with_its_process w hart run)
+  pub its_good : (h : ℕ) (hart : Hart) (run : ℕ → Process → StepOutcome) → slice_get w.harts h ≡ Some hart → ((t : ℕ) (p : Process) → slot_on w h ≡ Some t → process_in w t ≡ Some p → Good (run t p)) → Good (with_its_process w hart run)
   unfolding with_its_process
   its_good h hart run e f = if_slot hart.phase run hart.slot (λ t p is. f t p (ap slot_at e ∙ is))
 
-  pub kernel_good : (h : ℕ) (proper : Bool) (run : Hart → ℕ → Process → Outcome) → ((hart : Hart) (t : ℕ) (p : Process) → slot_on w h ≡ Some t → process_in w t ≡ Some p → Good (run hart t p)) → Good (kernel_call w h proper run)
+  pub kernel_good : (h : ℕ) (proper : Bool) (run : Hart → ℕ → Process → StepOutcome) → ((hart : Hart) (t : ℕ) (p : Process) → slot_on w h ≡ Some t → process_in w t ≡ Some p → Good (run hart t p)) → Good (kernel_call w h proper run)
   kernel_good h proper run f = on_hart_good h proper (can_call w) always _ (λ hart is _. its_good h hart (run hart) is (f hart))
 
   -- accesses

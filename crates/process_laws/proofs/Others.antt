@@ -8,17 +8,17 @@ use Rattle.process_model.specs.Process.{Process}
 use Rattle.process_model.specs.Stale.{with_stale_slots}
 use Rattle.process_model.specs.Steps.{plain_step}
 use Rattle.process_model.specs.Steps as steps
-use Rattle.process_model.specs.World.{Outcome, process_in, World}
+use Rattle.process_model.specs.World.{StepOutcome, process_in, World}
 use Rattle.process_model.specs.declared.config.Policy.{Policy}
 use Rattle.process_model.specs.declared.config.Policy.TheVariants.{Full, Asid}
 use Rattle.process_model.specs.declared.step.Step.{Step}
 use Rattle.process_model.specs.declared.step.Step.TheVariants as step
 
 module _ (t : ℕ) (q : Process) where
-  abbrev Kept : Outcome → Type 0
+  abbrev Kept : StepOutcome → Type 0
   Kept o = process_in o.world t ≡ Some q
 
-  marks_keep_it : (policy : Policy) (w : World) (o : Outcome) → Kept o → Kept (with_stale_slots policy w o)
+  marks_keep_it : (policy : Policy) (w : World) (o : StepOutcome) → Kept o → Kept (with_stale_slots policy w o)
   marks_keep_it Full w o k = k
   marks_keep_it Asid w o k = k
 

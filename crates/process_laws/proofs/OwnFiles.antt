@@ -19,17 +19,17 @@ use Rattle.process_model.specs.Mappings.{mapping_around, unmapped, unmapped_if, 
 use Rattle.process_model.specs.Process.{Process}
 use Rattle.process_model.specs.Regions.{Region}
 use Rattle.process_model.specs.Steps.{plain_step, step}
-use Rattle.process_model.specs.World.{Outcome, refuses, World}
+use Rattle.process_model.specs.World.{StepOutcome, refuses, World}
 use Rattle.process_model.specs.declared.image.BadImage.{BadImage}
 use Rattle.process_model.specs.declared.image.Image.{Image}
-use Rattle.process_model.specs.declared.step.Refusal.{Refusal}
+use Rattle.process_model.specs.declared.reply.Refusal.{Refusal}
 use Rattle.process_model.specs.declared.step.Step.{Step}
 use Rattle.process_model.specs.declared.step.Step.TheVariants as step_of
 use Rattle.sv39_entry.specs.Address.{page_of}
 use Rattle.process_laws.proofs.OwnSteps.{Own, owns, same_process, step_files}
 
 module _ (w : World) (h s : ℕ) (p : Process) (on : IsOnHart w h s p) (sound : IsSound p) (sized : AllSized p.settled) where
-  abbrev Good : Step → Outcome → Type 0
+  abbrev Good : Step → StepOutcome → Type 0
   Good x o = Written x p w.files (o.world).files
 
   as_it_was : (x : Step) (r : Refusal) → Good x (refuses w r)
@@ -88,7 +88,7 @@ module _ (w : World) (h s : ℕ) (p : Process) (on : IsOnHart w h s p) (sound : 
 
   -- all that has to be written is
 
-  abbrev All : Step → Outcome → Type 0
+  abbrev All : Step → StepOutcome → Type 0
   All x o = writes_back x o.reply ≡ true → IsWritten x p w.files (o.world).files
 
   module _ (address len : ℕ) where

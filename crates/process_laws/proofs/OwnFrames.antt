@@ -34,13 +34,14 @@ use Rattle.process_model.specs.Residence.{access_answer, can_complete, child_of,
 use Rattle.process_model.specs.Service.{access_outcome, ended, environment_of, faulted, initial_progress, served, served_or_ended, with_served, AccessRequest, Answer, if_resident, if_settled, unless_denied, user_access}
 use Rattle.process_model.specs.Service as service
 use Rattle.process_model.specs.Steps.{plain_step, step}
-use Rattle.process_model.specs.World.{answers, free_slot, kernel_call, others_have, Outcome, process_in, refuses, with_hart, with_process, World}
+use Rattle.process_model.specs.World.{answers, free_slot, kernel_call, others_have, StepOutcome, process_in, refuses, with_hart, with_process, World}
 use Rattle.process_model.specs.declared.image.BadImage.{BadImage}
 use Rattle.process_model.specs.declared.image.Image.{Image}
 use Rattle.process_model.specs.declared.phase.Phase.TheVariants.{Enter0}
-use Rattle.process_model.specs.declared.step.Refusal.{Refusal}
-use Rattle.process_model.specs.declared.step.Reply.{Reply}
-use Rattle.process_model.specs.declared.step.Reply.TheVariants.{Done, Ended, Exited, Forked, Ready, Started}
+use Rattle.process_model.specs.declared.reply.Refusal.{Refusal}
+use Rattle.process_model.specs.declared.reply.Reply.{Reply}
+use Rattle.process_model.specs.declared.reply.ScalarReply.TheVariants.{Done, Ended, Exited, Forked, Ready, Started}
+use Rattle.process_model.specs.declared.reply.Reply.TheVariants.{Scalar}
 use Rattle.process_model.specs.declared.step.Step.{Step}
 use Rattle.process_model.specs.declared.step.Step.TheVariants as step_of
 use Rattle.sv39_entry.specs.Address.{page_of}
@@ -75,9 +76,9 @@ module _ (w : World) (h s : ℕ) (p : Process) (on : IsOnHart w h s p) (lone : L
   Reworked q = Reworks w.counter (others_have w s) p q
 
   -- what has become of the process in the slot
-  pub data Housed (x : Step) (o : Outcome) : Type 0 where
-    alive : (q : Process) → process_in o.world s ≡ Some q → Reworked q → ((image : Image) → x ≡ step_of.Exec h image → o.reply ≢ Done) → Housed x o
-    anew : (q : Process) → process_in o.world s ≡ Some q → IsAnew w.counter q → (image : Image) → x ≡ step_of.Exec h image → o.reply ≡ Done → Housed x o
+  pub data Housed (x : Step) (o : StepOutcome) : Type 0 where
+    alive : (q : Process) → process_in o.world s ≡ Some q → Reworked q → ((image : Image) → x ≡ step_of.Exec h image → o.reply ≢ Scalar Done) → Housed x o
+    anew : (q : Process) → process_in o.world s ≡ Some q → IsAnew w.counter q → (image : Image) → x ≡ step_of.Exec h image → o.reply ≡ Scalar Done → Housed x o
     gone : process_in o.world s ≡ None → Housed x o
 
   unmoved : Reworked p
@@ -96,7 +97,7 @@ module _ (w : World) (h s : ℕ) (p : Process) (on : IsOnHart w h s p) (lone : L
   ends : (x : Step) (hart : Hart) (r : Reply) → Housed x (ended w h hart s p r)
   ends x hart r = Housed.gone ((set_puts w (ended w h hart s p r).world s None (in_range w s p on.lives) refl).here)
 
-  its : (x : Step) (f : ℕ → Process → Outcome) (t : ℕ) (q : Process) → slot_on w h ≡ Some t → process_in w t ≡ Some q → Housed x (f s p) → Housed x (f t q)
+  its : (x : Step) (f : ℕ → Process → StepOutcome) (t : ℕ) (q : Process) → slot_on w h ≡ Some t → process_in w t ≡ Some q → Housed x (f s p) → Housed x (f t q)
   its x f t q at here fate =
       let slots : s ≡ t = same_Some s t (sym on.there ∙ at) in
       let same : p ≡ q = same_Some p q (sym on.lives ∙ ap (process_in w) slots ∙ here) in
@@ -112,8 +113,8 @@ module _ (w : World) (h s : ℕ) (p : Process) (on : IsOnHart w h s p) (lone : L
   trap =
       let x = step_of.Trap h in
       on_hart_good w (Housed x) (quiet x) h true _ _ _ (λ hart is _. its_good w (Housed x) (quiet x) h hart _ is
-      (λ t q at here. its x (λ t q. answers (with_hart (with_process w t (without_pending q)) h (record hart { phase = Enter0 })) Done) t q at here
-      (puts x _ Done (without_pending p) refl (λ image e. absurd cc) (waiting p None unmoved))))
+      (λ t q at here. its x (λ t q. answers (with_hart (with_process w t (without_pending q)) h (record hart { phase = Enter0 })) (Scalar Done)) t q at here
+      (puts x _ (Scalar Done) (without_pending p) refl (λ image e. absurd cc) (waiting p None unmoved))))
 
   read_only : (kind : Access) (address width value : ℕ) (page : Page) (t : ℕ) (q : Process) → slot_on w h ≡ Some t → process_in w t ≡ Some q → get q.settled (page_of address) ≡ Some page → (access_answer kind page (address % 4096) width value).1 ≡ page
       → Reworked (without_pending (with_page p (page_of address) (access_answer kind page (address % 4096) width value).1))
@@ -164,8 +165,8 @@ module _ (w : World) (h s : ℕ) (p : Process) (on : IsOnHart w h s p) (lone : L
       (λ none page there can. puts x _ _ _ refl (λ image e. absurd cc) (store_may address width value page none there can)))))
 
   serve_or : (hart : Hart) (a : Pending) (r : Result Progress Rule) → GrowsIfOk w.counter (others_have w s) p r → Housed (step_of.Serve h) (served_or_ended w h hart s p a r)
-  serve_or hart a (Err r) GrowsIfOk.stopped = ends (step_of.Serve h) hart (Ended r)
-  serve_or hart a (Ok g) (GrowsIfOk.came f le) = puts (step_of.Serve h) _ Ready (with_served g a).process refl (λ image e. absurd cc) (waiting g.process _ f.reworks)
+  serve_or hart a (Err r) GrowsIfOk.stopped = ends (step_of.Serve h) hart (Scalar (Ended r))
+  serve_or hart a (Ok g) (GrowsIfOk.came f le) = puts (step_of.Serve h) _ (Scalar Ready) (with_served g a).process refl (λ image e. absurd cc) (waiting g.process _ f.reworks)
 
   serve_as : (hart : Hart) (o : Option Pending) → Housed (step_of.Serve h) (served w h hart s p o)
   serve_as hart None = quiet (step_of.Serve h) _
@@ -179,9 +180,9 @@ module _ (w : World) (h s : ℕ) (p : Process) (on : IsOnHart w h s p) (lone : L
   exit : (status : ℤ) → Housed (step_of.Exit h status) (plain_step w (step_of.Exit h status))
   exit status =
       let x = step_of.Exit h status in
-      on_hart_good w (Housed x) (quiet x) h true _ _ _ (λ hart is _. its_good w (Housed x) (quiet x) h hart _ is (λ t q at here. its x (λ t q. ended w h hart t q (Exited status)) t q at here (ends x hart (Exited status))))
+      on_hart_good w (Housed x) (quiet x) h true _ _ _ (λ hart is _. its_good w (Housed x) (quiet x) h hart _ is (λ t q at here. its x (λ t q. ended w h hart t q (Scalar (Exited status))) t q at here (ends x hart (Scalar (Exited status)))))
 
-  call : (x : Step) (proper : Bool) (run : Hart → ℕ → Process → Outcome) → ((hart : Hart) → Housed x (run hart s p)) → Housed x (kernel_call w h proper run)
+  call : (x : Step) (proper : Bool) (run : Hart → ℕ → Process → StepOutcome) → ((hart : Hart) → Housed x (run hart s p)) → Housed x (kernel_call w h proper run)
   call x proper run each = kernel_good w (Housed x) (quiet x) h proper run (λ hart t q at here. its x (run hart) t q at here (each hart))
 
   fork_unless : (child : ℕ) (b : Bool) → free_slot w ≡ Some child → Housed (step_of.Fork h) (forked_unless w s p child b)
@@ -324,40 +325,40 @@ module _ (w : World) (h s : ℕ) (p : Process) (on : IsOnHart w h s p) (lone : L
               | inr alone ↦ ap (others_have w s) (sym (sym alike ∙ same)) ∙ alone
             ]
 
-    kept_by : (x : Step) (q : Process) → process_in (step w x).world s ≡ Some q → ((image : Image) → x ≡ step_of.Exec h image → (step w x).reply ≢ Done) → Housed x (step w x) → KeepsFrames w s p q
+    kept_by : (x : Step) (q : Process) → process_in (step w x).world s ≡ Some q → ((image : Image) → x ≡ step_of.Exec h image → (step w x).reply ≢ Scalar Done) → Housed x (step w x) → KeepsFrames w s p q
     kept_by x q there not (Housed.alive r e f other) = subst (KeepsFrames w s p) (same_Some r q (sym e ∙ there)) (keeps_frames r f)
     kept_by x q there not (Housed.anew r e f image is done) = absurd (not image is done)
     kept_by x q there not (Housed.gone e) = absurd (none_some (sym e ∙ there))
 
-    pub kept_frames : (x : Step) (q : Process) → hart_of_step x ≡ Some h → ((image : Image) → x ≡ step_of.Exec h image → (step w x).reply ≢ Done) → process_in (step w x).world s ≡ Some q → KeepsFrames w s p q
+    pub kept_frames : (x : Step) (q : Process) → hart_of_step x ≡ Some h → ((image : Image) → x ≡ step_of.Exec h image → (step w x).reply ≢ Scalar Done) → process_in (step w x).world s ≡ Some q → KeepsFrames w s p q
     kept_frames x q makes not there = kept_by x q there not (as_step x (own x makes))
 
-    anew_by : (x : Step) (q : Process) (image : Image) → x ≡ step_of.Exec h image → (step w x).reply ≡ Done → process_in (step w x).world s ≡ Some q → Housed x (step w x) → HasNewFrames w q
+    anew_by : (x : Step) (q : Process) (image : Image) → x ≡ step_of.Exec h image → (step w x).reply ≡ Scalar Done → process_in (step w x).world s ≡ Some q → Housed x (step w x) → HasNewFrames w q
     anew_by x q image is done there (Housed.alive r e f other) = absurd (other image is done)
     anew_by x q image is done there (Housed.anew r e f i so d) = subst (HasNewFrames w) (same_Some r q (sym e ∙ there)) (new_frames r f)
     anew_by x q image is done there (Housed.gone e) = absurd (none_some (sym e ∙ there))
 
-    pub replaced_frames : (image : Image) (q : Process) → (step w (step_of.Exec h image)).reply ≡ Done → process_in (step w (step_of.Exec h image)).world s ≡ Some q → HasNewFrames w q
+    pub replaced_frames : (image : Image) (q : Process) → (step w (step_of.Exec h image)).reply ≡ Scalar Done → process_in (step w (step_of.Exec h image)).world s ≡ Some q → HasNewFrames w q
     replaced_frames image q done there = let x = step_of.Exec h image in anew_by x q image refl done there (as_step x (own x refl))
 
   -- the child
 
-  child_unless : (t child : ℕ) (c : Process) (b : Bool) → free_slot w ≡ Some child → (forked_unless w s p child b).reply ≡ Forked t → process_in (forked_unless w s p child b).world t ≡ Some c → SharesFrames p c
+  child_unless : (t child : ℕ) (c : Process) (b : Bool) → free_slot w ≡ Some child → (forked_unless w s p child b).reply ≡ Scalar (Forked t) → process_in (forked_unless w s p child b).world t ≡ Some c → SharesFrames p c
   child_unless t child c true free e there = absurd cc
   child_unless t child c false free e there =
       let same : child ≡ t = cc in
       subst (SharesFrames p) (same_Some (child_of p) c (sym (child_put w s p child free).here ∙ ap (process_in (forked_unless w s p child false).world) same ∙ there)) (child_shares p)
 
-  child_as : (t : ℕ) (c : Process) (o : Option ℕ) → free_slot w ≡ o → (forked w s p o).reply ≡ Forked t → process_in (forked w s p o).world t ≡ Some c → SharesFrames p c
+  child_as : (t : ℕ) (c : Process) (o : Option ℕ) → free_slot w ≡ o → (forked w s p o).reply ≡ Scalar (Forked t) → process_in (forked w s p o).world t ≡ Some c → SharesFrames p c
   child_as t c None free e there = absurd cc
   child_as t c (Some child) free e there = child_unless t child c _ free e there
 
-  child_good : (t : ℕ) (c : Process) → (plain_step w (step_of.Fork h)).reply ≡ Forked t → process_in (plain_step w (step_of.Fork h)).world t ≡ Some c → SharesFrames p c
-  child_good t c = kernel_good w (λ (o : Outcome). o.reply ≡ Forked t → process_in o.world t ≡ Some c → SharesFrames p c) (λ r e. absurd cc) h true (λ hart k q. forked w k q (free_slot w))
-      (λ hart k q at here. subst (λ n. (forked w n q (free_slot w)).reply ≡ Forked t → process_in (forked w n q (free_slot w)).world t ≡ Some c → SharesFrames p c) (same_Some s k (sym on.there ∙ at))
-      (subst (λ (z : Process). (forked w s z (free_slot w)).reply ≡ Forked t → process_in (forked w s z (free_slot w)).world t ≡ Some c → SharesFrames p c) (same_process k q at here) (child_as t c (free_slot w) refl)))
+  child_good : (t : ℕ) (c : Process) → (plain_step w (step_of.Fork h)).reply ≡ Scalar (Forked t) → process_in (plain_step w (step_of.Fork h)).world t ≡ Some c → SharesFrames p c
+  child_good t c = kernel_good w (λ (o : StepOutcome). o.reply ≡ Scalar (Forked t) → process_in o.world t ≡ Some c → SharesFrames p c) (λ r e. absurd cc) h true (λ hart k q. forked w k q (free_slot w))
+      (λ hart k q at here. subst (λ n. (forked w n q (free_slot w)).reply ≡ Scalar (Forked t) → process_in (forked w n q (free_slot w)).world t ≡ Some c → SharesFrames p c) (same_Some s k (sym on.there ∙ at))
+      (subst (λ (z : Process). (forked w s z (free_slot w)).reply ≡ Scalar (Forked t) → process_in (forked w s z (free_slot w)).world t ≡ Some c → SharesFrames p c) (same_process k q at here) (child_as t c (free_slot w) refl)))
 
-  pub child_frames : (t : ℕ) (c : Process) → (step w (step_of.Fork h)).reply ≡ Forked t → process_in (step w (step_of.Fork h)).world t ≡ Some c → SharesFrames p c
+  pub child_frames : (t : ℕ) (c : Process) → (step w (step_of.Fork h)).reply ≡ Scalar (Forked t) → process_in (step w (step_of.Fork h)).world t ≡ Some c → SharesFrames p c
   child_frames t c e there = child_good t c (sym (step_reply w (step_of.Fork h)) ∙ e) (sym (step_process w (step_of.Fork h) t) ∙ there)
 
 -- a start
@@ -380,19 +381,19 @@ module _ (w : World) (new : HasNewCopies w) (s : ℕ) (p : Process) where
           let two : y.copy ≡ copy = same_Some _ _ is in
           absurd (omega (arith, above, low, one, two))
 
-  start_unless : (slot : ℕ) (ls : List LoadSegment) (b : Bool) → free_slot w ≡ Some slot → (started_unless w slot ls b).reply ≡ Started s → process_in (started_unless w slot ls b).world s ≡ Some p → HasNewFrames w p
+  start_unless : (slot : ℕ) (ls : List LoadSegment) (b : Bool) → free_slot w ≡ Some slot → (started_unless w slot ls b).reply ≡ Scalar (Started s) → process_in (started_unless w slot ls b).world s ≡ Some p → HasNewFrames w p
   start_unless slot ls true free e there = absurd cc
   start_unless slot ls false free e there =
       let same : slot ≡ s = cc in
       let here = (set_puts w (started_unless w slot ls false).world slot (Some (process_of w.scheme w.counter ls)) (let room = free_there w.slots 0 slot free in omega (arith, room)) refl).here in
       subst (HasNewFrames w) (same_Some (process_of w.scheme w.counter ls) p (sym here ∙ ap (process_in (started_unless w slot ls false).world) same ∙ there)) (anew_frames (process_of w.scheme w.counter ls) (image_anew w.scheme w.counter ls))
 
-  start_as : (r : Result (List LoadSegment) BadImage) (o : Option ℕ) → free_slot w ≡ o → (started w r o).reply ≡ Started s → process_in (started w r o).world s ≡ Some p → HasNewFrames w p
+  start_as : (r : Result (List LoadSegment) BadImage) (o : Option ℕ) → free_slot w ≡ o → (started w r o).reply ≡ Scalar (Started s) → process_in (started w r o).world s ≡ Some p → HasNewFrames w p
   start_as r None free e there = absurd cc
   start_as (Err b) (Some slot) free e there = absurd cc
   start_as (Ok ls) (Some slot) free e there = start_unless slot ls _ free e there
 
-  pub started_frames : (image : Image) → (step w (step_of.Start image)).reply ≡ Started s → process_in (step w (step_of.Start image)).world s ≡ Some p → HasNewFrames w p
+  pub started_frames : (image : Image) → (step w (step_of.Start image)).reply ≡ Scalar (Started s) → process_in (step w (step_of.Start image)).world s ≡ Some p → HasNewFrames w p
   started_frames image e there =
       let x = step_of.Start image in
       start_as (image_loads w.scheme image) (free_slot w) refl (sym (step_reply w x) ∙ e) (sym (step_process w x s) ∙ there)

@@ -1,6 +1,6 @@
 -- Lemma: by its own step a process becomes what part (f) of the headline says of regions, marks, size and pending access
--- (`Becomes`), or it ended: its slot (place in the process table) is empty, its hart idle, all its mappings written back
--- (`Own`). Its bytes are in `KnownSteps`.
+-- (`Becomes`), or it ended: its slot is empty, its hart idle, all its mappings written back (`Own`). Its bytes are in
+-- `KnownSteps`.
 use Rattle.std.proofs.Common.{pos, ◌≡◌, ◌≢◌, ℕ, ℤ, Bool, true, false, cond, ◌+◌, ◌-◌, ◌*◌, ◌%◌, inl, inr, refl, sym, ap, subst, ◌∙◌, arith, List, [], ◌∷◌, length, Option, None, Some, Bor, ◌&&◌, ◌||◌}
 use Rattle.std.specs.Prelude.{nat_abs, Result, Ok, Err, slice_get, unwrap_or}
 use Rattle.std.specs.Ordering.{eq_by_cmp, nat_cmp}
@@ -41,15 +41,16 @@ use Rattle.process_model.specs.Service.{environment_of, initial_progress, ended,
 use Rattle.process_model.specs.Service as service
 use Rattle.process_model.specs.Stale.{with_stale_slots}
 use Rattle.process_model.specs.Steps.{plain_step, step}
-use Rattle.process_model.specs.World.{answers, free_slot, is_unserved_access, kernel_call, Outcome, process_in, refuses, with_hart, with_process, without_process, World}
+use Rattle.process_model.specs.World.{answers, free_slot, is_unserved_access, kernel_call, StepOutcome, process_in, refuses, with_hart, with_process, without_process, World}
 use Rattle.process_model.specs.declared.config.Policy.{Policy}
 use Rattle.process_model.specs.declared.config.Policy.TheVariants.{Full, Asid}
 use Rattle.process_model.specs.declared.image.BadImage.{BadImage}
 use Rattle.process_model.specs.declared.image.Image.{Image}
 use Rattle.process_model.specs.declared.phase.Phase.TheVariants.{Enter0, Idle}
-use Rattle.process_model.specs.declared.step.Refusal.{Refusal}
-use Rattle.process_model.specs.declared.step.Reply.{Reply}
-use Rattle.process_model.specs.declared.step.Reply.TheVariants.{Done, Exited, Fault, OldSize, Ready, Refused}
+use Rattle.process_model.specs.declared.reply.Refusal.{Refusal}
+use Rattle.process_model.specs.declared.reply.Reply.{Reply}
+use Rattle.process_model.specs.declared.reply.ScalarReply.TheVariants.{Done, Exited, Fault, OldSize, Ready, Refused}
+use Rattle.process_model.specs.declared.reply.Reply.TheVariants.{Scalar}
 use Rattle.process_model.specs.declared.step.Step.{Step}
 use Rattle.process_model.specs.declared.step.Step.TheVariants as step_of
 use Rattle.sv39_entry.specs.Address.{page_of}
@@ -73,7 +74,7 @@ becomes_as m n h p q scheme step reply k =
 
 -- marks change no file
 
-marks_files : (policy : Policy) (w : World) (o : Outcome) → ((with_stale_slots policy w o).world).files ≡ (o.world).files
+marks_files : (policy : Policy) (w : World) (o : StepOutcome) → ((with_stale_slots policy w o).world).files ≡ (o.world).files
 marks_files Full w o = refl
 marks_files Asid w o = refl
 
@@ -82,29 +83,29 @@ unfolding step
 step_files w x = marks_files w.policy w (plain_step w x)
 
 -- what has become of the process in slot s, which was p
-pub data Own (w : World) (h s : ℕ) (x : Step) (p : Process) (o : Outcome) : Type 0 where
+pub data Own (w : World) (h s : ℕ) (x : Step) (p : Process) (o : StepOutcome) : Type 0 where
   alive : (q : Process) → process_in o.world s ≡ Some q → is_end o.reply ≡ false → Becomes (told_as w x o.reply) h p q → Own w h s x p o
   gone : process_in o.world s ≡ None → is_end o.reply ≡ true → At o.world h None Idle → (o.world).files ≡ all_written_back w.files p → Own w h s x p o
 
-refused_unmoved : (x : Step) (r : Refusal) (page : ℕ) → is_remapped x (Refused r) page ≡ false
+refused_unmoved : (x : Step) (r : Refusal) (page : ℕ) → is_remapped x (Scalar (Refused r)) page ≡ false
 refused_unmoved (step_of.Exec h image) r page = refl
 refused_unmoved (step_of.Sbrk h delta) r page = refl
 refused_unmoved (step_of.Mmap h len protection flags n) r page = refl
 refused_unmoved (step_of.Munmap h address len) r page = refl
 refused_unmoved _ r page = refl
 
-refused_size : (z : Scheme) (x : Step) (r : Refusal) (size : ℕ) → size_after z x (Refused r) size ≡ pos size
+refused_size : (z : Scheme) (x : Step) (r : Refusal) (size : ℕ) → size_after z x (Scalar (Refused r)) size ≡ pos size
 refused_size z (step_of.Start image) r size = refl
 refused_size z (step_of.Exec h image) r size = refl
 refused_size z (step_of.Sbrk h delta) r size = refl
 refused_size z _ r size = refl
 
 module _ (w : World) (h s : ℕ) (p : Process) (on : IsOnHart w h s p) (x : Step) where
-  abbrev Fate : Outcome → Type 0
+  abbrev Fate : StepOutcome → Type 0
   Fate o = Own w h s x p o
 
   -- no page is remapped
-  becomes : (r : Reply) (q : Process) → (IsMade r → is_unserved_access q.pending ≡ is_fault r) → ((page : ℕ) → is_remapped x r page ≡ false) → size_after w.scheme x r p.size ≡ pos p.size → ((n : ℕ) → r ≢ OldSize n) → Further (is_stored_to p x) p q
+  becomes : (r : Reply) (q : Process) → (IsMade r → is_unserved_access q.pending ≡ is_fault r) → ((page : ℕ) → is_remapped x r page ≡ false) → size_after w.scheme x r p.size ≡ pos p.size → ((n : ℕ) → r ≢ Scalar (OldSize n)) → Further (is_stored_to p x) p q
       → Becomes (told_as w x r) h p q
   becomes r q waits none same calm f = record {
     waits = waits;
@@ -127,20 +128,20 @@ module _ (w : World) (h s : ℕ) (p : Process) (on : IsOnHart w h s p) (x : Step
   Calm r = ((page : ℕ) → is_remapped x r page ≡ false) × (size_after w.scheme x r p.size ≡ pos p.size)
 
   quiet : (r : Refusal) → Fate (refuses w r)
-  quiet r = Own.alive p on.lives refl (becomes (Refused r) p (λ made. absurd (made r refl)) (refused_unmoved x r) (refused_size w.scheme x r p.size) (λ n e. absurd cc) (still (is_stored_to p x) p))
+  quiet r = Own.alive p on.lives refl (becomes (Scalar (Refused r)) p (λ made. absurd (made r refl)) (refused_unmoved x r) (refused_size w.scheme x r p.size) (λ n e. absurd cc) (still (is_stored_to p x) p))
 
   -- its slot has q then
   puts : (v : World) (r : Reply) (q : Process) → v.slots ≡ (with_process w s q).slots → is_end r ≡ false → Becomes (told_as w x r) h p q → Fate (answers v r)
   puts v r q e lives k = Own.alive q ((set_puts w v s (Some q) (in_range w s p on.lives) e).here) lives k
 
-  further : (v : World) (r : Reply) (q : Process) → v.slots ≡ (with_process w s q).slots → is_end r ≡ false → is_unserved_access q.pending ≡ is_fault r → Calm r → ((n : ℕ) → r ≢ OldSize n) → Further (is_stored_to p x) p q → Fate (answers v r)
+  further : (v : World) (r : Reply) (q : Process) → v.slots ≡ (with_process w s q).slots → is_end r ≡ false → is_unserved_access q.pending ≡ is_fault r → Calm r → ((n : ℕ) → r ≢ Scalar (OldSize n)) → Further (is_stored_to p x) p q → Fate (answers v r)
   further v r q e lives waits still other f = puts v r q e lives (becomes r q (λ made. waits) still.0 still.1 other f)
 
   ends : (hart : Hart) (r : Reply) → slice_get w.harts h ≡ Some hart → is_end r ≡ true → Fate (ended w h hart s p r)
   ends hart r there is = Own.gone ((set_puts w (ended w h hart s p r).world s None (in_range w s p on.lives) refl).here) is (put_at (record (without_process w s) { files = all_written_back w.files p }) h hart (record hart { phase = Idle; slot = None }) there) refl
 
   -- it is the process of that hart
-  its : (f : ℕ → Process → Outcome) (t : ℕ) (q : Process) → slot_on w h ≡ Some t → process_in w t ≡ Some q → Fate (f s p) → Fate (f t q)
+  its : (f : ℕ → Process → StepOutcome) (t : ℕ) (q : Process) → slot_on w h ≡ Some t → process_in w t ≡ Some q → Fate (f s p) → Fate (f t q)
   its f t q at here fate =
       let slots : s ≡ t = same_Some s t (sym on.there ∙ at) in
       let same : p ≡ q = same_Some p q (sym on.lives ∙ ap (process_in w) slots ∙ here) in
@@ -148,22 +149,22 @@ module _ (w : World) (h s : ℕ) (p : Process) (on : IsOnHart w h s p) (x : Step
 
   -- accesses
 
-  fault_fate : (hart : Hart) (a : service.AccessRequest) (cause : ℕ) → Calm (Fault cause) → Fate (access_outcome w h hart s (faulted p a cause))
+  fault_fate : (hart : Hart) (a : service.AccessRequest) (cause : ℕ) → Calm (Scalar (Fault cause)) → Fate (access_outcome w h hart s (faulted p a cause))
   fault_fate hart a cause still = further _ _ _ refl refl refl still (λ n e. absurd cc) (record { same = refl; maps = refl; size = refl; base = refl; kept = λ page e. inl e; forked = λ page e. e; stored = λ page e. e; anew = λ page e. inl e })
 
   answer_fate : (v : World) (r : Reply) (kind : Access) (address width value : ℕ) (page : Page) → v.slots ≡ (with_process w s (without_pending (with_page p (page_of address) (access_answer kind page (address % 4096) width value).1))).slots
-      → is_end r ≡ false → false ≡ is_fault r → Calm r → ((n : ℕ) → r ≢ OldSize n) → get p.settled (page_of address) ≡ Some page → Fate (answers v r)
+      → is_end r ≡ false → false ≡ is_fault r → Calm r → ((n : ℕ) → r ≢ Scalar (OldSize n)) → get p.settled (page_of address) ≡ Some page → Fate (answers v r)
   answer_fate v r kind address width value page e lives calm still other there =
       let f = answer_further (is_stored_to p x) p (page_of address) page kind (address % 4096) width value there in
       further v r (without_pending (with_page p (page_of address) (access_answer kind page (address % 4096) width value).1)) e lives calm still other (record { same = f.same; maps = f.maps; size = f.size; base = f.base; kept = f.kept; forked = f.forked; stored = f.stored; anew = f.anew })
 
   -- service
 
-  serve_or : (hart : Hart) (a : Pending) (r : Result Progress Rule) → slice_get w.harts h ≡ Some hart → Calm Ready → FurtherIfOk (is_stored_to p x) p r → Fate (served_or_ended w h hart s p a r)
+  serve_or : (hart : Hart) (a : Pending) (r : Result Progress Rule) → slice_get w.harts h ≡ Some hart → Calm (Scalar Ready) → FurtherIfOk (is_stored_to p x) p r → Fate (served_or_ended w h hart s p a r)
   serve_or hart a (Err r) there still FurtherIfOk.stopped = ends hart _ there refl
   serve_or hart a (Ok g) there still (FurtherIfOk.came f) = further _ _ (with_served g a).process refl refl refl still (λ n e. absurd cc) (record { same = f.same; maps = f.maps; size = f.size; base = f.base; kept = f.kept; forked = f.forked; stored = f.stored; anew = f.anew })
 
-  serve_fate : (hart : Hart) (o : Option Pending) → slice_get w.harts h ≡ Some hart → Calm Ready → ((a : Pending) → o ≡ Some a → is_store a.access ≡ true → is_stored_to p x (page_of a.address) ≡ true) → Fate (served w h hart s p o)
+  serve_fate : (hart : Hart) (o : Option Pending) → slice_get w.harts h ≡ Some hart → Calm (Scalar Ready) → ((a : Pending) → o ≡ Some a → is_store a.access ≡ true → is_stored_to p x (page_of a.address) ≡ true) → Fate (served w h hart s p o)
   serve_fate hart None there still goes = quiet _
   serve_fate hart (Some a) there still goes = serve_or hart a _ there still (reached_further (is_stored_to p x) (environment_of w s) (initial_progress w p) a.access a.address (first_rule p.scheme (regions p) a.access a.address a.width) (goes a refl))
 
@@ -394,8 +395,8 @@ module _ (w : World) (h s : ℕ) (p : Process) (on : IsOnHart w h s p) where
   trap_own =
       let x = step_of.Trap h in
       on_hart_good w (Own w h s x p) (quiet w h s p on x) h true _ _ _ (λ hart is _. its_good w (Own w h s x p) (quiet w h s p on x) h hart _ is
-      (λ t q at here. its w h s p on x (λ t q. answers (with_hart (with_process w t (without_pending q)) h (record hart { phase = Enter0 })) Done) t q at here
-      (further w h s p on x (with_hart (with_process w s (without_pending p)) h (record hart { phase = Enter0 })) Done (without_pending p) refl refl refl ((λ page. refl), refl) (λ n e. absurd cc) (record { same = refl; maps = refl; size = refl; base = refl; kept = λ page e. inl e; forked = λ page e. e; stored = λ page e. e; anew = λ page e. inl e }))))
+      (λ t q at here. its w h s p on x (λ t q. answers (with_hart (with_process w t (without_pending q)) h (record hart { phase = Enter0 })) (Scalar Done)) t q at here
+      (further w h s p on x (with_hart (with_process w s (without_pending p)) h (record hart { phase = Enter0 })) (Scalar Done) (without_pending p) refl refl refl ((λ page. refl), refl) (λ n e. absurd cc) (record { same = refl; maps = refl; size = refl; base = refl; kept = λ page e. inl e; forked = λ page e. e; stored = λ page e. e; anew = λ page e. inl e }))))
 
   answer_there : (hart : Hart) (kind : Access) (address width value : ℕ) (x : Step) → (page : Page) (t : ℕ) (q : Process) → slot_on w h ≡ Some t → process_in w t ≡ Some q → get q.settled (page_of address) ≡ Some page
       → get p.settled (page_of address) ≡ Some page
@@ -435,9 +436,9 @@ module _ (w : World) (h s : ℕ) (p : Process) (on : IsOnHart w h s p) where
   exit_own status =
       let x = step_of.Exit h status in
       on_hart_good w (Own w h s x p) (quiet w h s p on x) h true _ _ _ (λ hart is _. its_good w (Own w h s x p) (quiet w h s p on x) h hart _ is
-      (λ t q at here. its w h s p on x (λ t q. ended w h hart t q (Exited status)) t q at here (ends w h s p on x hart (Exited status) is refl)))
+      (λ t q at here. its w h s p on x (λ t q. ended w h hart t q (Scalar (Exited status))) t q at here (ends w h s p on x hart (Scalar (Exited status)) is refl)))
 
-  call_own : (x : Step) (proper : Bool) (run : Hart → ℕ → Process → Outcome) → ((hart : Hart) → Own w h s x p (run hart s p)) → Own w h s x p (kernel_call w h proper run)
+  call_own : (x : Step) (proper : Bool) (run : Hart → ℕ → Process → StepOutcome) → ((hart : Hart) → Own w h s x p (run hart s p)) → Own w h s x p (kernel_call w h proper run)
   call_own x proper run each = kernel_good w (Own w h s x p) (quiet w h s p on x) h proper run (λ hart t q at here. its w h s p on x (run hart) t q at here (each hart))
 
   fork_own : FateOf (step_of.Fork h)

@@ -1,5 +1,5 @@
--- The byte of a settled page (in memory) at an address (`byte_in`), and `AllSized`, each page has 4,096 bytes. Lemmas: what
--- a fork, a store, a page made resident, a release of pages and an image's start make of the bytes.
+-- The byte of a settled page at an address (`byte_in`), and `AllSized`, each page has 4,096 bytes. Lemmas: what a fork, a
+-- store, a page made resident, a release of pages and an image's start make of the bytes.
 use Rattle.std.proofs.Common.{◌≡◌, ℕ, zero, suc, Bool, true, false, cond, not, ◌&&◌, ◌||◌, ◌==◌, ◌+◌, ◌-◌, ◌%◌, ◌<◌, ◌≤◌, refl, sym, ap, ◌∙◌, arith, inl, inr, List, [], ◌∷◌, ◌++◌, take, drop, length, Option, None, Some}
 use Rattle.std.specs.Prelude.{nat_le, nat_lt, replicate, slice_get, flat_map, if◌then◌else◌}
 use Rattle.std.specs.Ordering.{nat_cmp, eq_by_cmp}

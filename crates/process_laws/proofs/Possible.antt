@@ -12,10 +12,10 @@ use Rattle.process_model.specs.Process.{Page, Pending, Process}
 use Rattle.process_model.specs.Residence.{access_answer}
 use Rattle.process_model.specs.Service.{if_resident, if_settled, served_or_ended, unless_denied}
 use Rattle.process_model.specs.Service as service
-use Rattle.process_model.specs.World.{always, can_call, is_unserved_access, kernel_call, Outcome, with_its_process, World}
+use Rattle.process_model.specs.World.{always, can_call, is_unserved_access, kernel_call, StepOutcome, with_its_process, World}
 use Rattle.process_model.specs.declared.phase.Phase.{Phase}
 use Rattle.process_model.specs.declared.phase.Phase.TheVariants.{Kernel}
-use Rattle.process_model.specs.declared.step.Reply.{Reply}
+use Rattle.process_model.specs.declared.reply.Reply.{Reply}
 use Rattle.sv39_entry.specs.declared.access.Access.{Access}
 use Rattle.sv39_entry.specs.declared.access.Access.TheVariants as access
 use Rattle.sv39_entry.specs.declared.rule.Rule.{Rule}
@@ -64,7 +64,7 @@ served_made w h hart s p a (Ok g) = λ e f. absurd cc
 -- ---- calls
 
 -- what a call runs, where it is proper
-pub call_runs : (w : World) (h s : ℕ) (p : Process) (proper : Bool) (run : Hart → ℕ → Process → Outcome) → proper ≡ true → IsOnHart w h s p → is_unserved_access p.pending ≡ false → IsInPhase w h Kernel
+pub call_runs : (w : World) (h s : ℕ) (p : Process) (proper : Bool) (run : Hart → ℕ → Process → StepOutcome) → proper ≡ true → IsOnHart w h s p → is_unserved_access p.pending ≡ false → IsInPhase w h Kernel
     → (hart : Hart) × (kernel_call w h proper run ≡ run hart s p)
 call_runs w h s p proper run fits on quiet kernel =
     let k = stands w h Kernel kernel in

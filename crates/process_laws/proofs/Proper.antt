@@ -15,9 +15,10 @@ use Rattle.process_model.specs.declared.phase.Phase.TheVariants.{Enter0, Enter1,
 use Rattle.process_model.specs.Harts.{Hart, is_kernel, may_switch, phase_for}
 use Rattle.process_model.specs.Process.{Process}
 use Rattle.process_model.specs.Steps.{step, advanced}
-use Rattle.process_model.specs.World.{is_unserved, is_unserved_access, Outcome, process_of_slot, World, always, answers, awaits_service, can_go_on, can_run, process_in, with_hart}
+use Rattle.process_model.specs.World.{is_unserved, is_unserved_access, StepOutcome, process_of_slot, World, always, answers, awaits_service, can_go_on, can_run, process_in, with_hart}
 use Rattle.process_model.specs.declared.phase.Phase.{Phase}
-use Rattle.process_model.specs.declared.step.Reply.TheVariants.{Exited, InFrame, Done}
+use Rattle.process_model.specs.declared.reply.ScalarReply.TheVariants.{Exited, InFrame, Done}
+use Rattle.process_model.specs.declared.reply.Reply.TheVariants.{Scalar}
 use Rattle.process_model.specs.declared.step.Step.TheVariants as step_of
 
 not_true : (b : Bool) → not b ≡ true → b ≡ false
@@ -75,16 +76,16 @@ module _ (w : World) where
 
   pub switch_off : (h : ℕ) → IsMade (step w (step_of.Switch h None)).reply → (slot_on (step w (step_of.Switch h None)).world h ≡ None) × IsInPhase (step w (step_of.Switch h None)).world h Idle
   switch_off h made =
-      let r = ran_on w h true (λ hart. may_switch hart.phase && can_run w None) always (λ hart. answers (with_hart w h (record hart { phase = phase_for None; slot = None })) Done) (was_made w (step_of.Switch h None) made) in
+      let r = ran_on w h true (λ hart. may_switch hart.phase && can_run w None) always (λ hart. answers (with_hart w h (record hart { phase = phase_for None; slot = None })) (Scalar Done)) (was_made w (step_of.Switch h None) made) in
       let hart = record r.hart { phase = Idle; slot = None } in
       let at : At (with_hart w h hart) h None Idle = put_at w h r.hart hart r.there in
-      let there = step_at w (step_of.Switch h None) h None Idle (subst (λ (o : Outcome). At o.world h None Idle) (sym r.is) at) in
+      let there = step_at w (step_of.Switch h None) h None Idle (subst (λ (o : StepOutcome). At o.world h None Idle) (sym r.is) at) in
       (there.on, there.is_in)
 
   -- ---- replies
 
-  pub exit_tells : (h : ℕ) (status code : ℤ) → (step w (step_of.Exit h status)).reply ≡ Exited code → code ≡ status
-  exit_tells h status code is = kernel_good w (λ (o : Outcome). o.reply ≡ Exited code → code ≡ status) (λ r e. absurd cc) h true _ (λ hart t p on here e. cc) (sym (step_reply w (step_of.Exit h status)) ∙ is)
+  pub exit_tells : (h : ℕ) (status code : ℤ) → (step w (step_of.Exit h status)).reply ≡ Scalar (Exited code) → code ≡ status
+  exit_tells h status code is = kernel_good w (λ (o : StepOutcome). o.reply ≡ Scalar (Exited code) → code ≡ status) (λ r e. absurd cc) h true _ (λ hart t p on here e. cc) (sym (step_reply w (step_of.Exit h status)) ∙ is)
 
-  pub fetch_tells : (h offset n : ℕ) (via : Option ℕ) → (step w (step_of.TrampolineFetch h offset via)).reply ≡ InFrame n → n ≡ 0
-  fetch_tells h offset n via is = on_hart_good w (λ (o : Outcome). o.reply ≡ InFrame n → n ≡ 0) (λ r e. absurd cc) h _ _ _ _ (λ hart there fits e. cc) (sym (step_reply w (step_of.TrampolineFetch h offset via)) ∙ is)
+  pub fetch_tells : (h offset n : ℕ) (via : Option ℕ) → (step w (step_of.TrampolineFetch h offset via)).reply ≡ Scalar (InFrame n) → n ≡ 0
+  fetch_tells h offset n via is = on_hart_good w (λ (o : StepOutcome). o.reply ≡ Scalar (InFrame n) → n ≡ 0) (λ r e. absurd cc) h _ _ _ _ (λ hart there fits e. cc) (sym (step_reply w (step_of.TrampolineFetch h offset via)) ∙ is)

@@ -16,12 +16,13 @@ use Rattle.process_model.specs.Regions.{Region}
 use Rattle.process_model.specs.Residence.{access_answer}
 use Rattle.process_model.specs.Service.{access_step, Answer, AccessRequest, if_resident, if_settled, is_fault, access_outcome, unless_denied}
 use Rattle.process_model.specs.Steps.{plain_step, step}
-use Rattle.process_model.specs.World.{on_hart, on_hart_at, Outcome, process_in, unless_refused, with_its_process, with_process_of, with_slot_of, World}
+use Rattle.process_model.specs.World.{on_hart, on_hart_at, StepOutcome, process_in, unless_refused, with_its_process, with_process_of, with_slot_of, World}
 use Rattle.process_model.specs.declared.image.Image.{Image}
 use Rattle.process_model.specs.declared.phase.Phase.{Phase}
-use Rattle.process_model.specs.declared.step.Refusal.TheVariants.{BadArgument, BadSize, FileNotWritable, Impossible, MappingsFull, NoEntry, NoRoom}
-use Rattle.process_model.specs.declared.step.Reply.{Reply}
-use Rattle.process_model.specs.declared.step.Reply.TheVariants.{Refused}
+use Rattle.process_model.specs.declared.reply.Refusal.TheVariants.{BadArgument, BadSize, FileNotWritable, Impossible, MappingsFull, NoEntry, NoRoom}
+use Rattle.process_model.specs.declared.reply.Reply.{Reply}
+use Rattle.process_model.specs.declared.reply.ScalarReply.TheVariants.{Refused}
+use Rattle.process_model.specs.declared.reply.Reply.TheVariants.{Scalar}
 use Rattle.process_model.specs.declared.step.Step.{Step}
 use Rattle.process_model.specs.declared.step.Step.TheVariants as step
 use Rattle.sv39_entry.specs.declared.access.Access.{Access}
@@ -31,12 +32,12 @@ use Rattle.sv39_entry.specs.declared.rule.Rule.{Rule}
 -- a reply that tells neither
 pub record IsCalm (r : Reply) : Type 0 where
   pub silent : is_no_frame_reply r ≡ false
-  pub possible : (phase : Phase) → r ≢ Refused (Impossible phase)
+  pub possible : (phase : Phase) → r ≢ Scalar (Refused (Impossible phase))
 
 -- ---- calls that change regions
 
 module _ (w : World) (s : ℕ) where
-  Calm : Outcome → Type 0
+  Calm : StepOutcome → Type 0
   Calm o = IsCalm o.reply
 
   size_calm : (p : Process) (n : ℕ) (a b : Bool) → Calm (resized_to w s p (resized_unless p n (first_true ((a, BadSize) ∷ (b, NoRoom) ∷ []))))
@@ -82,33 +83,33 @@ module _ (w : World) (s : ℕ) where
 
 -- ---- steps that take no frame
 
-abbrev Quiet : Outcome → Type 0
+abbrev Quiet : StepOutcome → Type 0
 Quiet o = is_no_frame_reply o.reply ≡ false
 
 module _ (w : World) where
-  unless_quiet : (run : Hart → Outcome) (hart : Hart) (a b c : Bool) → Quiet (run hart) → Quiet (unless_refused w run hart (first_true ((not a, BadArgument) ∷ (not b, Impossible hart.phase) ∷ (not c, NoEntry) ∷ [])))
+  unless_quiet : (run : Hart → StepOutcome) (hart : Hart) (a b c : Bool) → Quiet (run hart) → Quiet (unless_refused w run hart (first_true ((not a, BadArgument) ∷ (not b, Impossible hart.phase) ∷ (not c, NoEntry) ∷ [])))
   unless_quiet run hart true true true f = f
   unless_quiet run hart true true false f = refl
   unless_quiet run hart true false c f = refl
   unless_quiet run hart false b c f = refl
 
-  at_quiet : (proper : Bool) (possible entry : Hart → Bool) (run : Hart → Outcome) (o : Option Hart) → ((hart : Hart) → Quiet (run hart)) → Quiet (on_hart_at w proper possible entry run o)
+  at_quiet : (proper : Bool) (possible entry : Hart → Bool) (run : Hart → StepOutcome) (o : Option Hart) → ((hart : Hart) → Quiet (run hart)) → Quiet (on_hart_at w proper possible entry run o)
   at_quiet proper possible entry run None f = refl
   at_quiet proper possible entry run (Some hart) f = unless_quiet run hart proper (possible hart) (entry hart) (f hart)
 
-  on_quiet : (h : ℕ) (proper : Bool) (possible entry : Hart → Bool) (run : Hart → Outcome) → ((hart : Hart) → Quiet (run hart)) → Quiet (on_hart w h proper possible entry run)
+  on_quiet : (h : ℕ) (proper : Bool) (possible entry : Hart → Bool) (run : Hart → StepOutcome) → ((hart : Hart) → Quiet (run hart)) → Quiet (on_hart w h proper possible entry run)
   unfolding on_hart
   on_quiet h proper possible entry run f = at_quiet proper possible entry run (slice_get w.harts h) f
 
-  of_quiet : (phase : Phase) (run : ℕ → Process → Outcome) (s : ℕ) (o : Option Process) → ((s : ℕ) (p : Process) → Quiet (run s p)) → Quiet (with_process_of w phase run s o)
+  of_quiet : (phase : Phase) (run : ℕ → Process → StepOutcome) (s : ℕ) (o : Option Process) → ((s : ℕ) (p : Process) → Quiet (run s p)) → Quiet (with_process_of w phase run s o)
   of_quiet phase run s None f = refl
   of_quiet phase run s (Some p) f = f s p
 
-  slot_quiet : (phase : Phase) (run : ℕ → Process → Outcome) (o : Option ℕ) → ((s : ℕ) (p : Process) → Quiet (run s p)) → Quiet (with_slot_of w phase run o)
+  slot_quiet : (phase : Phase) (run : ℕ → Process → StepOutcome) (o : Option ℕ) → ((s : ℕ) (p : Process) → Quiet (run s p)) → Quiet (with_slot_of w phase run o)
   slot_quiet phase run None f = refl
   slot_quiet phase run (Some s) f = of_quiet phase run s (process_in w s) f
 
-  its_quiet : (hart : Hart) (run : ℕ → Process → Outcome) → ((s : ℕ) (p : Process) → Quiet (run s p)) → Quiet (with_its_process w hart run)
+  its_quiet : (hart : Hart) (run : ℕ → Process → StepOutcome) → ((s : ℕ) (p : Process) → Quiet (run s p)) → Quiet (with_its_process w hart run)
   unfolding with_its_process
   its_quiet hart run f = slot_quiet hart.phase run hart.slot f
 

@@ -13,12 +13,13 @@ use Rattle.process_model.specs.Process.{Page, Pending, Process, without_pending}
 use Rattle.process_model.specs.Service.{environment_of, initial_progress, served, served_or_ended, with_progress}
 use Rattle.process_model.specs.Stale.{changed_slots, is_changed, same_leaf, same_leaves, same_mark, with_stale, with_stale_slots}
 use Rattle.process_model.specs.Steps.{plain_step, step}
-use Rattle.process_model.specs.World.{answers, free_slot, Outcome, World}
+use Rattle.process_model.specs.World.{answers, free_slot, StepOutcome, World}
 use Rattle.process_model.specs.declared.config.Policy.{Policy}
 use Rattle.process_model.specs.declared.config.Policy.TheVariants.{Full, Asid}
 use Rattle.process_model.specs.declared.image.BadImage.{BadImage}
-use Rattle.process_model.specs.declared.step.Refusal.{Refusal}
-use Rattle.process_model.specs.declared.step.Reply.TheVariants.{Refused}
+use Rattle.process_model.specs.declared.reply.Refusal.{Refusal}
+use Rattle.process_model.specs.declared.reply.ScalarReply.TheVariants.{Refused}
+use Rattle.process_model.specs.declared.reply.Reply.TheVariants.{Scalar}
 use Rattle.process_model.specs.declared.step.Step.{Step}
 use Rattle.process_model.specs.declared.step.Step.TheVariants as step
 use Rattle.sv39_entry.specs.declared.access.Access.TheVariants as access
@@ -53,10 +54,10 @@ none_stale (hart ∷ harts) = ap (λ hs. hart ∷ hs) (none_stale harts)
 -- ---- each step
 
 module _ (w : World) where
-  Same : Outcome → Type 0
-  Same o = (e : Refusal) → o.reply ≡ Refused e → o.world ≡ w
+  Same : StepOutcome → Type 0
+  Same o = (e : Refusal) → o.reply ≡ Scalar (Refused e) → o.world ≡ w
 
-  quiet : (r : Refusal) → Same (record { reply = Refused r; world = w })
+  quiet : (r : Refusal) → Same (record { reply = Scalar (Refused r); world = w })
   unfolding Same
   quiet r e f = refl
 
@@ -148,7 +149,7 @@ module _ (w : World) where
   plain_same (step.CopyOut h address bytes) = kernel_good w Same quiet h _ _ (λ hart t p on here. let c = copied_out (environment_of w t) (initial_progress w (without_pending p)) address bytes.now in out_same t c c.stop)
   plain_same (step.Exit h status) = kernel_good w Same quiet h true _ (λ hart t p on here e f. absurd cc)
 
-  marks_same : (policy : Policy) (o : Outcome) → Same o → Same (with_stale_slots policy w o)
+  marks_same : (policy : Policy) (o : StepOutcome) → Same o → Same (with_stale_slots policy w o)
   unfolding Same
   marks_same Full o same = same
   marks_same Asid o same = λ e f.
@@ -156,6 +157,6 @@ module _ (w : World) where
       let slots : changed_slots 0 w.slots (o.world).slots ≡ [] = ap (λ (v : World). changed_slots 0 w.slots v.slots) is ∙ none_changed 0 w.slots in
       ap (λ (ns : List ℕ). let v : World = record o.world { harts = map (with_stale ns) (o.world).harts } in v) slots ∙ ap (λ (hs : List Hart). let v : World = record o.world { harts = hs } in v) (none_stale (o.world).harts) ∙ is
 
-  pub refused_same : (x : Step) (e : Refusal) → (step w x).reply ≡ Refused e → (step w x).world ≡ w
+  pub refused_same : (x : Step) (e : Refusal) → (step w x).reply ≡ Scalar (Refused e) → (step w x).world ≡ w
   unfolding Same step
   refused_same x = marks_same w.policy (plain_step w x) (plain_same x)

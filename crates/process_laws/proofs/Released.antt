@@ -1,5 +1,5 @@
--- Lemmas: a page that sbrk or munmap releases is not settled (in memory) afterwards; and a page that is not settled has its
--- initial bytes after it is made resident (in memory and ready for an access).
+-- Lemmas: a page that sbrk or munmap releases is not settled afterwards; and a page that is not settled has its initial bytes
+-- after it is made resident.
 use Rattle.std.proofs.Common.{◌≡◌, ℕ, ℤ, Bool, true, false, ◌+◌, ◌≤◌, ◌<◌, ap, subst, List, Option, None, Some}
 use Rattle.std.specs.Prelude.{Ok, option_map}
 use Rattle.process_model.specs.Bytes.{pages_for}
@@ -11,7 +11,7 @@ use Rattle.process_model.specs.Process.{Page, Process}
 use Rattle.process_model.specs.Regions.{Region}
 use Rattle.process_model.specs.ReleaseLaws.{run_goes}
 use Rattle.process_model.specs.Residence.{initial_page, made_resident, made_resident_from}
-use Rattle.process_model.specs.declared.step.Refusal.{Refusal}
+use Rattle.process_model.specs.declared.reply.Refusal.{Refusal}
 use Rattle.process_laws.proofs.Standing.{put_is_there}
 use Rattle.sv39_entry.specs.Address.{page_of}
 use Rattle.sv39_entry.specs.declared.access.Access.{Access}

@@ -7,8 +7,8 @@ use Rattle.process_laws.specs.Moments.{slot_on}
 use Rattle.process_laws.specs.Words.{IsMade, IsOnHart, hart_of_step}
 use Rattle.process_model.specs.Process.{Process}
 use Rattle.process_model.specs.Steps.{plain_step, step}
-use Rattle.process_model.specs.World.{Outcome, process_in, refuses, World}
-use Rattle.process_model.specs.declared.step.Refusal.{Refusal}
+use Rattle.process_model.specs.World.{StepOutcome, process_in, refuses, World}
+use Rattle.process_model.specs.declared.reply.Refusal.{Refusal}
 use Rattle.process_model.specs.declared.step.Step.{Step}
 use Rattle.process_model.specs.declared.step.Step.TheVariants as step_of
 use Rattle.sv39_entry.specs.declared.access.Access.TheVariants as access
@@ -19,7 +19,7 @@ abbrev pub Hosts : World → ℕ → Type 0
 Hosts w h = (s : ℕ) × (p : Process) × IsOnHart w h s p
 
 module _ (w : World) (h : ℕ) where
-  abbrev Hosted : Outcome → Type 0
+  abbrev Hosted : StepOutcome → Type 0
   Hosted o = IsMade o.reply → Hosts w h
 
   unmade : (r : Refusal) → Hosted (refuses w r)

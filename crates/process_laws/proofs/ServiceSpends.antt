@@ -1,5 +1,4 @@
--- Lemma: a service that makes a page resident (in memory and ready for the access), which it was not, lowers the free count
--- by exactly its need (`need_at`).
+-- Lemma: a service that makes a page resident, which it was not, lowers the free count by exactly its need (`need_at`).
 use Rattle.std.proofs.Common.{◌≡◌, ℕ, Bool, true, false, cond, ◌+◌, ◌-◌, ◌≤◌, ◌<◌, inl, inr, refl, sym, ap, subst, ◌∙◌, arith, List, ◌∷◌, ◌++◌, Option, None, Some, length-set}
 use Rattle.std.proofs.lemmas.Bool.{and_parts}
 use Rattle.std.specs.Prelude.{Result, Ok, Err, slice_get, slice_set, sum_by}

@@ -49,13 +49,14 @@ use Rattle.process_model.specs.Process.{grants_write, Page, Process, regions}
 use Rattle.process_model.specs.Regions.{lacks_right, Region, region_at}
 use Rattle.process_model.specs.Residence.{child_of, child_page, marked, marked_page}
 use Rattle.process_model.specs.Steps.{plain_step, run, step}
-use Rattle.process_model.specs.World.{booted, flat, free_slot, others_have, Outcome, process_in, with_process, World}
+use Rattle.process_model.specs.World.{booted, flat, free_slot, others_have, StepOutcome, process_in, with_process, World}
 use Rattle.process_model.specs.declared.image.BadImage.{BadImage}
 use Rattle.process_model.specs.declared.image.Image.{Image}
 use Rattle.process_model.specs.declared.config.Config.{Config}
-use Rattle.process_model.specs.declared.step.Refusal.{Refusal}
-use Rattle.process_model.specs.declared.step.Reply.{Reply}
-use Rattle.process_model.specs.declared.step.Reply.TheVariants.{Done, Forked, Refused, Started}
+use Rattle.process_model.specs.declared.reply.Refusal.{Refusal}
+use Rattle.process_model.specs.declared.reply.Reply.{Reply}
+use Rattle.process_model.specs.declared.reply.ScalarReply.TheVariants.{Done, Forked, Refused, Started}
+use Rattle.process_model.specs.declared.reply.Reply.TheVariants.{Scalar}
 use Rattle.process_model.specs.declared.step.Step.{Step}
 use Rattle.process_model.specs.declared.step.Step.TheVariants as step_of
 use Rattle.sv39_entry.specs.declared.access.Access.TheVariants as access
@@ -301,8 +302,8 @@ writes_at (Some r) page = elim r.writes as (λ b. not (not b) ≡ b) [ true ↦ 
 writes_is : (p : Process) (page : ℕ) → grants_write p page ≡ writes_of (grant p page)
 writes_is p page = writes_at (region_at (regions p) page) page
 
-exec_done : (h : ℕ) (image : Image) (r : Reply) (page : ℕ) → is_remapped (step_of.Exec h image) r page ≡ true → r ≡ Done
-exec_done h image Done page e = refl
+exec_done : (h : ℕ) (image : Image) (r : Reply) (page : ℕ) → is_remapped (step_of.Exec h image) r page ≡ true → r ≡ Scalar Done
+exec_done h image (Scalar Done) page e = refl
 exec_done h image r page e = absurd cc
 
 module _ (w : World) (h s : ℕ) (p : Process) (on : IsOnHart w h s p) (new : HasNewCopies w) (f : Shares w) (granted : Granted p) (sound : IsSound p) (x : Step) (makes : hart_of_step x ≡ Some h) where
@@ -336,12 +337,12 @@ module _ (w : World) (h s : ℕ) (p : Process) (on : IsOnHart w h s p) (new : Ha
       by false e same = KeptPage.held p u on.lives is copy same (λ g k. absurd (false≢true (sym e ∙ k (grants u is g))))
 
   -- no process comes
-  no_starts : (r : Reply) → ((t : ℕ) → r ≢ Started t) → ((t : ℕ) → r ≢ Forked t) → (t : ℕ) → starts_in_slot r t ≡ false
-  no_starts (Started u) a b t = absurd (a u refl)
-  no_starts (Forked u) a b t = absurd (b u refl)
+  no_starts : (r : Reply) → ((t : ℕ) → r ≢ Scalar (Started t)) → ((t : ℕ) → r ≢ Scalar (Forked t)) → (t : ℕ) → starts_in_slot r t ≡ false
+  no_starts (Scalar (Started u)) a b t = absurd (a u refl)
+  no_starts (Scalar (Forked u)) a b t = absurd (b u refl)
   no_starts r a b t = refl
 
-  others_were : ((t : ℕ) → (step w x).reply ≢ Started t) → ((t : ℕ) → (step w x).reply ≢ Forked t) → (t : ℕ) (r : Process) → s ≢ t → process_in (step w x).world t ≡ Some r → process_in w t ≡ Some r
+  others_were : ((t : ℕ) → (step w x).reply ≢ Scalar (Started t)) → ((t : ℕ) → (step w x).reply ≢ Scalar (Forked t)) → (t : ℕ) (r : Process) → s ≢ t → process_in (step w x).world t ≡ Some r → process_in w t ≡ Some r
   others_were a b t r apart there = by (process_in w t) refl
     where
       by : (o : Option Process) → process_in w t ≡ o → process_in w t ≡ Some r
@@ -350,7 +351,7 @@ module _ (w : World) (h s : ℕ) (p : Process) (on : IsOnHart w h s p) (new : Ha
           let still : process_in (step w x).world t ≡ Some z = kept_by t z w x (λ k is on_it. apart (same_Some s t (sym on.there ∙ ap (slot_on w) (same_Some h k (sym makes ∙ is)) ∙ on_it))) e in
           e ∙ ap Some (same_Some z r (sym still ∙ there))
 
-  origin_by : ((t : ℕ) → (step w x).reply ≢ Started t) → ((t : ℕ) → (step w x).reply ≢ Forked t) → (q : Process) → process_in (step w x).world s ≡ Some q → Origin w (step w x).world s q
+  origin_by : ((t : ℕ) → (step w x).reply ≢ Scalar (Started t)) → ((t : ℕ) → (step w x).reply ≢ Scalar (Forked t)) → (q : Process) → process_in (step w x).world s ≡ Some q → Origin w (step w x).world s q
   origin_by a b q here t r there = elim (cases_eq s t) [
     | inl same ↦ inl (sym same, same_Some r q (sym there ∙ ap (process_in (step w x).world) (sym same) ∙ here))
     | inr apart ↦ inr (apart, others_were a b t r apart there)
@@ -360,7 +361,7 @@ module _ (w : World) (h s : ℕ) (p : Process) (on : IsOnHart w h s p) (new : Ha
   becomes_there q there (Own.alive r e lives k) = subst (Becomes (told_as w x (step w x).reply) h p) (same_Some r q (sym e ∙ there)) k
   becomes_there q there (Own.gone e is at written) = absurd (none_some (sym e ∙ there))
 
-  housed_shares : ((t : ℕ) → (step w x).reply ≢ Started t) → ((t : ℕ) → (step w x).reply ≢ Forked t) → Housed w h s p on lone_here x (step w x) → Shares (step w x).world
+  housed_shares : ((t : ℕ) → (step w x).reply ≢ Scalar (Started t)) → ((t : ℕ) → (step w x).reply ≢ Scalar (Forked t)) → Housed w h s p on lone_here x (step w x) → Shares (step w x).world
   housed_shares a b (Housed.alive q there k other) =
       let become = becomes_there q there (owns w h s p on sound x makes) in
       moved w (step w x).world s q new f (origin_by a b q there) (λ page y at. came_kept q page y
@@ -372,29 +373,29 @@ module _ (w : World) (h s : ℕ) (p : Process) (on : IsOnHart w h s p) (new : Ha
     | inr apart ↦ others_were a b t r apart there
   ]) f
 
-  own_shares : ((t : ℕ) → (step w x).reply ≢ Started t) → ((t : ℕ) → (step w x).reply ≢ Forked t) → Shares (step w x).world
+  own_shares : ((t : ℕ) → (step w x).reply ≢ Scalar (Started t)) → ((t : ℕ) → (step w x).reply ≢ Scalar (Forked t)) → Shares (step w x).world
   own_shares a b = housed_shares a b (as_step w h s p on lone_here x (own w h s p on lone_here x makes))
 
 -- ---- each step
 
-made_or : (r : Reply) → ((e : Refusal) × (r ≡ Refused e)) ⊎ IsMade r
-made_or (Refused e) = inl (e, refl)
+made_or : (r : Reply) → ((e : Refusal) × (r ≡ Scalar (Refused e))) ⊎ IsMade r
+made_or (Scalar (Refused e)) = inl (e, refl)
 made_or r = inr (λ e is. absurd cc)
 
-forked_or : (r : Reply) → ((t : ℕ) × (r ≡ Forked t)) ⊎ ((t : ℕ) → r ≢ Forked t)
-forked_or (Forked t) = inl (t, refl)
+forked_or : (r : Reply) → ((t : ℕ) × (r ≡ Scalar (Forked t))) ⊎ ((t : ℕ) → r ≢ Scalar (Forked t))
+forked_or (Scalar (Forked t)) = inl (t, refl)
 forked_or r = inr (λ t is. absurd cc)
 
-started_only : (x : Step) (t h : ℕ) → is_reply x (Started t) ≡ true → hart_of_step x ≡ Some h → ⊥
+started_only : (x : Step) (t h : ℕ) → is_reply x (Scalar (Started t)) ≡ true → hart_of_step x ≡ Some h → ⊥
 started_only (step_of.Start image) t h e makes = absurd cc
 started_only x t h e makes = absurd cc
 
-fork_only : (x : Step) (t : ℕ) → is_reply x (Forked t) ≡ true → (k : ℕ) × (x ≡ step_of.Fork k)
+fork_only : (x : Step) (t : ℕ) → is_reply x (Scalar (Forked t)) ≡ true → (k : ℕ) × (x ≡ step_of.Fork k)
 fork_only (step_of.Fork k) t e = (k, refl)
 fork_only x t e = absurd cc
 
 module _ (w : World) (new : HasNewCopies w) (f : Shares w) (granted : (s : ℕ) (p : Process) → process_in w s ≡ Some p → Granted p) (sound : (s : ℕ) (p : Process) → process_in w s ≡ Some p → IsSound p) where
-  abbrev Good : Outcome → Type 0
+  abbrev Good : StepOutcome → Type 0
   Good o = Shares o.world
 
   still_shares : (v : World) → v.slots ≡ w.slots → Shares v

@@ -1,5 +1,4 @@
--- Lemma: a page made resident for an access (`made_resident`: settled, or taken over, with its marks) is resident for it (in
--- memory and ready).
+-- Lemma: a page made resident for an access (`made_resident`: settled, or taken over, with its marks) is resident for it.
 use Rattle.std.proofs.Common.{◌≡◌, ℕ, Bool, true, false, cond, not, ◌||◌, refl, ap, ◌∙◌, List, Option, None, Some}
 use Rattle.std.specs.Ordering.{nat_cmp}
 use Rattle.std.specs.Cmp.{eq_by_cmp_equiv, nat_cmp_total}

@@ -14,19 +14,19 @@ use Rattle.process_model.specs.Process.{Pending, Process, without_pending}
 use Rattle.process_model.specs.Service.{environment_of, initial_progress, served, served_or_ended, with_progress}
 use Rattle.process_model.specs.Stale.{with_stale_slots}
 use Rattle.process_model.specs.Steps.{plain_step, step}
-use Rattle.process_model.specs.World.{answers, free_slot, Outcome, refuses, World}
+use Rattle.process_model.specs.World.{answers, free_slot, StepOutcome, refuses, World}
 use Rattle.process_model.specs.declared.config.Policy.{Policy}
 use Rattle.process_model.specs.declared.config.Policy.TheVariants.{Full, Asid}
 use Rattle.process_model.specs.declared.image.BadImage.{BadImage}
 use Rattle.process_model.specs.declared.image.Image.{Image}
-use Rattle.process_model.specs.declared.step.Refusal.{Refusal}
-use Rattle.process_model.specs.declared.step.Reply.{Reply}
+use Rattle.process_model.specs.declared.reply.Refusal.{Refusal}
+use Rattle.process_model.specs.declared.reply.Reply.{Reply}
 use Rattle.process_model.specs.declared.step.Step.{Step}
 use Rattle.process_model.specs.declared.step.Step.TheVariants as step_of
 use Rattle.sv39_entry.specs.declared.access.Access.TheVariants as access
 use Rattle.sv39_entry.specs.declared.rule.Rule.{Rule}
 
-pub record Suits (w : World) (x : Step) (o : Outcome) : Type 0 where
+pub record Suits (w : World) (x : Step) (o : StepOutcome) : Type 0 where
   pub replies : is_reply x o.reply ≡ true
   pub memory : (o.world).frames ≡ w.frames
   pub scheme : (o.world).scheme ≡ w.scheme
@@ -118,7 +118,7 @@ module _ (w : World) where
       kernel_good w (Suits w _) (quiet _) h _ _ (λ hart t p on here. let c = copied_out (environment_of w t) (initial_progress w (without_pending p)) address bytes.now in out_suits h t address bytes c c.stop)
   plain_suits (step_of.Exit h status) = kernel_good w (Suits w _) (quiet _) h true _ (λ hart t p on here. suits _ _ _ refl refl refl refl)
 
-  marks_suit : (policy : Policy) (x : Step) (o : Outcome) → Suits w x o → Suits w x (with_stale_slots policy w o)
+  marks_suit : (policy : Policy) (x : Step) (o : StepOutcome) → Suits w x o → Suits w x (with_stale_slots policy w o)
   marks_suit Full x o k = k
   marks_suit Asid x o k = record { replies = k.replies; memory = k.memory; scheme = k.scheme; policy = k.policy }
 

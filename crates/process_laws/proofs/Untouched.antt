@@ -8,7 +8,7 @@ use Rattle.process_model.specs.Process.{Process, Pending}
 use Rattle.process_model.specs.Harts.{Hart}
 use Rattle.process_model.specs.Images.{LoadSegment}
 use Rattle.process_model.specs.Mappings.{Mapped, Unmapped}
-use Rattle.process_model.specs.World.{World, Outcome, flat, process_in, with_process, lowest_free, unless_refused, on_hart_at, on_hart, always, with_process_of, with_slot_of, with_its_process, kernel_call, can_call}
+use Rattle.process_model.specs.World.{World, StepOutcome, flat, process_in, with_process, lowest_free, unless_refused, on_hart_at, on_hart, always, with_process_of, with_slot_of, with_its_process, kernel_call, can_call}
 use Rattle.process_model.specs.Environment.{Progress}
 use Rattle.process_model.specs.Service.{Answer, access_step, served_or_ended, served, access_outcome_if}
 use Rattle.process_model.specs.Calls.{started_unless, started_as, started, replaced_unless, replaced, forked_unless, forked, resized_to, mapped_to, unmapped_to}
@@ -23,7 +23,7 @@ use Rattle.process_model.specs.declared.phase.Phase.{Phase}
 use Rattle.process_model.specs.declared.config.Policy.{Policy}
 use Rattle.process_model.specs.declared.config.Policy.TheVariants.{Full, Asid}
 use Rattle.process_model.specs.declared.image.BadImage.{BadImage}
-use Rattle.process_model.specs.declared.step.Refusal.{Refusal}
+use Rattle.process_model.specs.declared.reply.Refusal.{Refusal}
 use Rattle.process_model.specs.declared.step.Step.{Step}
 use Rattle.process_model.specs.declared.step.Step.TheVariants as step
 
@@ -80,28 +80,28 @@ module _ (t : ℕ) (q : Process) where
     served_leaves h hart s p None ne = k
     served_leaves h hart s p (Some a) ne = served_or_leaves h hart s p a _ ne
 
-    refused_leaves : (run : Hart → Outcome) (hart : Hart) (o : Option Refusal) → Leaves t q (run hart).world → Leaves t q (unless_refused w run hart o).world
+    refused_leaves : (run : Hart → StepOutcome) (hart : Hart) (o : Option Refusal) → Leaves t q (run hart).world → Leaves t q (unless_refused w run hart o).world
     refused_leaves run hart (Some r) f = k
     refused_leaves run hart None f = f
 
-    hart_leaves : (h : ℕ) (proper : Bool) (possible entry : Hart → Bool) (run : Hart → Outcome) (o : Option Hart) → slice_get w.harts h ≡ o → ((hart : Hart) → slice_get w.harts h ≡ Some hart → Leaves t q (run hart).world) → Leaves t q (on_hart_at w proper possible entry run o).world
+    hart_leaves : (h : ℕ) (proper : Bool) (possible entry : Hart → Bool) (run : Hart → StepOutcome) (o : Option Hart) → slice_get w.harts h ≡ o → ((hart : Hart) → slice_get w.harts h ≡ Some hart → Leaves t q (run hart).world) → Leaves t q (on_hart_at w proper possible entry run o).world
     hart_leaves h proper possible entry run None e f = k
     hart_leaves h proper possible entry run (Some hart) e f = refused_leaves run hart _ (f hart e)
 
-    on_hart_leaves : (h : ℕ) (proper : Bool) (possible entry : Hart → Bool) (run : Hart → Outcome) → ((hart : Hart) → slice_get w.harts h ≡ Some hart → Leaves t q (run hart).world) → Leaves t q (on_hart w h proper possible entry run).world
+    on_hart_leaves : (h : ℕ) (proper : Bool) (possible entry : Hart → Bool) (run : Hart → StepOutcome) → ((hart : Hart) → slice_get w.harts h ≡ Some hart → Leaves t q (run hart).world) → Leaves t q (on_hart w h proper possible entry run).world
     unfolding on_hart
     on_hart_leaves h proper possible entry run f = hart_leaves h proper possible entry run _ refl f
 
-    process_leaves : (phase : Phase) (run : ℕ → Process → Outcome) (s : ℕ) (o : Option Process) → ((p : Process) → Leaves t q (run s p).world) → Leaves t q (with_process_of w phase run s o).world
+    process_leaves : (phase : Phase) (run : ℕ → Process → StepOutcome) (s : ℕ) (o : Option Process) → ((p : Process) → Leaves t q (run s p).world) → Leaves t q (with_process_of w phase run s o).world
     process_leaves phase run s None f = k
     process_leaves phase run s (Some p) f = f p
 
-    slot_leaves : (phase : Phase) (run : ℕ → Process → Outcome) (o : Option ℕ) → o ≢ Some t → ((s : ℕ) (p : Process) → s ≢ t → Leaves t q (run s p).world) → Leaves t q (with_slot_of w phase run o).world
+    slot_leaves : (phase : Phase) (run : ℕ → Process → StepOutcome) (o : Option ℕ) → o ≢ Some t → ((s : ℕ) (p : Process) → s ≢ t → Leaves t q (run s p).world) → Leaves t q (with_slot_of w phase run o).world
     slot_leaves phase run None ne f = k
     slot_leaves phase run (Some s) ne f = process_leaves phase run s _ (λ p. f s p (λ e. ne (ap Some e)))
 
     -- the process of a hart is another one
-    its_leaves : (hart : Hart) (run : ℕ → Process → Outcome) → hart.slot ≢ Some t → ((s : ℕ) (p : Process) → s ≢ t → Leaves t q (run s p).world) → Leaves t q (with_its_process w hart run).world
+    its_leaves : (hart : Hart) (run : ℕ → Process → StepOutcome) → hart.slot ≢ Some t → ((s : ℕ) (p : Process) → s ≢ t → Leaves t q (run s p).world) → Leaves t q (with_its_process w hart run).world
     unfolding with_its_process
     its_leaves hart run ne f = slot_leaves hart.phase run hart.slot ne f
 
@@ -145,7 +145,7 @@ module _ (t : ℕ) (q : Process) where
     unmapped_leaves s (Err r) ne = k
     unmapped_leaves s (Ok u) ne = set_leaves w _ s _ ne refl k
 
-  kernel_leaves : (w : World) → Leaves t q w → (h : ℕ) (proper : Bool) (run : Hart → ℕ → Process → Outcome) → ((hart : Hart) → slice_get w.harts h ≡ Some hart → hart.slot ≢ Some t)
+  kernel_leaves : (w : World) → Leaves t q w → (h : ℕ) (proper : Bool) (run : Hart → ℕ → Process → StepOutcome) → ((hart : Hart) → slice_get w.harts h ≡ Some hart → hart.slot ≢ Some t)
       → ((hart : Hart) (s : ℕ) (p : Process) → s ≢ t → Leaves t q (run hart s p).world) → Leaves t q (kernel_call w h proper run).world
   kernel_leaves w k h proper run apart f = on_hart_leaves w k h proper (can_call w) always _ (λ hart is. its_leaves w k hart (run hart) (apart hart is) (f hart))
 
@@ -177,7 +177,7 @@ module _ (t : ℕ) (q : Process) where
       (λ hart s p ne. set_leaves w _ s _ ne refl k)
   plain_leaves w k (step.Exit h status) apart = kernel_leaves w k h true _ (λ hart is. apart h hart refl is) (λ hart s p ne. set_leaves w _ s None ne refl k)
 
-  marks_leave : (policy : Policy) (w : World) (o : Outcome) → Leaves t q o.world → Leaves t q (with_stale_slots policy w o).world
+  marks_leave : (policy : Policy) (w : World) (o : StepOutcome) → Leaves t q o.world → Leaves t q (with_stale_slots policy w o).world
   marks_leave Full w o l = l
   marks_leave Asid w o l = same_slots o.world _ refl l
 

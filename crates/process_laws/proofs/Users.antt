@@ -1,6 +1,6 @@
--- Lemmas about a user access and its service, if they are made (not refused): granted, with its page resident (in memory and
--- ready), the access is answered; granted, its service replies Ready and makes the page resident, or ends the process by
--- NoFrame; not granted, its service ends the process by the first rule that forbids it.
+-- Lemmas about a user access and its service, if they are made (not refused): granted, with its page resident, the access is
+-- answered; granted, its service replies Ready and makes the page resident, or ends the process by NoFrame; not granted, its
+-- service ends the process by the first rule that forbids it.
 use Rattle.std.proofs.Common.{◌≡◌, ◌⊎◌, ℕ, Bool, true, false, ◌+◌, inl, inr, refl, sym, ap, subst, ◌∙◌, List, Option, None, Some}
 use Rattle.std.specs.Prelude.{Result, Ok, slice_get}
 use Rattle.std.proofs.lemmas.Option.{same_Some}
@@ -21,8 +21,9 @@ use Rattle.process_model.specs.Residence.{access_answer, is_resident, is_residen
 use Rattle.process_model.specs.Service.{access_step, Answer, environment_of, initial_progress, if_resident, if_settled, is_fault, served, served_or_ended, access_outcome, access_outcome_if, unless_denied, user_access, with_served}
 use Rattle.process_model.specs.Service as service
 use Rattle.process_model.specs.Steps.{plain_step, step}
-use Rattle.process_model.specs.World.{always, can_serve, Outcome, process_in, with_its_process, World}
-use Rattle.process_model.specs.declared.step.Reply.TheVariants.{Ended, Ready}
+use Rattle.process_model.specs.World.{always, can_serve, StepOutcome, process_in, with_its_process, World}
+use Rattle.process_model.specs.declared.reply.ScalarReply.TheVariants.{Ended, Ready}
+use Rattle.process_model.specs.declared.reply.Reply.TheVariants.{Scalar}
 use Rattle.process_model.specs.declared.step.Step.{Step}
 use Rattle.process_model.specs.declared.step.Step.TheVariants.{Serve}
 use Rattle.sv39_entry.specs.Address.{page_of}
@@ -44,7 +45,7 @@ told_reply w h hart s x true = refl
 told_reply w h hart s x false = refl
 
 -- what an access ran
-pub record UserRan (w : World) (h s : ℕ) (p : Process) (access : Access) (address width value : ℕ) (o : Outcome) : Type 0 where
+pub record UserRan (w : World) (h s : ℕ) (p : Process) (access : Access) (address width value : ℕ) (o : StepOutcome) : Type 0 where
   pub hart : Hart
   pub there : slice_get w.harts h ≡ Some hart
   pub is : o ≡ access_outcome w h hart s (user_access p (asks access address width value))
@@ -61,7 +62,7 @@ user_ran w h s p access address width value via on n =
 abbrev pub fault_of : UserAccess → Pending
 fault_of a = record { access = a.access; address = a.address; width = a.width; served = false }
 
-pub record ServeRan (w : World) (h s : ℕ) (p : Process) (a : UserAccess) (o : Outcome) : Type 0 where
+pub record ServeRan (w : World) (h s : ℕ) (p : Process) (a : UserAccess) (o : StepOutcome) : Type 0 where
   pub hart : Hart
   pub is : o ≡ served w h hart s (with_pending_access p a) (Some (fault_of a))
 
@@ -93,8 +94,8 @@ pub record IsReady (p : Process) (a : UserAccess) : Type 0 where
 
 -- a service makes the access ready, or finds too few frames; and if it made it ready, the page stands
 record Serves (w : World) (h s : ℕ) (hart : Hart) (p : Process) (a : UserAccess) (r : Result Progress Rule) : Type 0 where
-  says : ((served_or_ended w h hart s p (fault_of a) r).reply ≡ Ready) ⊎ ((served_or_ended w h hart s p (fault_of a) r).reply ≡ Ended NoFrame)
-  ready : (q : Process) → (served_or_ended w h hart s p (fault_of a) r).reply ≡ Ready → process_in (served_or_ended w h hart s p (fault_of a) r).world s ≡ Some q → IsReady q a
+  says : ((served_or_ended w h hart s p (fault_of a) r).reply ≡ Scalar Ready) ⊎ ((served_or_ended w h hart s p (fault_of a) r).reply ≡ Scalar (Ended NoFrame))
+  ready : (q : Process) → (served_or_ended w h hart s p (fault_of a) r).reply ≡ Scalar Ready → process_in (served_or_ended w h hart s p (fault_of a) r).world s ≡ Some q → IsReady q a
 
 module _ (w : World) (h s : ℕ) (p : Process) (hart : Hart) (a : UserAccess) (lives : process_in w s ≡ Some p) where
   abbrev page : ℕ
@@ -129,27 +130,27 @@ module _ (w : World) (h s : ℕ) (p : Process) (hart : Hart) (a : UserAccess) (l
   rule_serves (Some r) e is = absurd cc
 
   rule_ends : (o : Option Rule) → first_rule p.scheme (regions p) a.access a.address a.width ≡ o → (IsGranted p a → ⊥)
-      → (rule : Rule) × ((served_or_ended w h hart s p (fault_of a) (resident_at_address (environment_of w s) a.access a.address (initial_progress w p) o)).reply ≡ Ended rule) × Forbids p a rule
+      → (rule : Rule) × ((served_or_ended w h hart s p (fault_of a) (resident_at_address (environment_of w s) a.access a.address (initial_progress w p) o)).reply ≡ Scalar (Ended rule)) × Forbids p a rule
   rule_ends None e not = absurd (not (granted_by p a e))
   rule_ends (Some r) e not = (r, refl, answered_is_first p.scheme (regions p) a.access a.address a.width r e)
 
 pub serves : (w : World) → ((s : ℕ) (p : Process) → process_in w s ≡ Some p → IsSound p) → (h s : ℕ) (p : Process) (a : UserAccess) → IsOnHart w h s (with_pending_access p a) → IsMade (step w (Serve h)).reply → IsGranted p a
-    → (((step w (Serve h)).reply ≡ Ready) × ((q : Process) → process_in (step w (Serve h)).world s ≡ Some q → IsResident q a)) ⊎ ((step w (Serve h)).reply ≡ Ended NoFrame)
+    → (((step w (Serve h)).reply ≡ Scalar Ready) × ((q : Process) → process_in (step w (Serve h)).world s ≡ Some q → IsResident q a)) ⊎ ((step w (Serve h)).reply ≡ Scalar (Ended NoFrame))
 serves w sound h s p a on n g =
     let r = serve_ran w h s p a on (was_made w (Serve h) n) in
     let k = rule_serves w h s (with_pending_access p a) r.hart a on.lives _ (sound_grants (with_pending_access p a) a (sound s (with_pending_access p a) on.lives) (same_grant p a g)) refl in
-    let reply : (step w (Serve h)).reply ≡ (served w h r.hart s (with_pending_access p a) (Some (fault_of a))).reply = step_reply w (Serve h) ∙ ap (λ (o : Outcome). o.reply) r.is in
+    let reply : (step w (Serve h)).reply ≡ (served w h r.hart s (with_pending_access p a) (Some (fault_of a))).reply = step_reply w (Serve h) ∙ ap (λ (o : StepOutcome). o.reply) r.is in
     elim k.says [
-      | inl ready ↦ inl (reply ∙ ready, λ q there. (k.ready q ready (sym (ap (λ (o : Outcome). process_in o.world s) r.is) ∙ sym (step_process w (Serve h) s) ∙ there)).resident)
+      | inl ready ↦ inl (reply ∙ ready, λ q there. (k.ready q ready (sym (ap (λ (o : StepOutcome). process_in o.world s) r.is) ∙ sym (step_process w (Serve h) s) ∙ there)).resident)
       | inr dry ↦ inr (reply ∙ dry)
     ]
 
 pub ends : (w : World) (h s : ℕ) (p : Process) (a : UserAccess) → IsOnHart w h s (with_pending_access p a) → IsMade (step w (Serve h)).reply → (IsGranted p a → ⊥)
-    → (rule : Rule) × ((step w (Serve h)).reply ≡ Ended rule) × Forbids p a rule
+    → (rule : Rule) × ((step w (Serve h)).reply ≡ Scalar (Ended rule)) × Forbids p a rule
 ends w h s p a on n not =
     let r = serve_ran w h s p a on (was_made w (Serve h) n) in
     let e = rule_ends w h s (with_pending_access p a) r.hart a on.lives _ refl (λ g. not (back_grant p a g)) in
-    (e.0, step_reply w (Serve h) ∙ ap (λ (o : Outcome). o.reply) r.is ∙ e.1, e.2)
+    (e.0, step_reply w (Serve h) ∙ ap (λ (o : StepOutcome). o.reply) r.is ∙ e.1, e.2)
 
 -- ---- the access again
 
@@ -170,7 +171,7 @@ answers_access : (v : World) (k s : ℕ) (q : Process) (access : Access) (addres
 answers_access v k s q access address width value via on n ready =
     let r = user_ran v k s q access address width value via on n in
     let x : Answer = user_access q (asks access address width value) in
-    subst (IsAnswer access) (sym (ap (λ (o : Outcome). o.reply) r.is ∙ told_reply v k r.hart s x (is_fault x.reply))) (answers_granted q (asks access address width value) _ ready.granted ready.resident)
+    subst (IsAnswer access) (sym (ap (λ (o : StepOutcome). o.reply) r.is ∙ told_reply v k r.hart s x (is_fault x.reply))) (answers_granted q (asks access address width value) _ ready.granted ready.resident)
 
 answers_plain : (v : World) (k s : ℕ) (q : Process) (a : UserAccess) (via : Option ℕ) (x : Step) → IsOnHart v k s q → IsAccessStep k via a x → IsMade (plain_step v x).reply → IsReady q a → IsAnswer a.access (plain_step v x).reply
 answers_plain v k s q a via x on (IsAccessStep.fetch {address}) n = answers_access v k s q access.Fetch address 4 0 via on n

@@ -19,7 +19,7 @@ use Rattle.process_model.specs.Bytes.{pages_for}
 use Rattle.process_model.specs.Files.{File}
 use Rattle.process_model.specs.Harts.{Hart, is_kernel, cleaned_at, cleaned_for, cleaned_if, fenced}
 use Rattle.process_model.specs.Images.{image_loads, LoadSegment}
-use Rattle.process_model.specs.Mappings.{most_mappings}
+use Rattle.process_model.specs.declared.limits.TheConstants.{MOST_MAPPINGS}
 use Rattle.process_model.specs.Places.{Fits}
 use Rattle.process_model.specs.PageMap.{get}
 use Rattle.process_model.specs.Process.{Page, Process, regions}
@@ -31,9 +31,10 @@ use Rattle.process_model.specs.declared.image.BadImage.{BadImage}
 use Rattle.process_model.specs.declared.image.Image.{Image}
 use Rattle.process_model.specs.World.{free, free_slot, has_slot, others_have, process_in, without_process, World}
 use Rattle.process_model.specs.declared.phase.Phase.TheVariants.{Leave2}
-use Rattle.process_model.specs.declared.step.Refusal.TheVariants as refusal
-use Rattle.process_model.specs.declared.step.Reply.{Reply}
-use Rattle.process_model.specs.declared.step.Reply.TheVariants.{CopiedIn, Done, Ended, Fault, Forked, MappedAt, OldSize, Refused, ShortIn, Started}
+use Rattle.process_model.specs.declared.reply.Refusal.TheVariants as refusal
+use Rattle.process_model.specs.declared.reply.Reply.{Reply}
+use Rattle.process_model.specs.declared.reply.ScalarReply.TheVariants.{Done, Ended, Fault, Forked, MappedAt, OldSize, Refused, Started}
+use Rattle.process_model.specs.declared.reply.Reply.TheVariants.{CopiedIn, ShortIn, Scalar}
 use Rattle.process_model.specs.declared.step.Step.{Step}
 use Rattle.process_model.specs.declared.step.Step.TheVariants.{CopyIn, CopyOut, Exec, Fork, Mmap, Munmap, Sbrk, Serve, Start, Trap, Next}
 use Rattle.sv39_entry.specs.Address.{page_of}
@@ -78,7 +79,7 @@ pub trap_keeps : (past : List Moment) (m : Moment) → ReadsLatest past m → (h
 trap_keeps past m k h s a b is was = k.has s a ∙ ap (λ x. left_by m.before x m.reply (latest past) s a) is ∙ was
 
 -- a page above the new size that still has bytes
-pub released_has_none : (past : List Moment) (m : Moment) → ReadsLatest past m → (h s a n : ℕ) (delta : ℤ) → m.step ≡ Sbrk h delta → m.reply ≡ OldSize n → has_slot s (slot_on m.before h) ≡ true → is_released n delta a ≡ true
+pub released_has_none : (past : List Moment) (m : Moment) → ReadsLatest past m → (h s a n : ℕ) (delta : ℤ) → m.step ≡ Sbrk h delta → m.reply ≡ Scalar (OldSize n) → has_slot s (slot_on m.before h) ≡ true → is_released n delta a ≡ true
     → byte_had (process_in m.after s) a ≡ None
 released_has_none past m k h s a n delta step reply mine gone = k.has s a ∙ ap (λ x. left_by m.before x m.reply (latest past) s a) step ∙ ap (λ r. left_by m.before (Sbrk h delta) r (latest past) s a) reply ∙ rw (mine, gone) refl
 
@@ -88,16 +89,16 @@ calm kind r IsAnswer.loaded = refl
 calm kind r IsAnswer.stored = refl
 
 -- an access that faults though it is granted and its page at hand
-pub no_second_fault : (m : Moment) (h s cause : ℕ) (p : Process) (a : UserAccess) → AnswersUser m h s p a → Tries m h s p a → IsGranted p a → IsResident p a → m.reply ≢ Fault cause
+pub no_second_fault : (m : Moment) (h s cause : ℕ) (p : Process) (a : UserAccess) → AnswersUser m h s p a → Tries m h s p a → IsGranted p a → IsResident p a → m.reply ≢ Scalar (Fault cause)
 no_second_fault m h s cause p a k t g resident is = false≢true (sym (calm a.access m.reply (k.answered t g resident)) ∙ ap is_fault is)
 
 -- what is left of a mapping that reads from another place of its file
-pub place_stays : (m : Moment) (h address len page : ℕ) (p q : Process) → Becomes m h p q → m.step ≡ Munmap h address len → m.reply ≡ Done → is_between (page_of address) (page_of address + pages_for len) page ≡ false
+pub place_stays : (m : Moment) (h address len page : ℕ) (p q : Process) → Becomes m h p q → m.step ≡ Munmap h address len → m.reply ≡ Scalar Done → is_between (page_of address) (page_of address + pages_for len) page ≡ false
     → grant q page ≡ grant p page
 place_stays m h address len page p q k step reply out = (k.stays page (ap (λ x. is_remapped x m.reply page) step ∙ ap (λ r. is_remapped (Munmap h address len) r page) reply ∙ out)).0
 
 -- a mapping that grants what was not asked for
-pub mapped_as_asked : (m : Moment) (h len protection flags n at page : ℕ) (p q : Process) → Becomes m h p q → m.step ≡ Mmap h len protection flags n → m.reply ≡ MappedAt at
+pub mapped_as_asked : (m : Moment) (h len protection flags n at page : ℕ) (p q : Process) → Becomes m h p q → m.step ≡ Mmap h len protection flags n → m.reply ≡ Scalar (MappedAt at)
     → is_between (page_of at) (page_of at + pages_for len) page ≡ true → grant q page ≡ Some (mapping_grant protection flags n (page - page_of at))
 mapped_as_asked m h len protection flags n at page p q k step reply inside =
     k.remapped page (ap (λ x. is_remapped x m.reply page) step ∙ ap (λ r. is_remapped (Mmap h len protection flags n) r page) reply ∙ inside)
@@ -112,7 +113,7 @@ no_mark_by_service m h page p q k step none = by (has_fork_mark q page) refl
     by true e = absurd (false≢true (sym none ∙ k.forked (λ fork. absurd (let no = sym step ∙ fork in cc)) page e))
 
 -- a fault with a cause that is not its own
-pub fault_tells_its_cause : (m : Moment) (h s c : ℕ) (p : Process) (a : UserAccess) → AnswersUser m h s p a → Tries m h s p a → (IsGranted p a → IsResident p a → ⊥) → m.reply ≡ Fault c → c ≡ cause a
+pub fault_tells_its_cause : (m : Moment) (h s c : ℕ) (p : Process) (a : UserAccess) → AnswersUser m h s p a → Tries m h s p a → (IsGranted p a → IsResident p a → ⊥) → m.reply ≡ Scalar (Fault c) → c ≡ cause a
 fault_tells_its_cause m h s c p a k t not is = let must = (k.faults t not).0 in cc
 
 -- a service for a load that leaves the dirty mark, so that the page would be written back
@@ -127,7 +128,7 @@ loaded_page_stays_unmarked m h page p q k step load none = by (has_stored_mark q
     ]
 
 -- a mapping over pages that are granted already
-pub no_mapping_over_another : (m : Moment) (h len protection flags n at page : ℕ) (p q : Process) → Becomes m h p q → m.step ≡ Mmap h len protection flags n → m.reply ≡ MappedAt at
+pub no_mapping_over_another : (m : Moment) (h len protection flags n at page : ℕ) (p q : Process) → Becomes m h p q → m.step ≡ Mmap h len protection flags n → m.reply ≡ Scalar (MappedAt at)
     → is_between (page_of at) (page_of at + pages_for len) page ≡ true → grant p page ≡ None
 no_mapping_over_another m h len protection flags n at page p q k step reply inside =
     let remaps : is_remapped m.step m.reply page ≡ true = ap (λ x. is_remapped x m.reply page) step ∙ ap (λ r. is_remapped (Mmap h len protection flags n) r page) reply ∙ inside in
@@ -137,7 +138,7 @@ no_mapping_over_another m h len protection flags n at page p q k step reply insi
     ]
 
 -- a child with other regions than its parent
-pub child_has_the_regions : (m : Moment) (h s t : ℕ) (p c : Process) → ChangesOwn m h s p → m.step ≡ Fork h → m.reply ≡ Forked t → process_in m.after t ≡ Some c → regions c ≡ regions p
+pub child_has_the_regions : (m : Moment) (h s t : ℕ) (p c : Process) → ChangesOwn m h s p → m.step ≡ Fork h → m.reply ≡ Scalar (Forked t) → process_in m.after t ≡ Some c → regions c ≡ regions p
 child_has_the_regions m h s t p c k step reply there =
     let child = k.child t step reply in
     ap regions (same_Some c child.0 (sym there ∙ child.1)) ∙ (child.2).same
@@ -147,17 +148,17 @@ pub copy_of_another_kind : (m : Moment) (h address : ℕ) (bytes : _) (copied : 
 copy_of_another_kind m h address bytes copied k step is = false≢true (sym (ap (λ x. is_reply x m.reply) step ∙ ap (is_reply (CopyOut h address bytes)) is) ∙ k.replies)
 
 -- a start of a bad image
-starts_good : (w : World) (image : Image) (e : BadImage) (s : ℕ) (r : Reply) → r ≡ Started s → image_loads w.scheme image ≡ Err e → StartReply w image r → ⊥
+starts_good : (w : World) (image : Image) (e : BadImage) (s : ℕ) (r : Reply) → r ≡ Scalar (Started s) → image_loads w.scheme image ≡ Err e → StartReply w image r → ⊥
 starts_good w image e s r is bad (StartReply.no_slot none) = absurd cc
 starts_good w image e s r is bad (StartReply.bad to loads) = absurd cc
 starts_good w image e s r is bad (StartReply.no_frame to loads) = absurd cc
 starts_good w image e s r is bad (StartReply.started to loads) = absurd (let no = sym bad ∙ loads in cc)
 
-pub bad_image_never_starts : (m : Moment) (image : Image) (e : BadImage) (s : ℕ) → MakesSteps m → m.step ≡ Start image → image_loads (m.before).scheme image ≡ Err e → m.reply ≢ Started s
+pub bad_image_never_starts : (m : Moment) (image : Image) (e : BadImage) (s : ℕ) → MakesSteps m → m.step ≡ Start image → image_loads (m.before).scheme image ≡ Err e → m.reply ≢ Scalar (Started s)
 bad_image_never_starts m image e s k step bad is = starts_good m.before image e s m.reply is bad (k.start image step)
 
 -- a call of the kernel on a hart that has no process
-pub no_call_for_nobody : (m : Moment) (h address len : ℕ) → MakesSteps m → m.step ≡ Munmap h address len → slot_on m.before h ≡ None → m.reply ≢ Done
+pub no_call_for_nobody : (m : Moment) (h address len : ℕ) → MakesSteps m → m.step ≡ Munmap h address len → slot_on m.before h ≡ None → m.reply ≢ Scalar Done
 no_call_for_nobody m h address len k step none is =
     let host = k.hosted h (ap hart_of_step step) (λ r f. let no = sym is ∙ f in absurd cc) in
     let no = sym none ∙ (host.2).there in
@@ -168,12 +169,12 @@ less : (a n : ℕ) → n ≤ a → nat_lt a n ≡ false
 less a n e = grind (arith, nat_tests, e)
 
 pub start_with_frames : (m : Moment) (image : Image) (s : ℕ) (ls : List LoadSegment) → CountsFrames m → free_slot m.before ≡ Some s → image_loads (m.before).scheme image ≡ Ok ls → m.step ≡ Start image
-    → 1 + frames_for_image (m.before).scheme ls ≤ free m.before → m.reply ≢ Refused refusal.NoFrame
+    → 1 + frames_for_image (m.before).scheme ls ≤ free m.before → m.reply ≢ Scalar (Refused refusal.NoFrame)
 start_with_frames m image s ls k to loads step enough is =
     false≢true (sym ((k.start image s ls to loads step).0 ∙ less (free m.before) (1 + frames_for_image (m.before).scheme ls) enough) ∙ ap is_no_frame_reply is)
 
 -- a service that finds too few frames, though there are those that the page needs
-pub service_with_frames : (m : Moment) (h s : ℕ) (p : Process) (a : UserAccess) → CountsFrames m → Serves m h s p a → IsGranted p a → frames_for_page m.before s p a.access (page_of a.address) ≤ free m.before → m.reply ≢ Ended NoFrame
+pub service_with_frames : (m : Moment) (h s : ℕ) (p : Process) (a : UserAccess) → CountsFrames m → Serves m h s p a → IsGranted p a → frames_for_page m.before s p a.access (page_of a.address) ≤ free m.before → m.reply ≢ Scalar (Ended NoFrame)
 service_with_frames m h s p a k serves g enough is =
     false≢true (sym ((k.serve h s p a serves g).0 ∙ less (free m.before) (frames_for_page m.before s p a.access (page_of a.address)) enough) ∙ ap is_no_frame_reply is)
 
@@ -189,19 +190,19 @@ lacks_by w h image x e MayLackFrames.serve = absurd cc
 lacks_by w h image x e (MayLackFrames.copy CopiesBytes.copy_in) = absurd cc
 lacks_by w h image x e (MayLackFrames.copy CopiesBytes.copy_out) = absurd cc
 
-pub exec_lacks_no_frame : (m : Moment) (h : ℕ) (image : Image) (b : BadImage) → CountsFrames m → m.step ≡ Exec h image → image_loads (m.before).scheme image ≡ Err b → m.reply ≢ Refused refusal.NoFrame
+pub exec_lacks_no_frame : (m : Moment) (h : ℕ) (image : Image) (b : BadImage) → CountsFrames m → m.step ≡ Exec h image → image_loads (m.before).scheme image ≡ Err b → m.reply ≢ Scalar (Refused refusal.NoFrame)
 exec_lacks_no_frame m h image b k step bad is =
     let t = lacks_by m.before h image m.step step (k.only (ap is_no_frame_reply is)) in
     let no = sym bad ∙ t.5 in
     absurd cc
 
 -- an exec that keeps old page tables or pages
-pub exec_frees_the_old : (m : Moment) (h s : ℕ) (p : Process) (image : Image) (ls : List LoadSegment) → CountsFrames m → IsOnHart m.before h s p → MayCall m.before h p → image_loads (m.before).scheme image ≡ Ok ls → m.step ≡ Exec h image → m.reply ≡ Done
+pub exec_frees_the_old : (m : Moment) (h s : ℕ) (p : Process) (image : Image) (ls : List LoadSegment) → CountsFrames m → IsOnHart m.before h s p → MayCall m.before h p → image_loads (m.before).scheme image ≡ Ok ls → m.step ≡ Exec h image → m.reply ≡ Scalar Done
     → free m.after + (1 + frames_for_image (m.before).scheme ls) ≡ free (without_process m.before s)
 exec_frees_the_old m h s p image ls k on may loads step = (k.exec h s p image ls on may loads step).1
 
 -- an exec that keeps the old heap's base
-pub exec_empties_the_heap : (m : Moment) (h : ℕ) (image : Image) (p q : Process) → Becomes m h p q → m.step ≡ Exec h image → m.reply ≡ Done → q.heap_base ≡ q.size
+pub exec_empties_the_heap : (m : Moment) (h : ℕ) (image : Image) (p q : Process) → Becomes m h p q → m.step ≡ Exec h image → m.reply ≡ Scalar Done → q.heap_base ≡ q.size
 exec_empties_the_heap m h image p q k step done = k.new_base image step done
 
 unsettled : {copy : ℕ} (o : Option Page) → is_some o ≡ false → option_map (λ (z : Page). z.copy) o ≡ Some copy → ⊥
@@ -250,35 +251,35 @@ no_tables_unasked m h s address len page p q k on step there none =
     by false false c e = refl
 
 -- a munmap that is done though its address is inside a page, or its length 0
-unmaps_range : (p : Process) (address len : ℕ) (r : Reply) → r ≡ Done → UnmapReply p address len r → is_range address len ≡ true
+unmaps_range : (p : Process) (address len : ℕ) (r : Reply) → r ≡ Scalar Done → UnmapReply p address len r → is_range address len ≡ true
 unmaps_range p address len r is (UnmapReply.no_range bad) = absurd cc
 unmaps_range p address len r is (UnmapReply.outside range out) = absurd cc
 unmaps_range p address len r is (UnmapReply.hole range has low high) = absurd cc
 unmaps_range p address len r is (UnmapReply.unmapped range has touches) = range
 
-pub unmaps_a_range : (m : Moment) (h s address len : ℕ) (p : Process) → MakesOwn m h s p → MayCall m.before h p → m.step ≡ Munmap h address len → is_range address len ≡ false → m.reply ≢ Done
+pub unmaps_a_range : (m : Moment) (h s address len : ℕ) (p : Process) → MakesOwn m h s p → MayCall m.before h p → m.step ≡ Munmap h address len → is_range address len ≡ false → m.reply ≢ Scalar Done
 unmaps_a_range m h s address len p k may step bad is = false≢true (sym bad ∙ unmaps_range p address len m.reply is (k.munmap address len may step))
 
 -- an sbrk that is done though the size would be below the heap's base
-sizes_above : (p : Process) (delta : ℤ) (n : ℕ) (r : Reply) → r ≡ OldSize n → SizeReply p delta r → is_below_base p delta ≡ false
+sizes_above : (p : Process) (delta : ℤ) (n : ℕ) (r : Reply) → r ≡ Scalar (OldSize n) → SizeReply p delta r → is_below_base p delta ≡ false
 sizes_above p delta n r is (SizeReply.bad_size below) = absurd cc
 sizes_above p delta n r is (SizeReply.no_room above gained taken) = absurd cc
 sizes_above p delta n r is (SizeReply.sized above room) = above
 
-pub sizes_above_the_base : (m : Moment) (h s n : ℕ) (delta : ℤ) (p : Process) → MakesOwn m h s p → MayCall m.before h p → m.step ≡ Sbrk h delta → is_below_base p delta ≡ true → m.reply ≢ OldSize n
+pub sizes_above_the_base : (m : Moment) (h s n : ℕ) (delta : ℤ) (p : Process) → MakesOwn m h s p → MayCall m.before h p → m.step ≡ Sbrk h delta → is_below_base p delta ≡ true → m.reply ≢ Scalar (OldSize n)
 sizes_above_the_base m h s n delta p k may step below is = false≢true (sym (sizes_above p delta n m.reply is (k.sbrk delta may step)) ∙ below)
 
 -- an mmap that maps where there is a greater page at which the pages fit, or as the 17th mapping
-maps_high : (files : List File) (p : Process) (len protection flags n at : ℕ) (r : Reply) → r ≡ MappedAt at → MapReply files p len protection flags n r
-    → (length p.mappings < most_mappings) × ((other : ℕ) → Fits p (pages_for len) other → 4096 * other ≤ at)
+maps_high : (files : List File) (p : Process) (len protection flags n at : ℕ) (r : Reply) → r ≡ Scalar (MappedAt at) → MapReply files p len protection flags n r
+    → (length p.mappings < MOST_MAPPINGS) × ((other : ℕ) → Fits p (pages_for len) other → 4096 * other ≤ at)
 maps_high files p len protection flags n at r is (MapReply.bad bad) = absurd cc
 maps_high files p len protection flags n at r is (MapReply.read_only good only) = absurd cc
 maps_high files p len protection flags n at r is (MapReply.full good only full) = absurd cc
 maps_high files p len protection flags n at r is (MapReply.no_room good only few none) = absurd cc
 maps_high files p len protection flags n at r is (MapReply.mapped {first} good only few fits most) = (few, λ other room. let le = most other room in let same : 4096 * first ≡ at = cc in omega (arith, le, same))
 
-pub maps_as_high_as_fits : (m : Moment) (h s len protection flags n at : ℕ) (p : Process) → MakesOwn m h s p → MayCall m.before h p → m.step ≡ Mmap h len protection flags n → m.reply ≡ MappedAt at
-    → (length p.mappings < most_mappings) × ((other : ℕ) → Fits p (pages_for len) other → 4096 * other ≤ at)
+pub maps_as_high_as_fits : (m : Moment) (h s len protection flags n at : ℕ) (p : Process) → MakesOwn m h s p → MayCall m.before h p → m.step ≡ Mmap h len protection flags n → m.reply ≡ Scalar (MappedAt at)
+    → (length p.mappings < MOST_MAPPINGS) × ((other : ℕ) → Fits p (pages_for len) other → 4096 * other ≤ at)
 maps_as_high_as_fits m h s len protection flags n at p k may step is = maps_high (m.before).files p len protection flags n at m.reply is (k.mmap len protection flags n may step)
 
 -- a copy that takes frames though none is free
@@ -288,7 +289,7 @@ takes_none_of_none m h address n frames bytes k step reply none =
     omega (arith, room, none)
 
 -- a new mapping that is cut into several
-pub mapped_in_one : (m : Moment) (h len protection flags n at page : ℕ) (p q : Process) → Becomes m h p q → m.step ≡ Mmap h len protection flags n → m.reply ≡ MappedAt at
+pub mapped_in_one : (m : Moment) (h len protection flags n at page : ℕ) (p q : Process) → Becomes m h p q → m.step ≡ Mmap h len protection flags n → m.reply ≡ Scalar (MappedAt at)
     → is_between (page_of at) (page_of at + pages_for len) page ≡ true → is_between (page_of at) (page_of at + pages_for len) (page + 1) ≡ true → are_joined q page ≡ true
 mapped_in_one m h len protection flags n at page p q k step reply one two =
     k.joined page
@@ -334,7 +335,7 @@ one_frame_one_page m s t one two copy i p q k apart lives others here there = (k
 above : (n : ℕ) → 256 < n → nat_le n 256 ≡ false
 above n less = grind (arith, nat_tests, less)
 
-pub bad_argument_first : (m : Moment) (h address n : ℕ) → MakesSteps m → m.step ≡ CopyIn h address n → 256 < n → m.reply ≡ Refused refusal.BadArgument
+pub bad_argument_first : (m : Moment) (h address n : ℕ) → MakesSteps m → m.step ≡ CopyIn h address n → 256 < n → m.reply ≡ Scalar (Refused refusal.BadArgument)
 bad_argument_first m h address n k step long = k.refused h refusal.BadArgument (ap hart_of step) (ap (λ x. refusal_on m.before x (slice_get (m.before).harts h)) step ∙ by (slice_get (m.before).harts h))
   where
     by : (o : Option Hart) → refusal_on m.before (CopyIn h address n) o ≡ Some refusal.BadArgument
@@ -342,7 +343,7 @@ bad_argument_first m h address n k step long = k.refused h refusal.BadArgument (
     by (Some hart) = rw (above n long) refl
 
 -- a call on a hart that is not in the kernel, refused as Impossible in another phase than its own
-pub impossible_in_its_phase : (m : Moment) (h : ℕ) (delta : ℤ) (hart : Hart) → MakesSteps m → slice_get (m.before).harts h ≡ Some hart → m.step ≡ Sbrk h delta → is_kernel hart.phase ≡ false → m.reply ≡ Refused (refusal.Impossible hart.phase)
+pub impossible_in_its_phase : (m : Moment) (h : ℕ) (delta : ℤ) (hart : Hart) → MakesSteps m → slice_get (m.before).harts h ≡ Some hart → m.step ≡ Sbrk h delta → is_kernel hart.phase ≡ false → m.reply ≡ Scalar (Refused (refusal.Impossible hart.phase))
 impossible_in_its_phase m h delta hart k there step out = k.refused h (refusal.Impossible hart.phase) (ap hart_of step) (ap (λ x. refusal_on m.before x (slice_get (m.before).harts h)) step ∙ ap (refusal_on m.before (Sbrk h delta)) there ∙ rw out refl)
 
 -- marks of a hart

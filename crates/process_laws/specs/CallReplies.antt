@@ -6,23 +6,24 @@ use Rattle.std.specs.Prelude.{◌≡◌, ◌⊎◌, ℕ, ℤ, pos, ◌+ℤ◌, n
 use Rattle.std.specs.Prelude.{nat_le, nat_lt, Option, None, Some, is_some, List, [], ◌∷◌, Ok, Err, length, slice_get}
 use Rattle.process_laws.specs.Pages.{grant}
 use Rattle.process_model.specs.Bytes.{first_true, is_width, pages_for}
-use Rattle.process_model.specs.Copies.{longest_copy}
+use Rattle.process_model.specs.declared.limits.TheConstants.{LONGEST_COPY, MOST_MAPPINGS}
 use Rattle.process_model.specs.Files.{File, is_writable}
 use Rattle.process_model.specs.Harts.{entry_serves, Hart, in_trampoline, is_kernel, is_user, may_switch, next_phase}
 use Rattle.process_model.specs.Images.{image_loads, LoadSegment}
-use Rattle.process_model.specs.Mappings.{is_bad_mapping, most_mappings}
+use Rattle.process_model.specs.Mappings.{is_bad_mapping}
 use Rattle.process_model.specs.Places.{Fits}
 use Rattle.process_model.specs.Process.{Process}
 use Rattle.process_model.specs.Regions.{end_of, Region}
 use Rattle.process_model.specs.World.{awaits_service, can_run, free_slot, World}
 use Rattle.process_model.specs.declared.image.BadImage.{BadImage}
 use Rattle.process_model.specs.declared.image.Image.{Image}
-use Rattle.process_model.specs.declared.step.Refusal.{Refusal}
-use Rattle.process_model.specs.declared.step.Refusal.TheVariants.{BadArgument, BadSize, FileNotWritable, HoleInMapping, Impossible}
-use Rattle.process_model.specs.declared.step.Refusal.TheVariants.{MappingsFull, NoEntry, NoFrame, NoRoom, NoSlot}
-use Rattle.process_model.specs.declared.step.Refusal.TheVariants as refusal
-use Rattle.process_model.specs.declared.step.Reply.{Reply}
-use Rattle.process_model.specs.declared.step.Reply.TheVariants.{Done, Forked, MappedAt, OldSize, Refused, Started}
+use Rattle.process_model.specs.declared.reply.Refusal.{Refusal}
+use Rattle.process_model.specs.declared.reply.Refusal.TheVariants.{BadArgument, BadSize, FileNotWritable, HoleInMapping, Impossible}
+use Rattle.process_model.specs.declared.reply.Refusal.TheVariants.{MappingsFull, NoEntry, NoFrame, NoRoom, NoSlot}
+use Rattle.process_model.specs.declared.reply.Refusal.TheVariants as refusal
+use Rattle.process_model.specs.declared.reply.Reply.{Reply}
+use Rattle.process_model.specs.declared.reply.ScalarReply.TheVariants.{Done, Forked, MappedAt, OldSize, Refused, Started}
+use Rattle.process_model.specs.declared.reply.Reply.TheVariants.{Scalar}
 use Rattle.process_model.specs.declared.step.Step.{Step}
 use Rattle.process_model.specs.declared.step.Step.TheVariants.{CopyIn, CopyOut, Evict, Exec, Fetch, Fill, Fork, Load, Mmap, Munmap, Next}
 use Rattle.process_model.specs.declared.step.Step.TheVariants.{Sbrk, Serve, Store, Switch, TrampolineFetch, Trap}
@@ -37,8 +38,8 @@ abbrev pub is_proper : Step → Bool
 is_proper (Load h address width via) = is_width width
 is_proper (Store h address width value via) = is_width width
 is_proper (TrampolineFetch h offset via) = offset % 4 == 0 && nat_lt offset 4096
-is_proper (CopyIn h address n) = nat_le n longest_copy
-is_proper (CopyOut h address bytes) = nat_le (length bytes.now) longest_copy
+is_proper (CopyIn h address n) = nat_le n LONGEST_COPY
+is_proper (CopyOut h address bytes) = nat_le (length bytes.now) LONGEST_COPY
 is_proper x = true
 
 -- the step is possible on the hart as it is: a switch if the hart is idle or in the kernel, to a process that is on no hart;
@@ -90,20 +91,20 @@ has_refusals x = false
 
 -- if no slot is free, NoSlot; else if the image fails a check, that check; else NoFrame, or the lowest free slot
 pub data StartReply (w : World) (image : Image) : Reply → Type 0 where
-  no_slot : free_slot w ≡ None → StartReply w image (Refused NoSlot)
-  bad : {s : ℕ} {e : BadImage} → free_slot w ≡ Some s → image_loads w.scheme image ≡ Err e → StartReply w image (Refused (refusal.BadImage e))
-  no_frame : {s : ℕ} {ls : List LoadSegment} → free_slot w ≡ Some s → image_loads w.scheme image ≡ Ok ls → StartReply w image (Refused NoFrame)
-  started : {s : ℕ} {ls : List LoadSegment} → free_slot w ≡ Some s → image_loads w.scheme image ≡ Ok ls → StartReply w image (Started s)
+  no_slot : free_slot w ≡ None → StartReply w image (Scalar (Refused NoSlot))
+  bad : {s : ℕ} {e : BadImage} → free_slot w ≡ Some s → image_loads w.scheme image ≡ Err e → StartReply w image (Scalar (Refused (refusal.BadImage e)))
+  no_frame : {s : ℕ} {ls : List LoadSegment} → free_slot w ≡ Some s → image_loads w.scheme image ≡ Ok ls → StartReply w image (Scalar (Refused NoFrame))
+  started : {s : ℕ} {ls : List LoadSegment} → free_slot w ≡ Some s → image_loads w.scheme image ≡ Ok ls → StartReply w image (Scalar (Started s))
 
 pub data ForkReply (w : World) : Reply → Type 0 where
-  no_slot : free_slot w ≡ None → ForkReply w (Refused NoSlot)
-  no_frame : {t : ℕ} → free_slot w ≡ Some t → ForkReply w (Refused NoFrame)
-  forked : {t : ℕ} → free_slot w ≡ Some t → ForkReply w (Forked t)
+  no_slot : free_slot w ≡ None → ForkReply w (Scalar (Refused NoSlot))
+  no_frame : {t : ℕ} → free_slot w ≡ Some t → ForkReply w (Scalar (Refused NoFrame))
+  forked : {t : ℕ} → free_slot w ≡ Some t → ForkReply w (Scalar (Forked t))
 
 pub data ExecReply (w : World) (image : Image) : Reply → Type 0 where
-  bad : {e : BadImage} → image_loads w.scheme image ≡ Err e → ExecReply w image (Refused (refusal.BadImage e))
-  no_frame : {ls : List LoadSegment} → image_loads w.scheme image ≡ Ok ls → ExecReply w image (Refused NoFrame)
-  done : {ls : List LoadSegment} → image_loads w.scheme image ≡ Ok ls → ExecReply w image Done
+  bad : {e : BadImage} → image_loads w.scheme image ≡ Err e → ExecReply w image (Scalar (Refused (refusal.BadImage e)))
+  no_frame : {ls : List LoadSegment} → image_loads w.scheme image ≡ Ok ls → ExecReply w image (Scalar (Refused NoFrame))
+  done : {ls : List LoadSegment} → image_loads w.scheme image ≡ Ok ls → ExecReply w image (Scalar Done)
 
 -- sbrk
 
@@ -118,11 +119,11 @@ IsGained p delta page = (pages_for p.size ≤ page) × (page < pages_for (nat_ab
 -- if the size would be below the heap's base, BadSize; else if a page that the heap would get has a grant, or is the
 -- trapframe's or above, NoRoom; else the old size
 pub data SizeReply (p : Process) (delta : ℤ) : Reply → Type 0 where
-  bad_size : is_below_base p delta ≡ true → SizeReply p delta (Refused BadSize)
+  bad_size : is_below_base p delta ≡ true → SizeReply p delta (Scalar (Refused BadSize))
   no_room : {page : ℕ} → is_below_base p delta ≡ false → IsGained p delta page → (grant p page ≡ None → ⊥)
-      ⊎ (trapframe_page p.scheme ≤ page) → SizeReply p delta (Refused NoRoom)
+      ⊎ (trapframe_page p.scheme ≤ page) → SizeReply p delta (Scalar (Refused NoRoom))
   sized : is_below_base p delta ≡ false → ((page : ℕ) → IsGained p delta page → (grant p page ≡ None) × (page < trapframe_page p.scheme))
-      → SizeReply p delta (OldSize p.size)
+      → SizeReply p delta (Scalar (OldSize p.size))
 
 -- mmap
 
@@ -134,16 +135,16 @@ is_read_only files protection flags n = flags == 1 && protection / 2 % 2 == 1 &&
 -- if the process has 16 mappings, MappingsFull; else if the pages fit nowhere above the heap, below the trapframe and apart
 -- from the mappings (`Fits`), NoRoom; else the greatest address at which they fit
 pub data MapReply (files : List File) (p : Process) (len protection flags n : ℕ) : Reply → Type 0 where
-  bad : is_bad_mapping files len protection flags n ≡ true → MapReply files p len protection flags n (Refused BadArgument)
+  bad : is_bad_mapping files len protection flags n ≡ true → MapReply files p len protection flags n (Scalar (Refused BadArgument))
   read_only : is_bad_mapping files len protection flags n ≡ false → is_read_only files protection flags n ≡ true
-      → MapReply files p len protection flags n (Refused FileNotWritable)
+      → MapReply files p len protection flags n (Scalar (Refused FileNotWritable))
   full : is_bad_mapping files len protection flags n ≡ false → is_read_only files protection flags n ≡ false
-      → most_mappings ≤ length p.mappings → MapReply files p len protection flags n (Refused MappingsFull)
+      → MOST_MAPPINGS ≤ length p.mappings → MapReply files p len protection flags n (Scalar (Refused MappingsFull))
   no_room : is_bad_mapping files len protection flags n ≡ false → is_read_only files protection flags n ≡ false
-      → length p.mappings < most_mappings → ((first : ℕ) → Fits p (pages_for len) first → ⊥) → MapReply files p len protection flags n (Refused NoRoom)
+      → length p.mappings < MOST_MAPPINGS → ((first : ℕ) → Fits p (pages_for len) first → ⊥) → MapReply files p len protection flags n (Scalar (Refused NoRoom))
   mapped : {first : ℕ} → is_bad_mapping files len protection flags n ≡ false → is_read_only files protection flags n ≡ false
-      → length p.mappings < most_mappings → Fits p (pages_for len) first → ((other : ℕ) → Fits p (pages_for len) other → other ≤ first)
-      → MapReply files p len protection flags n (MappedAt (4096 * first))
+      → length p.mappings < MOST_MAPPINGS → Fits p (pages_for len) first → ((other : ℕ) → Fits p (pages_for len) other → other ≤ first)
+      → MapReply files p len protection flags n (Scalar (MappedAt (4096 * first)))
 
 -- munmap
 
@@ -161,10 +162,10 @@ is_range address len = address % 4096 == 0 && nat_lt 0 len
 -- if it is no range of pages, or no mapping has all of it, BadArgument; else if it touches neither end of the mapping,
 -- HoleInMapping; else it is done
 pub data UnmapReply (p : Process) (address len : ℕ) : Reply → Type 0 where
-  no_range : is_range address len ≡ false → UnmapReply p address len (Refused BadArgument)
+  no_range : is_range address len ≡ false → UnmapReply p address len (Scalar (Refused BadArgument))
   outside : is_range address len ≡ true → ((m : Region) → HasRange p (page_of address) (page_of address + pages_for len) m → ⊥)
-      → UnmapReply p address len (Refused BadArgument)
+      → UnmapReply p address len (Scalar (Refused BadArgument))
   hole : {m : Region} → is_range address len ≡ true → HasRange p (page_of address) (page_of address + pages_for len) m
-      → m.first < page_of address → page_of address + pages_for len < end_of m → UnmapReply p address len (Refused HoleInMapping)
+      → m.first < page_of address → page_of address + pages_for len < end_of m → UnmapReply p address len (Scalar (Refused HoleInMapping))
   unmapped : {m : Region} → is_range address len ≡ true → HasRange p (page_of address) (page_of address + pages_for len) m
-      → (m.first ≡ page_of address) ⊎ (page_of address + pages_for len ≡ end_of m) → UnmapReply p address len Done
+      → (m.first ≡ page_of address) ⊎ (page_of address + pages_for len ≡ end_of m) → UnmapReply p address len (Scalar Done)

@@ -1,5 +1,5 @@
 -- Two predicates: `AreApart`, no page is in two regions of a list; and `EachProcess`, a given predicate holds of the process
--- in each slot (place in the process table) of a world that has one.
+-- in each slot of a world that has one.
 use Rattle.std.specs.Prelude.{◌≡◌, ℕ, true, Some, List, slice_get}
 use Rattle.process_model.specs.Regions.{Region, holds_page}
 use Rattle.process_model.specs.Process.{Process}

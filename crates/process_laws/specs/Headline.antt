@@ -32,9 +32,10 @@ use Rattle.process_model.specs.World.{booted, free, free_slot, is_unserved_acces
 use Rattle.process_model.specs.declared.config.Config.{Config}
 use Rattle.process_model.specs.declared.image.Image.{Image}
 use Rattle.process_model.specs.declared.phase.Phase.TheVariants.{Enter0, Idle}
-use Rattle.process_model.specs.declared.step.Refusal.{Refusal}
-use Rattle.process_model.specs.declared.step.Reply.{Reply}
-use Rattle.process_model.specs.declared.step.Reply.TheVariants.{Done, Ended, Fault, Filled, Forked, Ready, Refused, Started, Value}
+use Rattle.process_model.specs.declared.reply.Refusal.{Refusal}
+use Rattle.process_model.specs.declared.reply.Reply.{Reply}
+use Rattle.process_model.specs.declared.reply.ScalarReply.TheVariants.{Done, Ended, Fault, Filled, Forked, Ready, Refused, Started, Value}
+use Rattle.process_model.specs.declared.reply.Reply.TheVariants.{Scalar}
 use Rattle.process_model.specs.declared.step.Step.{Step}
 use Rattle.process_model.specs.declared.step.Step.TheVariants.{CopyIn, CopyOut, Exec, Fill, Fork, Start}
 use Rattle.sv39_entry.specs.Address.{page_of}
@@ -54,14 +55,14 @@ pub record AnswersUser (m : Moment) (h s : ℕ) (p : Process) (a : UserAccess) :
   pub answered : Tries m h s p a → IsGranted p a → IsResident p a → IsAnswer a.access m.reply
   -- Otherwise it faults, with the misaligned cause (0, 4, 6) if it is misaligned, else with the page fault's (12, 13, 15),
   -- and waits for service; nothing else of p changes, and the hart is at the first instruction of the kernel's entry
-  pub faults : Tries m h s p a → (IsGranted p a → IsResident p a → ⊥) → (m.reply ≡ Fault (cause a))
+  pub faults : Tries m h s p a → (IsGranted p a → IsResident p a → ⊥) → (m.reply ≡ Scalar (Fault (cause a)))
       × IsOnHart m.after h s (with_pending_access p a) × IsInPhase m.after h Enter0
   -- If the kernel serves a, for which p waits, and a is granted, then its page is resident, and one fault is enough unless p
   -- itself calls the kernel first; or p ends by NoFrame
-  pub served : Serves m h s p a → IsGranted p a → ((m.reply ≡ Ready) × ((q : Process) → process_in m.after s ≡ Some q → IsResident q a))
-      ⊎ (m.reply ≡ Ended NoFrame)
+  pub served : Serves m h s p a → IsGranted p a → ((m.reply ≡ Scalar Ready) × ((q : Process) → process_in m.after s ≡ Some q → IsResident q a))
+      ⊎ (m.reply ≡ Scalar (Ended NoFrame))
   -- If a is not granted, p ends by the first rule that forbids it
-  pub ended : Serves m h s p a → (IsGranted p a → ⊥) → (rule : Rule) × (m.reply ≡ Ended rule) × Forbids p a rule
+  pub ended : Serves m h s p a → (IsGranted p a → ⊥) → (rule : Rule) × (m.reply ≡ Scalar (Ended rule)) × Forbids p a rule
 
 -- (b) A kernel copy of n bytes stops after k: all are copied; or the next is forbidden; or the next lacks frames: fewer are
 -- free then than its page needs (`LacksFrames`). `copyin 0 0x1ffd 8`, whose last five bytes are the guard's, answers
@@ -111,7 +112,7 @@ pub record CountsFrames (m : Moment) : Type 0 where
   pub exec : (h s : ℕ) (p : Process) (image : Image) (ls : List LoadSegment) → IsOnHart m.before h s p → MayCall m.before h p
       → image_loads (m.before).scheme image ≡ Ok ls → m.step ≡ Exec h image
       → IsDry m (frames_for_image (m.before).scheme ls)
-      × (m.reply ≡ Done → free m.after + (1 + frames_for_image (m.before).scheme ls) ≡ free (without_process m.before s))
+      × (m.reply ≡ Scalar Done → free m.after + (1 + frames_for_image (m.before).scheme ls) ≡ free (without_process m.before s))
   -- A fork takes frames for the child, and none for a page
   pub fork : (h s t : ℕ) (p : Process) → IsOnHart m.before h s p → MayCall m.before h p → free_slot m.before ≡ Some t → m.step ≡ Fork h
       → TakesExactly m (frames_for_child p)
@@ -139,12 +140,12 @@ pub record HoldsFrames (m : Moment) : Type 0 where
       → copy_on p one ≡ Some copy → copy_on q two ≡ Some copy → IsSharedPage p q one two
   -- A process that was started is on new frames, and so is one after an exec that is done; a child is on its parent's. By any
   -- other step of its own a process keeps its frames, but for pages that go or are taken over
-  pub started : (image : Image) (s : ℕ) (p : Process) → m.step ≡ Start image → m.reply ≡ Started s → process_in m.after s ≡ Some p → HasNewFrames m.before p
-  pub replaced : (h s : ℕ) (p q : Process) (image : Image) → IsOnHart m.before h s p → m.step ≡ Exec h image → m.reply ≡ Done
+  pub started : (image : Image) (s : ℕ) (p : Process) → m.step ≡ Start image → m.reply ≡ Scalar (Started s) → process_in m.after s ≡ Some p → HasNewFrames m.before p
+  pub replaced : (h s : ℕ) (p q : Process) (image : Image) → IsOnHart m.before h s p → m.step ≡ Exec h image → m.reply ≡ Scalar Done
       → process_in m.after s ≡ Some q → HasNewFrames m.before q
-  pub child : (h s t : ℕ) (p c : Process) → IsOnHart m.before h s p → m.step ≡ Fork h → m.reply ≡ Forked t → process_in m.after t ≡ Some c → SharesFrames p c
+  pub child : (h s t : ℕ) (p c : Process) → IsOnHart m.before h s p → m.step ≡ Fork h → m.reply ≡ Scalar (Forked t) → process_in m.after t ≡ Some c → SharesFrames p c
   pub kept : (h s : ℕ) (p q : Process) → IsOnHart m.before h s p → hart_of_step m.step ≡ Some h
-      → ((image : Image) → m.step ≡ Exec h image → m.reply ≢ Done) → process_in m.after s ≡ Some q → KeepsFrames m.before s p q
+      → ((image : Image) → m.step ≡ Exec h image → m.reply ≢ Scalar Done) → process_in m.after s ≡ Some q → KeepsFrames m.before s p q
 
 -- (d) At each address a process has the latest byte that was left there since the page was settled, else the page's initial
 -- byte; none if the page is not settled. These bytes are what is read. A forked child reads what its parent stored before
@@ -152,7 +153,7 @@ pub record HoldsFrames (m : Moment) : Type 0 where
 pub record ReadsLatest (past : List Moment) (m : Moment) : Type 0 where
   -- (A load reads what the process had before the step; a CopyIn what it has after it, since it settles pages)
   pub has : (s a : ℕ) → byte_had (process_in m.after s) a ≡ latest (m ∷ past) s a
-  pub read : (h s v : ℕ) (a : UserAccess) (via : Option ℕ) → slot_on m.before h ≡ Some s → IsAccessStep h via a m.step → m.reply ≡ Value v
+  pub read : (h s v : ℕ) (a : UserAccess) (via : Option ℕ) → slot_on m.before h ≡ Some s → IsAccessStep h via a m.step → m.reply ≡ Scalar (Value v)
       → IsLatest past s a.address a.width v
   pub brought : (h s address n : ℕ) → slot_on m.before h ≡ Some s → m.step ≡ CopyIn h address n → AreLatest (m ∷ past) s address (bytes_in m.reply)
 
@@ -162,7 +163,7 @@ pub record LeavesOthers (m : Moment) : Type 0 where
   pub kept : (s : ℕ) (q : Process) → ((h : ℕ) → hart_of_step m.step ≡ Some h → slot_on m.before h ≢ Some s)
       → process_in m.before s ≡ Some q → process_in m.after s ≡ Some q
   -- A refused step changes nothing
-  pub refused : (e : Refusal) → m.reply ≡ Refused e → m.after ≡ m.before
+  pub refused : (e : Refusal) → m.reply ≡ Scalar (Refused e) → m.after ≡ m.before
   -- A slot stays empty but for a start and a fork
   pub empty : (s : ℕ) → process_in m.before s ≡ None → starts_in_slot m.reply s ≡ false → process_in m.after s ≡ None
   -- A hart keeps its process and its phase but for its own switch, trap, next instruction of entry or return (`Next`), fault or
@@ -172,7 +173,7 @@ pub record LeavesOthers (m : Moment) : Type 0 where
   -- a fill replies the number of the entry that it added, the last
   pub buffers : (k : ℕ) (hart : Hart) → IsMade m.reply → slice_get (m.before).harts k ≡ Some hart
       → keys_on m.after k ≡ Some (if is_on_hart m.step k then keys_after (m.before).policy hart m.step else hart.keys)
-  pub filled : (h address n : ℕ) → m.step ≡ Fill h address → m.reply ≡ Filled n → option_map length (keys_on m.after h) ≡ Some (n + 1)
+  pub filled : (h address n : ℕ) → m.step ≡ Fill h address → m.reply ≡ Scalar (Filled n) → option_map length (keys_on m.after h) ≡ Some (n + 1)
   -- With policy `asid`, when a process starts in a slot or the leaves of its process change (`changed_at`), the slot is stale
   -- on every hart, until that hart's last fence of a return to it. With entry 0 filled for page 1 before a fork, after `fork 0`
   -- and `leave 0` the access `load 0 0x1000 1 @0` answers `refused 20 NoEntry`
@@ -218,12 +219,12 @@ pub record Becomes (m : Moment) (h : ℕ) (p q : Process) : Type 0 where
   pub unforked : (page : ℕ) → is_remapped m.step m.reply page ≡ false → has_fork_mark p page ≡ true → (has_fork_mark q page ≡ true)
       ⊎ (is_stored_to p m.step page ≡ true)
   pub stored : (page : ℕ) → has_stored_mark q page ≡ true → (has_stored_mark p page ≡ true) ⊎ (is_stored_to p m.step page ≡ true)
-  pub cleared : (image : Image) → m.step ≡ Exec h image → m.reply ≡ Done → (page : ℕ) → (has_fork_mark q page ≡ false) × (has_stored_mark q page ≡ false)
+  pub cleared : (image : Image) → m.step ≡ Exec h image → m.reply ≡ Scalar Done → (page : ℕ) → (has_fork_mark q page ≡ false) × (has_stored_mark q page ≡ false)
   -- The size is what sbrk or exec makes of it, else what it was. The heap's base stays; after an exec that is done the heap is
   -- empty
   pub size : pos q.size ≡ size_after (m.before).scheme m.step m.reply p.size
   pub base : ((image : Image) → m.step ≢ Exec h image) → q.heap_base ≡ p.heap_base
-  pub new_base : (image : Image) → m.step ≡ Exec h image → m.reply ≡ Done → q.heap_base ≡ q.size
+  pub new_base : (image : Image) → m.step ≡ Exec h image → m.reply ≡ Scalar Done → q.heap_base ≡ q.size
 
 -- What its own step on hart h does to process p, in slot s
 pub record ChangesOwn (m : Moment) (h s : ℕ) (p : Process) : Type 0 where
@@ -238,7 +239,7 @@ pub record ChangesOwn (m : Moment) (h s : ℕ) (p : Process) : Type 0 where
   -- two map one place, the upper one's byte stays
   pub written : writes_back m.step m.reply ≡ true → IsWritten m.step p (m.before).files (m.after).files
   -- A child has its parent's regions, heap base and size, waits for nothing, and has no dirty mark
-  pub child : (t : ℕ) → m.step ≡ Fork h → m.reply ≡ Forked t → (c : Process) × (process_in m.after t ≡ Some c) × IsChild p c
+  pub child : (t : ℕ) → m.step ≡ Fork h → m.reply ≡ Scalar (Forked t) → (c : Process) × (process_in m.after t ≡ Some c) × IsChild p c
 
 -- Parts (a) to (g) hold of a moment, after those of the past
 pub record Holds (past : List Moment) (m : Moment) : Type 0 where

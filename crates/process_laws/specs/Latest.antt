@@ -12,9 +12,10 @@ use Rattle.process_model.specs.Process.{Page, Pending, Process}
 use Rattle.process_model.specs.Regions.{Source, file}
 use Rattle.process_model.specs.World.{World, has_slot, process_in}
 use Rattle.process_model.specs.declared.image.BadImage.{BadImage}
-use Rattle.process_model.specs.declared.step.Reply.{Reply}
-use Rattle.process_model.specs.declared.step.Reply.TheVariants.{CopiedIn, CopiedOut, Done, Ended, Exited, Forked, OldSize, Ready, ShortIn}
-use Rattle.process_model.specs.declared.step.Reply.TheVariants.{ShortOut, Started, Stored}
+use Rattle.process_model.specs.declared.reply.Reply.{Reply}
+use Rattle.process_model.specs.declared.reply.ScalarReply.TheVariants.{CopiedOut, Done, Ended, Exited, Forked, OldSize, Ready, ShortOut, Started}
+use Rattle.process_model.specs.declared.reply.ScalarReply.TheVariants.{Stored}
+use Rattle.process_model.specs.declared.reply.Reply.TheVariants.{CopiedIn, ShortIn, Scalar}
 use Rattle.process_model.specs.declared.step.Step.{Step}
 use Rattle.process_model.specs.declared.step.Step.TheVariants.{CopyIn, CopyOut, Exec, Exit, Fork, Munmap, Sbrk, Serve, Start, Store}
 use Rattle.process_laws.specs.Moments.{Moment, slot_on}
@@ -123,20 +124,20 @@ forgotten w h old s a = if has_slot s (slot_on w h) then None else old s a
 -- with its parent's. A store and a copy to the process put their bytes. A service and a copy settle pages. sbrk and munmap
 -- release pages; exec and an end release all. No other step changes a byte or removes one
 abbrev pub left_by : World → Step → Reply → LatestBytes → ℕ → ℕ → Option ℕ
-left_by w (Start image) (Started t) old s a = if t == s then image_byte (image_loads w.scheme image) a else old s a
-left_by w (Exec h image) Done old s a = if has_slot s (slot_on w h) then image_byte (image_loads w.scheme image) a else old s a
-left_by w (Fork h) (Forked t) old s a = if t == s then of_slot old (slot_on w h) a else old s a
-left_by w (Store h address width value via) Stored old s a =
+left_by w (Start image) (Scalar (Started t)) old s a = if t == s then image_byte (image_loads w.scheme image) a else old s a
+left_by w (Exec h image) (Scalar Done) old s a = if has_slot s (slot_on w h) then image_byte (image_loads w.scheme image) a else old s a
+left_by w (Fork h) (Scalar (Forked t)) old s a = if t == s then of_slot old (slot_on w h) a else old s a
+left_by w (Store h address width value via) (Scalar Stored) old s a =
     if has_slot s (slot_on w h) && is_among address width a then Some (byte_at (low_bytes value width) (a - address)) else old s a
-left_by w (CopyOut h address bytes) (CopiedOut n) old s a = put_by w h address bytes.now n old s a
-left_by w (CopyOut h address bytes) (ShortOut r n) old s a = put_by w h address bytes.now n old s a
+left_by w (CopyOut h address bytes) (Scalar (CopiedOut n)) old s a = put_by w h address bytes.now n old s a
+left_by w (CopyOut h address bytes) (Scalar (ShortOut r n)) old s a = put_by w h address bytes.now n old s a
 left_by w (CopyIn h address n) (CopiedIn bytes) old s a = settled_by w h address (length bytes.items) old s a
 left_by w (CopyIn h address n) (ShortIn r bytes) old s a = settled_by w h address (length bytes.items) old s a
-left_by w (Serve h) Ready old s a = if has_slot s (slot_on w h) && is_in_served (process_in w s) a then or_initial w s a (old s a) else old s a
-left_by w (Sbrk h delta) (OldSize n) old s a = if has_slot s (slot_on w h) && is_released n delta a then None else old s a
-left_by w (Munmap h address len) Done old s a = if has_slot s (slot_on w h) && is_unmapped address len a then None else old s a
-left_by w (Serve h) (Ended r) old s a = forgotten w h old s a
-left_by w (Exit h status) (Exited code) old s a = forgotten w h old s a
+left_by w (Serve h) (Scalar Ready) old s a = if has_slot s (slot_on w h) && is_in_served (process_in w s) a then or_initial w s a (old s a) else old s a
+left_by w (Sbrk h delta) (Scalar (OldSize n)) old s a = if has_slot s (slot_on w h) && is_released n delta a then None else old s a
+left_by w (Munmap h address len) (Scalar Done) old s a = if has_slot s (slot_on w h) && is_unmapped address len a then None else old s a
+left_by w (Serve h) (Scalar (Ended r)) old s a = forgotten w h old s a
+left_by w (Exit h status) (Scalar (Exited code)) old s a = forgotten w h old s a
 left_by w _ _ old s a = old s a
 
 -- the latest byte at an address of the process in slot s; none if its page is not settled

@@ -11,8 +11,9 @@ use Rattle.process_model.specs.World.{process_in}
 use Rattle.process_model.specs.declared.image.Image.{Image}
 use Rattle.process_model.specs.declared.phase.Phase.{Phase}
 use Rattle.process_model.specs.declared.phase.Phase.TheVariants.{Enter0, Idle, Kernel, User}
-use Rattle.process_model.specs.declared.step.Refusal.{Refusal}
-use Rattle.process_model.specs.declared.step.Reply.TheVariants.{Refused, Started, Exited, InFrame}
+use Rattle.process_model.specs.declared.reply.Refusal.{Refusal}
+use Rattle.process_model.specs.declared.reply.ScalarReply.TheVariants.{Refused, Started, Exited, InFrame}
+use Rattle.process_model.specs.declared.reply.Reply.TheVariants.{Scalar}
 use Rattle.process_model.specs.declared.step.Step.TheVariants.{Exec, Exit, Fork, Munmap, Next, Sbrk, Start, Switch, Trap, Mmap, TrampolineFetch}
 
 -- Of a process p, in slot s, on hart h:
@@ -36,18 +37,18 @@ pub record MakesSteps (m : Moment) : Type 0 where
   -- Each reply is a refusal, or of its step's own kind (`is_reply`). An exit replies its status, and a fetch in the trampoline
   -- frame 0
   pub replies : is_reply m.step m.reply ≡ true
-  pub exited : (h : ℕ) (status code : ℤ) → m.step ≡ Exit h status → m.reply ≡ Exited code → code ≡ status
-  pub in_frame : (h offset n : ℕ) (via : Option ℕ) → m.step ≡ TrampolineFetch h offset via → m.reply ≡ InFrame n → n ≡ 0
+  pub exited : (h : ℕ) (status code : ℤ) → m.step ≡ Exit h status → m.reply ≡ Scalar (Exited code) → code ≡ status
+  pub in_frame : (h offset n : ℕ) (via : Option ℕ) → m.step ≡ TrampolineFetch h offset via → m.reply ≡ Scalar (InFrame n) → n ≡ 0
   -- A step on a hart is refused with BadArgument, Impossible or NoEntry, the first that applies (`refusal_on`): `tramp 0 2`
   -- answers `refused 15 BadArgument` in every phase. If none applies, it is made, but for the refusals of the five calls above.
   -- A step of a process is made only on a hart that has one
-  pub refused : (h : ℕ) (e : Refusal) → hart_of m.step ≡ Some h → refusal_on m.before m.step (slice_get (m.before).harts h) ≡ Some e → m.reply ≡ Refused e
+  pub refused : (h : ℕ) (e : Refusal) → hart_of m.step ≡ Some h → refusal_on m.before m.step (slice_get (m.before).harts h) ≡ Some e → m.reply ≡ Scalar (Refused e)
   pub made : (h : ℕ) → hart_of m.step ≡ Some h → refusal_on m.before m.step (slice_get (m.before).harts h) ≡ None → has_refusals m.step ≡ false
       → (hart_of_step m.step ≡ Some h → (s : ℕ) × (p : Process) × IsOnHart m.before h s p) → IsMade m.reply
   pub hosted : (h : ℕ) → hart_of_step m.step ≡ Some h → IsMade m.reply → (s : ℕ) × (p : Process) × IsOnHart m.before h s p
   -- A start replies what `StartReply` says. The process has the image's pages, no mark, and an empty heap
   pub start : (image : Image) → m.step ≡ Start image → StartReply m.before image m.reply
-  pub started : (image : Image) (s : ℕ) → m.step ≡ Start image → m.reply ≡ Started s → (p : Process) × (process_in m.after s ≡ Some p) × Begins m p
+  pub started : (image : Image) (s : ℕ) → m.step ≡ Start image → m.reply ≡ Scalar (Started s) → (p : Process) × (process_in m.after s ≡ Some p) × Begins m p
   -- A process to which a hart is switched is there on the hart, in the kernel. A switch to none leaves the hart idle
   pub switch : (h s : ℕ) (p : Process) → m.step ≡ Switch h (Some s) → IsMade m.reply → process_in m.before s ≡ Some p
       → IsOnHart m.after h s p × IsInPhase m.after h Kernel

@@ -1,11 +1,11 @@
 -- `Moment`: a record of one step of a run, its reply, and the worlds (the model's whole state) before and after it. Then the
--- moments that the model makes of a step and of a list of steps (`moment_of`, `moments_from`), and the slot (place in the
--- process table) of the process on a hart (`slot_on`).
+-- moments that the model makes of a step and of a list of steps (`moment_of`, `moments_from`), and the slot of the process on
+-- a hart (`slot_on`).
 use Rattle.std.specs.Prelude.{ℕ, Option, None, Some, List, [], ◌∷◌, slice_get}
 use Rattle.process_model.specs.Harts.{Hart}
 use Rattle.process_model.specs.Steps.{step}
 use Rattle.process_model.specs.World.{World}
-use Rattle.process_model.specs.declared.step.Reply.{Reply}
+use Rattle.process_model.specs.declared.reply.Reply.{Reply}
 use Rattle.process_model.specs.declared.step.Step.{Step}
 
 -- one step of a run, with its reply and the worlds before and after it

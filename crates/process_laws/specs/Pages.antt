@@ -11,8 +11,9 @@ use Rattle.process_model.specs.Process.{Page, Pending, Process, regions}
 use Rattle.process_model.specs.Regions.{file, guard, heap, holds_page, image, keeps_stores, private_mapping, Region, region_at, RegionKind}
 use Rattle.process_model.specs.Regions.{segment, shared_mapping, Source, stack, zeros}
 use Rattle.process_model.specs.declared.image.BadImage.{BadImage}
-use Rattle.process_model.specs.declared.step.Reply.{Reply}
-use Rattle.process_model.specs.declared.step.Reply.TheVariants.{Done, MappedAt, OldSize, Started}
+use Rattle.process_model.specs.declared.reply.Reply.{Reply}
+use Rattle.process_model.specs.declared.reply.ScalarReply.TheVariants.{Done, MappedAt, OldSize, Started}
+use Rattle.process_model.specs.declared.reply.Reply.TheVariants.{Scalar}
 use Rattle.process_model.specs.declared.step.Step.{Step}
 use Rattle.process_model.specs.declared.step.Step.TheVariants.{CopyOut, Exec, Mmap, Munmap, Sbrk, Serve, Start}
 use Rattle.sv39_entry.specs.Address.{page_of}
@@ -79,13 +80,13 @@ has_some_of first n page = nat_lt 0 n && nat_le (page_of first) page && nat_le p
 -- the pages that a call maps or unmaps: exec all, sbrk those between the old size and the new,
 -- mmap and munmap those of their range
 abbrev pub is_remapped : Step → Reply → ℕ → Bool
-is_remapped (Exec h i) Done page = true
-is_remapped (Sbrk h delta) (OldSize n) page =
+is_remapped (Exec h i) (Scalar Done) page = true
+is_remapped (Sbrk h delta) (Scalar (OldSize n)) page =
     let old = pages_for n in
     let new = pages_for (nat_abs (pos n +ℤ delta)) in
     is_between new old page || is_between old new page
-is_remapped (Mmap h len protection flags n) (MappedAt at) page = is_between (page_of at) (page_of at + pages_for len) page
-is_remapped (Munmap h address len) Done page = is_between (page_of address) (page_of address + pages_for len) page
+is_remapped (Mmap h len protection flags n) (Scalar (MappedAt at)) page = is_between (page_of at) (page_of at + pages_for len) page
+is_remapped (Munmap h address len) (Scalar Done) page = is_between (page_of address) (page_of address + pages_for len) page
 is_remapped _ _ page = false
 
 -- the pages that a call may remap: sbrk from the heap's base on, mmap and munmap above the heap
@@ -108,7 +109,7 @@ are_joined p page = in_one_of p.mappings page
 
 -- the step puts the page and the next into one mapping: mmap those of its range
 abbrev pub joins : Step → Reply → ℕ → Bool
-joins (Mmap h len protection flags n) (MappedAt at) page =
+joins (Mmap h len protection flags n) (Scalar (MappedAt at)) page =
     is_between (page_of at) (page_of at + pages_for len) page && is_between (page_of at) (page_of at + pages_for len) (page + 1)
 joins _ r page = false
 
@@ -146,8 +147,8 @@ image_grant (Ok ls) page = loads_grant 0 ls page
 abbrev pub grant_after : Scheme → Step → Reply → ℕ → Option Grant
 grant_after s (Start i) r page = image_grant (image_loads s i) page
 grant_after s (Exec h i) r page = image_grant (image_loads s i) page
-grant_after s (Sbrk h delta) (OldSize n) page = if nat_lt page (pages_for (nat_abs (pos n +ℤ delta))) then Some heap_grant else None
-grant_after s (Mmap h len protection flags n) (MappedAt at) page = Some (mapping_grant protection flags n (page - page_of at))
+grant_after s (Sbrk h delta) (Scalar (OldSize n)) page = if nat_lt page (pages_for (nat_abs (pos n +ℤ delta))) then Some heap_grant else None
+grant_after s (Mmap h len protection flags n) (Scalar (MappedAt at)) page = Some (mapping_grant protection flags n (page - page_of at))
 grant_after s _ r page = None
 
 -- the size of a process after its step, as a whole number
@@ -158,9 +159,9 @@ image_size (Err e) = 0
 image_size (Ok ls) = 4096 * (end_of_loads 0 ls + 2)
 
 abbrev pub size_after : Scheme → Step → Reply → ℕ → ℤ
-size_after s (Start i) (Started t) size = pos (image_size (image_loads s i))
-size_after s (Exec h i) Done size = pos (image_size (image_loads s i))
-size_after s (Sbrk h delta) (OldSize n) size = pos size +ℤ delta
+size_after s (Start i) (Scalar (Started t)) size = pos (image_size (image_loads s i))
+size_after s (Exec h i) (Scalar Done) size = pos (image_size (image_loads s i))
+size_after s (Sbrk h delta) (Scalar (OldSize n)) size = pos size +ℤ delta
 size_after s _ r size = pos size
 
 -- the pages that a step may make ready for a store: the page of the store that is served, and all pages of a copy to the

@@ -20,12 +20,12 @@ use Rattle.process_model.specs.declared.config.Policy.{Policy}
 use Rattle.process_model.specs.declared.config.Policy.TheVariants.{Asid, Full}
 use Rattle.process_model.specs.declared.phase.Phase.{Phase}
 use Rattle.process_model.specs.declared.phase.Phase.TheVariants.{Kernel}
-use Rattle.process_model.specs.declared.step.Refusal.{Refusal}
-use Rattle.process_model.specs.declared.step.Refusal.TheVariants as refusal
-use Rattle.process_model.specs.declared.step.Reply.{Reply}
-use Rattle.process_model.specs.declared.step.Reply.TheVariants.{CopiedIn, CopiedOut, Done, Ended, Exited, Fault, Filled, Forked, InFrame}
-use Rattle.process_model.specs.declared.step.Reply.TheVariants.{MappedAt, OldSize, Ready, Refused, ShortIn, ShortOut, Started, Stored}
-use Rattle.process_model.specs.declared.step.Reply.TheVariants.{Value}
+use Rattle.process_model.specs.declared.reply.Refusal.{Refusal}
+use Rattle.process_model.specs.declared.reply.Refusal.TheVariants as refusal
+use Rattle.process_model.specs.declared.reply.Reply.{Reply}
+use Rattle.process_model.specs.declared.reply.ScalarReply.TheVariants.{CopiedOut, Done, Ended, Exited, Fault, Filled, Forked, InFrame, MappedAt}
+use Rattle.process_model.specs.declared.reply.ScalarReply.TheVariants.{OldSize, Ready, Refused, ShortOut, Started, Stored, Value}
+use Rattle.process_model.specs.declared.reply.Reply.TheVariants.{CopiedIn, ShortIn, Scalar}
 use Rattle.process_model.specs.declared.step.Step.{Step}
 use Rattle.process_model.specs.declared.step.Step.TheVariants.{CopyIn, CopyOut, Evict, Exec, Exit, Fetch, Fill, Fork, Load, Mmap, Munmap}
 use Rattle.process_model.specs.declared.step.Step.TheVariants.{Next, Sbrk, Serve, Start, Store, Switch, TrampolineFetch, Trap}
@@ -40,7 +40,7 @@ use Rattle.sv39_entry.specs.declared.rule.Rule.TheVariants.{NoFrame}
 
 -- the reply is no refusal: the step was made
 abbrev pub IsMade : Reply → Type 0
-IsMade r = (e : Refusal) → r ≢ Refused e
+IsMade r = (e : Refusal) → r ≢ Scalar (Refused e)
 
 -- process p, in slot s, is on hart h
 pub record IsOnHart (w : World) (h s : ℕ) (p : Process) : Type 0 where
@@ -86,9 +86,9 @@ abbrev pub moved_hart : Step → Reply → Option ℕ
 moved_hart (Switch h slot) r = Some h
 moved_hart (Next h) r = Some h
 moved_hart (Trap h) r = Some h
-moved_hart x (Fault cause) = hart_of_step x
-moved_hart x (Ended rule) = hart_of_step x
-moved_hart x (Exited status) = hart_of_step x
+moved_hart x (Scalar (Fault cause)) = hart_of_step x
+moved_hart x (Scalar (Ended rule)) = hart_of_step x
+moved_hart x (Scalar (Exited status)) = hart_of_step x
 moved_hart x r = None
 
 -- whether the step is made on hart k
@@ -130,25 +130,25 @@ marks_slot Asid before after t = changed_at (slice_get before.slots t) (slice_ge
 
 -- the reply says that the process ended
 abbrev pub is_end : Reply → Bool
-is_end (Ended rule) = true
-is_end (Exited status) = true
+is_end (Scalar (Ended rule)) = true
+is_end (Scalar (Exited status)) = true
 is_end _ = false
 
 -- the reply says that the access faulted
 abbrev pub is_fault : Reply → Bool
-is_fault (Fault cause) = true
+is_fault (Scalar (Fault cause)) = true
 is_fault _ = false
 
 -- the step may write back pages of shared mappings
 abbrev pub writes_back : Step → Reply → Bool
-writes_back (Munmap h address len) Done = true
-writes_back (Exec h image) Done = true
+writes_back (Munmap h address len) (Scalar Done) = true
+writes_back (Exec h image) (Scalar Done) = true
 writes_back x r = is_end r
 
 -- the reply says that a process began in slot s
 abbrev pub starts_in_slot : Reply → ℕ → Bool
-starts_in_slot (Started t) s = t == s
-starts_in_slot (Forked t) s = t == s
+starts_in_slot (Scalar (Started t)) s = t == s
+starts_in_slot (Scalar (Forked t)) s = t == s
 starts_in_slot r s = false
 
 -- the kernel may be called for process p on hart h: the hart is in phase Kernel, and p waits for no service
@@ -227,38 +227,38 @@ byte access address = record { access = access; address = address; width = 1 }
 
 -- the answers to an access that succeeds
 pub data IsAnswer : Access → Reply → Type 0 where
-  fetched : {v : ℕ} → IsAnswer access.Fetch (Value v)
-  loaded : {v : ℕ} → IsAnswer access.Load (Value v)
-  stored : IsAnswer access.Store Stored
+  fetched : {v : ℕ} → IsAnswer access.Fetch (Scalar (Value v))
+  loaded : {v : ℕ} → IsAnswer access.Load (Scalar (Value v))
+  stored : IsAnswer access.Store (Scalar Stored)
 
 -- the replies that a step may get: a refusal, or one of its own
 abbrev pub is_reply : Step → Reply → Bool
-is_reply x (Refused e) = true
-is_reply (Start image) (Started s) = true
-is_reply (Switch h slot) Done = true
-is_reply (Trap h) Done = true
-is_reply (Next h) Done = true
-is_reply (Fill h address) (Filled n) = true
-is_reply (Evict h n) Done = true
-is_reply (Fetch h address via) (Value v) = true
-is_reply (Fetch h address via) (Fault cause) = true
-is_reply (Load h address width via) (Value v) = true
-is_reply (Load h address width via) (Fault cause) = true
-is_reply (Store h address width value via) Stored = true
-is_reply (Store h address width value via) (Fault cause) = true
-is_reply (TrampolineFetch h offset via) (InFrame n) = true
-is_reply (Serve h) Ready = true
-is_reply (Serve h) (Ended rule) = true
-is_reply (Fork h) (Forked s) = true
-is_reply (Exec h image) Done = true
-is_reply (Sbrk h delta) (OldSize n) = true
-is_reply (Mmap h len protection flags n) (MappedAt address) = true
-is_reply (Munmap h address len) Done = true
+is_reply x (Scalar (Refused e)) = true
+is_reply (Start image) (Scalar (Started s)) = true
+is_reply (Switch h slot) (Scalar Done) = true
+is_reply (Trap h) (Scalar Done) = true
+is_reply (Next h) (Scalar Done) = true
+is_reply (Fill h address) (Scalar (Filled n)) = true
+is_reply (Evict h n) (Scalar Done) = true
+is_reply (Fetch h address via) (Scalar (Value v)) = true
+is_reply (Fetch h address via) (Scalar (Fault cause)) = true
+is_reply (Load h address width via) (Scalar (Value v)) = true
+is_reply (Load h address width via) (Scalar (Fault cause)) = true
+is_reply (Store h address width value via) (Scalar Stored) = true
+is_reply (Store h address width value via) (Scalar (Fault cause)) = true
+is_reply (TrampolineFetch h offset via) (Scalar (InFrame n)) = true
+is_reply (Serve h) (Scalar Ready) = true
+is_reply (Serve h) (Scalar (Ended rule)) = true
+is_reply (Fork h) (Scalar (Forked s)) = true
+is_reply (Exec h image) (Scalar Done) = true
+is_reply (Sbrk h delta) (Scalar (OldSize n)) = true
+is_reply (Mmap h len protection flags n) (Scalar (MappedAt address)) = true
+is_reply (Munmap h address len) (Scalar Done) = true
 is_reply (CopyIn h address n) (CopiedIn bytes) = true
 is_reply (CopyIn h address n) (ShortIn rule bytes) = true
-is_reply (CopyOut h address bytes) (CopiedOut n) = true
-is_reply (CopyOut h address bytes) (ShortOut rule n) = true
-is_reply (Exit h status) (Exited code) = true
+is_reply (CopyOut h address bytes) (Scalar (CopiedOut n)) = true
+is_reply (CopyOut h address bytes) (Scalar (ShortOut rule n)) = true
+is_reply (Exit h status) (Scalar (Exited code)) = true
 is_reply x r = false
 
 -- a kernel copy: how many bytes were copied, and which rule stopped it
@@ -266,23 +266,23 @@ is_reply x r = false
 abbrev pub copied : Reply → ℕ
 copied (CopiedIn bytes) = length bytes.items
 copied (ShortIn rule bytes) = length bytes.items
-copied (CopiedOut n) = n
-copied (ShortOut rule n) = n
+copied (Scalar (CopiedOut n)) = n
+copied (Scalar (ShortOut rule n)) = n
 copied _ = 0
 
 abbrev pub stopped_by : Reply → Option Rule
 stopped_by (ShortIn rule bytes) = Some rule
-stopped_by (ShortOut rule n) = Some rule
+stopped_by (Scalar (ShortOut rule n)) = Some rule
 stopped_by _ = None
 
 -- frames
 
 -- the reply says NoFrame: a refusal, an end, or a copy that stopped
 abbrev pub is_no_frame_reply : Reply → Bool
-is_no_frame_reply (Refused refusal.NoFrame) = true
-is_no_frame_reply (Ended NoFrame) = true
+is_no_frame_reply (Scalar (Refused refusal.NoFrame)) = true
+is_no_frame_reply (Scalar (Ended NoFrame)) = true
 is_no_frame_reply (ShortIn NoFrame bytes) = true
-is_no_frame_reply (ShortOut NoFrame n) = true
+is_no_frame_reply (Scalar (ShortOut NoFrame n)) = true
 is_no_frame_reply _ = false
 
 -- the steps that take frames, exec aside

@@ -15,9 +15,9 @@ ghost use Rattle.sv39_entry.specs.declared.access.Access.{Access};
 ghost use Rattle.sv39_entry.specs.declared.access.Access.TheVariants.{Store};
 
 /// A later mapping reads what was written back. Let a run of pages of mapping `m` be written back for process `p`, and let
-/// one of them be settled (in memory) and have to be written back (`is_written_back`: it has the dirty mark, and `m` is a
-/// writable shared mapping). Then in any process `q`, a page that maps the place of file n that this page maps has the
-/// written bytes for its initial ones, up to the length of the file.
+/// one of them be settled and have to be written back (`is_written_back`: it has the dirty mark, and `m` is a writable shared
+/// mapping). Then in any process `q`, a page that maps the place of file n that this page maps has the written bytes for its
+/// initial ones, up to the length of the file.
 pub fn later_mapping_reads_what_was_written()
     ensures { (files : List File) (p q : Process) (m r : Region) (first end page later n at i : ℕ) (s : Page) → m.first ≤ first → first ≤ page → page < end
         → get p.settled page ≡ Some s → is_written_back m s ≡ true → file_place m page ≡ Some (n, at) → region_on q later ≡ Some r

@@ -30,7 +30,7 @@ pub fn first_rule_is_first()
 /// After any list of steps since boot, the regions of each process are in order (`IsInOrder`): the parts of its image
 /// (segments, guard, stack), the heap and the mappings, each above the one before it, and all below the trapframe. Each part
 /// and each mapping has at least one page, and rights that a leaf can have or, as a guard, none. Only mappings have pages of
-/// a file, below offset 1,048,576.
+/// a file, below offset `LONGEST_MAPPING`.
 pub fn regions_stay_in_order()
     ensures { (c : Config) (files : List File) (steps : List Step) → EachProcess IsInOrder (run (booted c files) steps).world }
 {}

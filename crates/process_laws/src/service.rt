@@ -1,6 +1,6 @@
-// Three laws of page-fault service: a page made resident for an access (in memory and ready for it) is so; that takes at
-// most one frame for the page and one for a table of each level below the root's; a page that sbrk or munmap released is not
-// in memory, and a page not in memory has its initial bytes once it is made resident.
+// Three laws of page-fault service: a page made resident for an access is so; that takes at most one frame for the page and
+// one for a table of each level below the root's; a page that sbrk or munmap released is not in memory, and a page not in
+// memory has its initial bytes once it is made resident.
 ghost use Rattle.std.specs.Prelude.{◌≡◌, ℕ, ℤ, Bool, List, None, Some, Ok, true, option_map, ◌≤◌, ◌<◌, ◌+◌};
 ghost use Rattle.process_model.specs.Bytes.{pages_for};
 ghost use Rattle.process_model.specs.Files.{File};

@@ -12,9 +12,9 @@ use Rattle.sv39_entry.specs.Address.{page_of}
 use Rattle.sv39_entry.specs.declared.access.Access.{Access}
 use Rattle.sv39_entry.specs.declared.access.Access.TheVariants as access
 use Rattle.sv39_entry.specs.declared.rule.Rule.{Rule}
-use Rattle.process_model.specs.declared.step.Reply.{Reply}
-use Rattle.process_model.specs.declared.step.Reply.TheVariants.{CopiedIn, CopiedOut, ShortIn, ShortOut}
-use Rattle.process_model.specs.declared.limits.TheConstants.{LONGEST_COPY}
+use Rattle.process_model.specs.declared.reply.Reply.{Reply}
+use Rattle.process_model.specs.declared.reply.ScalarReply.TheVariants.{CopiedOut, ShortOut}
+use Rattle.process_model.specs.declared.reply.Reply.TheVariants.{CopiedIn, ShortIn, Scalar}
 
 -- the state of a copy: the process with the frames taken, the bytes copied, and the rule that stopped the copy, None if none
 -- did
@@ -77,9 +77,5 @@ in_reply bytes None = CopiedIn (record { items = bytes })
 in_reply bytes (Some r) = ShortIn r (record { items = bytes })
 
 abbrev pub out_reply : List ℕ → Option Rule → Reply
-out_reply bytes None = CopiedOut (length bytes)
-out_reply bytes (Some r) = ShortOut r (length bytes)
-
--- the longest copy, in bytes
-abbrev pub longest_copy : ℕ
-longest_copy = LONGEST_COPY
+out_reply bytes None = Scalar (CopiedOut (length bytes))
+out_reply bytes (Some r) = Scalar (ShortOut r (length bytes))

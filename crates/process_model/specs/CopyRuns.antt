@@ -1,6 +1,6 @@
--- Laws of kernel copies (copyin, copyout) within one page: such a copy makes the page resident (in memory and ready) once
--- and copies the whole run of bytes, or stops at its first byte. Also: a copy continued over more addresses (`more_in`,
--- `more_out`), which does nothing once stopped; and laws of bytes written over others.
+-- Laws of kernel copies (copyin, copyout) within one page: such a copy makes the page resident once and copies the whole run
+-- of bytes, or stops at its first byte. Also: a copy continued over more addresses (`more_in`, `more_out`), which does
+-- nothing once stopped; and laws of bytes written over others.
 use Rattle.std.proofs.Common.{◌≡◌, ℕ, zero, suc, true, ◌+◌, ◌*◌, ◌%◌, ◌<◌, ◌≤◌, refl, ap, ap₂, sym, ◌∙◌, arith, List, [], ◌∷◌, ◌++◌, length}
 use Rattle.std.proofs.Common.{take, drop, get_or, append_assoc, append-nil, length-append, length-drop, drop-cons, Option, None, Some, Ok}
 use Rattle.std.proofs.Common.{Err}

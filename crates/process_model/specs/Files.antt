@@ -3,7 +3,7 @@
 use Rattle.std.specs.Prelude.{ℕ, Bool, false, ◌&&◌, nat_le, Option, None, Some, slice_get, slice_set, List, [], length, take, drop}
 use Rattle.process_model.specs.Bytes.{padded, write_bytes}
 use Rattle.process_model.specs.declared.file.FileText.{FileText}
-use Rattle.process_model.specs.declared.limits.TheConstants.{LONGEST_FILE, MOST_FILES}
+use Rattle.process_model.specs.declared.limits.TheConstants.{LONGEST_FILE}
 
 pub record File : Type 0 where
   pub bytes : List ℕ
@@ -35,16 +35,8 @@ with_page_written files n offset page = with_file_at files n (slice_get files n)
 
 -- declared files
 
--- the most bytes of a file
-abbrev pub longest_file : ℕ
-longest_file = LONGEST_FILE
-
 abbrev pub fits_file : FileText → Bool
-fits_file f = nat_le f.length longest_file && nat_le (length f.bytes) f.length
-
--- how many files there may be
-abbrev pub most_files : ℕ
-most_files = MOST_FILES
+fits_file f = nat_le f.length LONGEST_FILE && nat_le (length f.bytes) f.length
 
 -- a declared file: its first bytes, and zeros up to its length
 abbrev pub file_of : FileText → File

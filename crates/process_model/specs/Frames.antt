@@ -1,13 +1,12 @@
--- Counts of frames: the page tables that a set of pages needs; what start, exec, fork and making one page resident (in
--- memory and ready) need; what the kernel takes at boot, and which sizes can boot or be shared by threads; and of all
--- processes, how many frames are free, held and shared, and how many references to frames there are (`accounts`).
+-- Counts of frames: the page tables that a set of pages needs; what start, exec, fork and making one page resident need; what
+-- the kernel takes at boot, and which sizes can boot or be shared by threads; and of all processes, how many frames are free,
+-- held and shared, and how many references to frames there are (`accounts`).
 use Rattle.std.specs.Prelude.{ℕ, Bool, true, false, ◌+◌, ◌-◌, ◌/◌, ◌^◌, ◌==◌, max, nat_le, nat_lt, ◌&&◌, Option, None, Some, List, [], ◌∷◌}
 use Rattle.std.specs.Prelude.{◌++◌, length, map, filter, filter_map, flat_map, sum_by, if◌then◌else◌, ◌≡◌, refl}
 use Rattle.std.specs.List.{list_any}
 use Rattle.process_model.specs.PageMap.{get, keys, numbers, count}
 use Rattle.process_model.specs.Process.{Process, Page}
 use Rattle.process_model.specs.Residence.{can_complete, parts_from, region_on}
-use Rattle.process_model.specs.Regions.{guard_pages, stack_pages}
 use Rattle.process_model.specs.Images.{LoadSegment, end_page}
 use Rattle.sv39_entry.specs.Address.{page_of}
 use Rattle.sv39_entry.specs.Schemes.{trampoline_page, trapframe_page}
@@ -15,7 +14,7 @@ use Rattle.sv39_entry.specs.declared.access.Access.{Access}
 use Rattle.sv39_entry.specs.declared.scheme.Scheme.{Scheme}
 use Rattle.sv39_entry.specs.declared.scheme.Scheme.TheVariants.{Sv39, Sv48}
 use Rattle.process_model.specs.declared.step.Report.{Report}
-use Rattle.process_model.specs.declared.limits.TheConstants.{FEWEST_FRAMES, MOST_FRAMES, MOST_HARTS, MOST_SHARED_FRAMES, MOST_SLOTS}
+use Rattle.process_model.specs.declared.limits.TheConstants.{FEWEST_FRAMES, GUARD_PAGES, MOST_FRAMES, MOST_HARTS, MOST_SHARED_FRAMES, MOST_SLOTS, STACK_PAGES}
 
 -- page tables
 
@@ -85,7 +84,7 @@ pub record PageRun : Type 0 where
 
 -- the runs of an image in ascending order: the segments, and after them guard and stack
 abbrev pub runs_between : ℕ → List LoadSegment → List PageRun
-runs_between end [] = record { first = end; end = end + (guard_pages + stack_pages) } ∷ []
+runs_between end [] = record { first = end; end = end + (GUARD_PAGES + STACK_PAGES) } ∷ []
 runs_between end (l ∷ ls) = record { first = page_of l.address; end = end_page l } ∷ runs_between (end_page l) ls
 
 abbrev pub image_runs : List LoadSegment → List PageRun

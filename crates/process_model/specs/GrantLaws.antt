@@ -9,12 +9,13 @@ use Rattle.std.proofs.lemmas.Option.{same_Some}
 use Rattle.process_model.specs.Bytes.{first_true, pages_for}
 use Rattle.process_model.specs.Files.{File, is_writable}
 use Rattle.process_model.specs.Heap.{heap_limit, size_refusal}
-use Rattle.process_model.specs.Mappings.{asks_execute, asks_read, asks_write, fits_at, greatest, is_bad_mapping, is_shared, longest_mapping}
-use Rattle.process_model.specs.Mappings.{map_refusal, mapping_of, mapping_place, most_mappings, places}
+use Rattle.process_model.specs.Mappings.{asks_execute, asks_read, asks_write, fits_at, greatest, is_bad_mapping, is_shared}
+use Rattle.process_model.specs.Mappings.{map_refusal, mapping_of, mapping_place, places}
 use Rattle.process_model.specs.Order.{IsMapping}
 use Rattle.process_model.specs.Process.{Process}
 use Rattle.process_model.specs.Regions.{is_guard_kind, private_mapping, shared_mapping}
-use Rattle.process_model.specs.declared.step.Refusal.TheVariants.{BadArgument, BadSize, FileNotWritable, MappingsFull, NoRoom}
+use Rattle.process_model.specs.declared.reply.Refusal.TheVariants.{BadArgument, BadSize, FileNotWritable, MappingsFull, NoRoom}
+use Rattle.process_model.specs.declared.limits.TheConstants.{LONGEST_MAPPING, MOST_MAPPINGS}
 
 -- ---- lists of tests
 
@@ -55,7 +56,7 @@ map_granted files p len protection flags file e =
     let tests = none_true (
     (is_bad_mapping files len protection flags file, BadArgument)
     ∷ (is_shared flags && asks_write protection && not (is_writable (slice_get files file)), FileNotWritable)
-    ∷ (nat_le most_mappings (length p.mappings), MappingsFull)
+    ∷ (nat_le MOST_MAPPINGS (length p.mappings), MappingsFull)
     ∷ (is_none (mapping_place p (pages_for len)), NoRoom)
     ∷ []) e in
     (tests.0, tests.1.1.1.0)
@@ -63,7 +64,7 @@ map_granted files p len protection flags file e =
 -- the arguments of a mapping that is not bad
 pub record IsGoodMapping (files : List File) (len protection flags n : ℕ) : Type 0 where
   pub some : len ≢ 0
-  pub short : len ≤ longest_mapping
+  pub short : len ≤ LONGEST_MAPPING
   pub asks : protection ≢ 0
   pub few : protection ≤ 7
   pub flagged : (flags == 1 || flags == 2) ≡ true
@@ -76,15 +77,15 @@ not_false false e = cc
 pub good_mapping : (files : List File) (len protection flags n : ℕ) → is_bad_mapping files len protection flags n ≡ false
     → IsGoodMapping files len protection flags n
 good_mapping files len protection flags n e =
-    let sixth = or_parts (len == 0 || nat_lt longest_mapping len || protection == 0 || nat_lt 7 protection
+    let sixth = or_parts (len == 0 || nat_lt LONGEST_MAPPING len || protection == 0 || nat_lt 7 protection
     || not (flags == 1 || flags == 2)) (is_none (slice_get files n)) e in
-    let fifth = or_parts (len == 0 || nat_lt longest_mapping len || protection == 0 || nat_lt 7 protection) (not (flags == 1 || flags == 2)) sixth.0 in
-    let fourth = or_parts (len == 0 || nat_lt longest_mapping len || protection == 0) (nat_lt 7 protection) fifth.0 in
-    let third = or_parts (len == 0 || nat_lt longest_mapping len) (protection == 0) fourth.0 in
-    let second = or_parts (len == 0) (nat_lt longest_mapping len) third.0 in
+    let fifth = or_parts (len == 0 || nat_lt LONGEST_MAPPING len || protection == 0 || nat_lt 7 protection) (not (flags == 1 || flags == 2)) sixth.0 in
+    let fourth = or_parts (len == 0 || nat_lt LONGEST_MAPPING len || protection == 0) (nat_lt 7 protection) fifth.0 in
+    let third = or_parts (len == 0 || nat_lt LONGEST_MAPPING len) (protection == 0) fourth.0 in
+    let second = or_parts (len == 0) (nat_lt LONGEST_MAPPING len) third.0 in
     record {
       some = eqb-false len 0 second.0;
-      short = ltb-false longest_mapping len second.1;
+      short = ltb-false LONGEST_MAPPING len second.1;
       asks = eqb-false protection 0 third.1;
       few = ltb-false 7 protection fourth.1;
       flagged = not_false (flags == 1 || flags == 2) fifth.1;

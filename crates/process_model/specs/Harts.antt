@@ -1,6 +1,6 @@
--- `Hart`: its phase between user mode and kernel, its process's slot (place in the process table), the keys (page and ASID)
--- of its buffer (its TLB) and which slots are marked as stale. What each phase allows and which is next, the ASID in satp,
--- the keys after a fill, and which keys the fences of entry and return remove under each policy.
+-- `Hart`: its phase between user mode and kernel, its process's slot, the keys (page and ASID) of its buffer (its TLB) and
+-- which slots are marked as stale. What each phase allows and which is next, the ASID in satp, the keys after a fill, and
+-- which keys the fences of entry and return remove under each policy.
 use Rattle.std.specs.Prelude.{ℕ, Bool, true, false, not, ◌+◌, nat_lt, ◌==◌, ◌&&◌, Option, None, Some, List, [], ◌∷◌, ◌++◌, drop, length}
 use Rattle.std.specs.Prelude.{filter, slice_get, if◌then◌else◌}
 use Rattle.sv39_entry.specs.Address.{page_of}
@@ -88,13 +88,9 @@ abbrev pub present_asid : Policy → Hart → ℕ
 present_asid Full hart = 0
 present_asid Asid hart = if has_user_satp hart.phase then asid_of_slot hart.slot else 0
 
--- how many entries a buffer holds
-abbrev pub buffer_size : ℕ
-buffer_size = BUFFER_SIZE
-
 -- the keys after a fill: the new key is last; a full buffer loses the first, its oldest
 abbrev pub with_key : List Key → Key → List Key
-with_key keys key = (if nat_lt (length keys) buffer_size then keys else drop 1 keys) ++ key ∷ []
+with_key keys key = (if nat_lt (length keys) BUFFER_SIZE then keys else drop 1 keys) ++ key ∷ []
 
 abbrev pub is_key : ℕ → ℕ → Option Key → Bool
 is_key page asid None = false

@@ -7,8 +7,8 @@ use Rattle.process_model.specs.Regions.{Region}
 use Rattle.process_model.specs.Process.{Process}
 use Rattle.sv39_entry.specs.Schemes.{trapframe_page}
 use Rattle.sv39_entry.specs.declared.scheme.Scheme.{Scheme}
-use Rattle.process_model.specs.declared.step.Refusal.{Refusal}
-use Rattle.process_model.specs.declared.step.Refusal.TheVariants.{BadSize, NoRoom}
+use Rattle.process_model.specs.declared.reply.Refusal.{Refusal}
+use Rattle.process_model.specs.declared.reply.Refusal.TheVariants.{BadSize, NoRoom}
 
 -- the process without its settled pages from `first` up to, and without, `end`
 abbrev pub without_pages : Process → ℕ → ℕ → Process

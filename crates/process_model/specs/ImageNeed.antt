@@ -13,7 +13,7 @@ use Rattle.process_model.specs.Insertion.{behind_more}
 use Rattle.process_model.specs.ImageProcess.{load_pages, page_numbers, page_run}
 use Rattle.process_model.specs.Order.{InRow, IsPlaced}
 use Rattle.process_model.specs.PageMap.{count}
-use Rattle.process_model.specs.Regions.{guard_pages, stack_pages}
+use Rattle.process_model.specs.declared.limits.TheConstants.{GUARD_PAGES, STACK_PAGES}
 use Rattle.process_model.specs.ValueSets.{AreCounted, div_near, div_up, first_last, last_first, none_counted, run_counted, same_count, values}
 use Rattle.sv39_entry.specs.Address.{page_of}
 use Rattle.sv39_entry.specs.Schemes.{of_scheme, trampoline_page, trapframe_page}
@@ -126,11 +126,11 @@ number_of e = e.0
 
 -- the pages after the segments: guard and stack
 abbrev last_pages : ℕ → List (ℕ × List ℕ)
-last_pages end = page_run end [] (guard_pages + stack_pages)
+last_pages end = page_run end [] (GUARD_PAGES + STACK_PAGES)
 
 image_numbers : (end : ℕ) (ls : List LoadSegment) → InRow end ls
     → map number_of (flat_map load_pages ls ++ last_pages (end_of_loads end ls)) ≡ numbers_in (runs_between end ls)
-image_numbers end [] row = let two : guard_pages + stack_pages ≡ end + (guard_pages + stack_pages) - end = omega arith in ap (λ k. numbers_from end k ++ []) two
+image_numbers end [] row = let two : GUARD_PAGES + STACK_PAGES ≡ end + (GUARD_PAGES + STACK_PAGES) - end = omega arith in ap (λ k. numbers_from end k ++ []) two
 image_numbers end (l ∷ ls) row =
     let many : pages_for l.memory_size ≡ end_page l - page_of l.address = let is = (row.0).end in omega (arith, is) in
     let rest : List (ℕ × List ℕ) = flat_map load_pages ls ++ last_pages (end_of_loads (end_page l) ls) in
@@ -141,7 +141,7 @@ image_numbers end (l ∷ ls) row =
     ∙ ap (λ ns. numbers_from (page_of l.address) (end_page l - page_of l.address) ++ ns) (image_numbers (end_page l) ls row.1)
 
 runs_rise : (z : Scheme) (end : ℕ) (ls : List LoadSegment) → InRow end ls
-    → end_of_loads end ls + (guard_pages + stack_pages) ≤ trapframe_page z → AreRising end (runs_between end ls ++ kernel_run z ∷ [])
+    → end_of_loads end ls + (GUARD_PAGES + STACK_PAGES) ≤ trapframe_page z → AreRising end (runs_between end ls ++ kernel_run z ∷ [])
 runs_rise z end [] row room = let facts = of_scheme z in (omega arith, omega arith, (omega (arith, room), omega (arith, facts), tt))
 runs_rise z end (l ∷ ls) row room =
     let at = row.0 in

@@ -4,7 +4,6 @@
 use Rattle.std.specs.Prelude.{ℕ, Bool, true, false, not, ◌+◌, ◌*◌, ◌/◌, ◌%◌, ◌^◌, nat_le, nat_lt, ◌==◌, ◌&&◌, if◌then◌else◌, Option, None}
 use Rattle.std.specs.Prelude.{Some, Result, Ok, Err, List, [], ◌∷◌, take, drop, length, map, fold, ◌++◌}
 use Rattle.process_model.specs.Bytes.{pages_for, number, numbers_from, first_true}
-use Rattle.process_model.specs.Regions.{guard_pages, stack_pages}
 use Rattle.sv39_entry.specs.Address.{page_of}
 use Rattle.sv39_entry.specs.Schemes.{trapframe_page}
 use Rattle.sv39_entry.specs.declared.scheme.Scheme.{Scheme}
@@ -13,7 +12,7 @@ use Rattle.process_model.specs.declared.image.BadImage.TheVariants as part
 use Rattle.process_model.specs.declared.image.Image.{Image}
 use Rattle.process_model.specs.declared.image.Image.TheVariants.{Elf, Segments}
 use Rattle.process_model.specs.declared.image.Segment.{Segment}
-use Rattle.process_model.specs.declared.limits.TheConstants.{MOST_SEGMENTS}
+use Rattle.process_model.specs.declared.limits.TheConstants.{GUARD_PAGES, LONGEST_IMAGE, MOST_SEGMENTS, STACK_PAGES}
 
 -- a segment to load: its address and size in memory, its rights, and the bytes that the image has for it
 pub record LoadSegment : Type 0 where
@@ -44,9 +43,6 @@ abbrev pub end_of_loads : ℕ → List LoadSegment → ℕ
 end_of_loads end [] = end
 end_of_loads end (l ∷ ls) = end_of_loads (end_page l) ls
 
-abbrev pub most_segments : ℕ
-most_segments = MOST_SEGMENTS
-
 -- the checks of a segment, each true if it fails, in their order; `before` has the segments with pages before it. Between it
 -- and the trapframe there has to be room for guard and stack (TooHigh)
 abbrev pub load_checks : Scheme → List LoadSegment → LoadSegment → List (Bool × BadImage)
@@ -55,9 +51,9 @@ load_checks s before l =
     ∷ (nat_le (2 ^ 64) (l.address + l.memory_size), part.Wraps)
     ∷ (not (l.address % 4096 == 0), part.Align)
     ∷ (has_pages l && not l.inside, part.Contents)
-    ∷ (has_pages l && nat_lt (trapframe_page s) (end_page l + (guard_pages + stack_pages)), part.TooHigh)
+    ∷ (has_pages l && nat_lt (trapframe_page s) (end_page l + (GUARD_PAGES + STACK_PAGES)), part.TooHigh)
     ∷ (has_pages l && nat_lt (page_of l.address) (end_of_loads 0 before), part.Order)
-    ∷ (has_pages l && nat_le most_segments (length before), part.TooMany)
+    ∷ (has_pages l && nat_le MOST_SEGMENTS (length before), part.TooMany)
     ∷ []
 
 -- the first check that a segment fails; None if it passes all
@@ -129,17 +125,13 @@ header_at bytes at = header_if_inside bytes at (nat_le (at + 56) (length bytes))
 abbrev pub headers_from : List ℕ → ℕ → ℕ → List ProgramHeader
 headers_from bytes offset n = map (λ k. header_at bytes (offset + 56 * k)) (numbers_from 0 n)
 
--- the most bytes of an ELF file: 1 MiB
-abbrev pub longest_image : ℕ
-longest_image = 2 ^ 20
-
 -- the bytes 7f 45 4c 46, as a little-endian number
 abbrev pub elf_magic : ℕ
 elf_magic = 0x464c457f
 
 abbrev pub file_fault : List ℕ → Option BadImage
 file_fault bytes = first_true (
-    (nat_lt longest_image (length bytes), part.TooLong)
+    (nat_lt LONGEST_IMAGE (length bytes), part.TooLong)
     ∷ (nat_lt (length bytes) 64, part.Header)
     ∷ (not (field bytes 0 4 == elf_magic), part.Magic)
     ∷ [])

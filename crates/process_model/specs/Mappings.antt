@@ -12,9 +12,9 @@ use Rattle.process_model.specs.Regions.{Region, shared_mapping, private_mapping,
 use Rattle.process_model.specs.Process.{Process, Page}
 use Rattle.sv39_entry.specs.Address.{page_of}
 use Rattle.sv39_entry.specs.Schemes.{trapframe_page}
-use Rattle.process_model.specs.declared.step.Refusal.{Refusal}
-use Rattle.process_model.specs.declared.step.Refusal.TheVariants.{NoRoom, BadArgument, FileNotWritable, MappingsFull, HoleInMapping}
-use Rattle.process_model.specs.declared.limits.TheConstants.{MOST_MAPPINGS}
+use Rattle.process_model.specs.declared.reply.Refusal.{Refusal}
+use Rattle.process_model.specs.declared.reply.Refusal.TheVariants.{NoRoom, BadArgument, FileNotWritable, MappingsFull, HoleInMapping}
+use Rattle.process_model.specs.declared.limits.TheConstants.{LONGEST_MAPPING, MOST_MAPPINGS}
 
 -- the place of a mapping
 
@@ -40,13 +40,6 @@ abbrev pub mapping_place : Process → ℕ → Option ℕ
 mapping_place p pages = greatest (filter (fits_at p pages) (places p pages))
 
 -- mmap
-
-abbrev pub most_mappings : ℕ
-most_mappings = MOST_MAPPINGS
-
--- the most bytes of a mapping: 1 MiB
-abbrev pub longest_mapping : ℕ
-longest_mapping = 2 ^ 20
 
 -- PROT_READ is 1, PROT_WRITE 2, PROT_EXEC 4; MAP_SHARED is 1, MAP_PRIVATE 2
 abbrev pub asks_read : ℕ → Bool
@@ -75,13 +68,13 @@ mapping_of first pages protection flags n = record {
 
 abbrev pub is_bad_mapping : List File → ℕ → ℕ → ℕ → ℕ → Bool
 is_bad_mapping files len protection flags n =
-    len == 0 || nat_lt longest_mapping len || protection == 0 || nat_lt 7 protection || not (flags == 1 || flags == 2) || is_none (slice_get files n)
+    len == 0 || nat_lt LONGEST_MAPPING len || protection == 0 || nat_lt 7 protection || not (flags == 1 || flags == 2) || is_none (slice_get files n)
 
 abbrev pub map_refusal : List File → Process → ℕ → ℕ → ℕ → ℕ → Option Refusal
 map_refusal files p len protection flags n = first_true (
     (is_bad_mapping files len protection flags n, BadArgument)
     ∷ (is_shared flags && asks_write protection && not (is_writable (slice_get files n)), FileNotWritable)
-    ∷ (nat_le most_mappings (length p.mappings), MappingsFull)
+    ∷ (nat_le MOST_MAPPINGS (length p.mappings), MappingsFull)
     ∷ (is_none (mapping_place p (pages_for len)), NoRoom)
     ∷ [])
 

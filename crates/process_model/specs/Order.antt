@@ -5,10 +5,10 @@
 use Rattle.std.specs.Prelude.{◌≡◌, ℕ, Bool, true, false, ◌+◌, ◌*◌, ◌≤◌, Some, List, [], ◌∷◌}
 use Rattle.process_model.specs.Bytes.{pages_for}
 use Rattle.process_model.specs.Images.{LoadSegment, end_of_loads, end_page}
-use Rattle.process_model.specs.Mappings.{longest_mapping}
+use Rattle.process_model.specs.declared.limits.TheConstants.{GUARD_PAGES, LONGEST_MAPPING, STACK_PAGES}
 use Rattle.process_model.specs.PageMap.{contains, get}
 use Rattle.process_model.specs.Process.{Page, Process}
-use Rattle.process_model.specs.Regions.{Region, Source, end_of, file, guard_pages, makes_leaf, stack_pages}
+use Rattle.process_model.specs.Regions.{Region, Source, end_of, file, makes_leaf}
 use Rattle.sv39_entry.specs.Address.{page_of}
 use Rattle.sv39_entry.specs.Schemes.{trapframe_page}
 use Rattle.sv39_entry.specs.declared.scheme.Scheme.{Scheme}
@@ -30,7 +30,7 @@ InRow low (l ∷ ls) = StandsAt low l × InRow (end_page l) ls
 -- the segments are in order, and between them and the trapframe there is room for guard and stack
 pub record IsPlaced (s : Scheme) (ls : List LoadSegment) : Type 0 where
   pub row : InRow 0 ls
-  pub below : end_of_loads 0 ls + (guard_pages + stack_pages) ≤ trapframe_page s
+  pub below : end_of_loads 0 ls + (GUARD_PAGES + STACK_PAGES) ≤ trapframe_page s
 
 -- regions
 
@@ -57,7 +57,7 @@ HasNoFile r = is_file r.source ≡ false
 -- if the source is a file, `pages` pages from its offset on end within the bytes that the longest mapping has. munmap of a
 -- front moves the offset along, and the end stays
 abbrev pub IsInReach : Source → ℕ → Type 0
-IsInReach (file n offset) pages = offset + 4096 * pages ≤ longest_mapping
+IsInReach (file n offset) pages = offset + 4096 * pages ≤ LONGEST_MAPPING
 IsInReach _ pages = Unit {0}
 
 pub record IsMapping (m : Region) : Type 0 where

@@ -1,7 +1,7 @@
--- Records `Process`: its regions, heap, settled pages (in memory) and pending access, no page table and no reference count;
--- `Page`: a settled page, its bytes, copy number (names one copy in memory), copy-on-write mark (a store takes the page over
--- first) and dirty mark (a shared mapping's page was made ready for a store); `Pending`: an access that faulted. Also the heap
--- as a region, and whether a page's region grants writing.
+-- Records `Process`: its regions, heap, settled pages and pending access, no page table and no reference count; `Page`: a
+-- settled page, its bytes, copy number (names one copy in memory), copy-on-write mark (a store takes the page over first) and
+-- dirty mark (a shared mapping's page was made ready for a store); `Pending`: an access that faulted. Also the heap as a
+-- region, and whether a page's region grants writing.
 use Rattle.std.specs.Prelude.{ℕ, Bool, true, false, not, ◌-◌, Option, None, List, ◌∷◌, ◌++◌}
 use Rattle.process_model.specs.Bytes.{pages_for}
 use Rattle.process_model.specs.PageMap.{PageMap, NumberSet}

@@ -49,13 +49,6 @@ abbrev pub region_at : List Region → ℕ → Option Region
 region_at [] page = None
 region_at (r ∷ rs) page = if holds_page r page then Some r else region_at rs page
 
--- how many pages a guard has, and a stack
-abbrev pub guard_pages : ℕ
-guard_pages = 1
-
-abbrev pub stack_pages : ℕ
-stack_pages = 1
-
 abbrev pub is_guard_kind : RegionKind → Bool
 is_guard_kind guard = true
 is_guard_kind _ = false

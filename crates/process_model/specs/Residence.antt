@@ -10,8 +10,9 @@ use Rattle.process_model.specs.Regions.{Region, Source, zeros, image, file, keep
 use Rattle.process_model.specs.Process.{Process, Page, regions, grants_write}
 use Rattle.sv39_entry.specs.declared.access.Access.{Access}
 use Rattle.sv39_entry.specs.declared.access.Access.TheVariants.{Store}
-use Rattle.process_model.specs.declared.step.Reply.{Reply}
-use Rattle.process_model.specs.declared.step.Reply.TheVariants.{Value, Stored}
+use Rattle.process_model.specs.declared.reply.Reply.{Reply}
+use Rattle.process_model.specs.declared.reply.ScalarReply.TheVariants.{Value, Stored}
+use Rattle.process_model.specs.declared.reply.Reply.TheVariants.{Scalar}
 
 -- the 4,096 bytes that a source has `at` bytes past its beginning. Pages of an image are settled when the process starts, so
 -- only zeros and files are ever asked
@@ -101,8 +102,8 @@ stored s offset bytes = record s { bytes = write_bytes s.bytes offset bytes }
 
 -- what a resident access does: its reply, and its page afterwards
 abbrev pub access_answer : Access → Page → ℕ → ℕ → ℕ → Reply × Page
-access_answer Store s offset width value = (Stored, stored s offset (low_bytes value width))
-access_answer _ s offset width value = (Value (loaded s offset width), s)
+access_answer Store s offset width value = (Scalar Stored, stored s offset (low_bytes value width))
+access_answer _ s offset width value = (Scalar (Value (loaded s offset width)), s)
 
 -- fork (the xv6 book, "Page-fault exceptions"): parent and child have the copy-on-write mark on every settled page whose region
 -- grants writing, a shared mapping's too (own choice)

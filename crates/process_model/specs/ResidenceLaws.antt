@@ -1,7 +1,6 @@
--- Laws of making a page resident (in memory and ready for an access): it is resident afterwards, and making it so again
--- changes nothing; regions and other pages stay (`SettlesPage`, `ServesPage`); it stays resident when its bytes change. Also
--- what holds of an address that a kernel copy reaches (`reached_in`): every address of its page is then granted, and reached
--- without a change.
+-- Laws of making a page resident: it is resident afterwards, and making it so again changes nothing; regions and other pages
+-- stay (`SettlesPage`, `ServesPage`); it stays resident when its bytes change. Also what holds of an address that a kernel
+-- copy reaches (`reached_in`): every address of its page is then granted, and reached without a change.
 use Rattle.std.proofs.Common.{◌≡◌, ℕ, Bool, true, false, not, ◌||◌, ◌+◌, ◌%◌, inl, inr, refl, ap, sym, subst, ◌∙◌, arith, List, Option, None, Some, Result, Ok}
 use Rattle.std.specs.Prelude.{nat_le, if◌then◌else◌}
 use Rattle.std.proofs.lemmas.Bool.{cases_lt, eq-eqb, le-leb, lt-leb}

@@ -1,10 +1,10 @@
--- Policy `asid`: which slots (places in the process table) may have stale buffer (TLB) entries after a step, since a process
--- started there or its leaves changed; these are marked on every hart. Policy `full` marks none.
+-- Policy `asid`: which slots may have stale TLB entries after a step, since a process started there or its leaves changed;
+-- these are marked on every hart. Policy `full` marks none.
 use Rattle.std.specs.Prelude.{ℕ, Bool, true, false, not, ◌+◌, ◌==◌, ◌&&◌, ◌||◌, Option, None, Some, List, [], ◌∷◌, map, if◌then◌else◌}
 use Rattle.std.specs.List.{list_any}
 use Rattle.process_model.specs.Process.{Process, Page}
 use Rattle.process_model.specs.Harts.{Hart}
-use Rattle.process_model.specs.World.{World, Outcome}
+use Rattle.process_model.specs.World.{World, StepOutcome}
 use Rattle.process_model.specs.declared.config.Policy.{Policy}
 use Rattle.process_model.specs.declared.config.Policy.TheVariants.{Full, Asid}
 
@@ -40,6 +40,6 @@ with_stale slots hart = record hart { stale = λ s. list_any (λ n. n == s) slot
 
 -- policy asid: the changed slots are marked on every hart, whose buffer may have stale entries of them; policy full marks
 -- none
-abbrev pub with_stale_slots : Policy → World → Outcome → Outcome
+abbrev pub with_stale_slots : Policy → World → StepOutcome → StepOutcome
 with_stale_slots Full before o = o
 with_stale_slots Asid before o = record o { world = record o.world { harts = map (with_stale (changed_slots 0 before.slots o.world.slots)) o.world.harts } }

@@ -1,5 +1,5 @@
 -- Records `World`, the model's whole state (processes by slot, files, harts, number of frames, next copy number), and
--- `Outcome`, a reply and the world after it. The world at boot, its parts with one replaced, its free slot and frames; and
+-- `StepOutcome`, a reply and the world after it. The world at boot, its parts with one replaced, its free slot and frames; and
 -- when a step on a hart, or a kernel call, is possible and with what it is refused otherwise.
 use Rattle.std.specs.Prelude.{ℕ, Bool, true, false, not, ◌+◌, ◌==◌, ◌&&◌, Option, None, Some, is_some, List, [], ◌∷◌, slice_get, slice_set, replicate}
 use Rattle.std.specs.List.{list_any}
@@ -12,10 +12,11 @@ use Rattle.sv39_entry.specs.declared.scheme.Scheme.{Scheme}
 use Rattle.process_model.specs.declared.config.Config.{Config}
 use Rattle.process_model.specs.declared.config.Policy.{Policy}
 use Rattle.process_model.specs.declared.phase.Phase.{Phase}
-use Rattle.process_model.specs.declared.step.Refusal.{Refusal}
-use Rattle.process_model.specs.declared.step.Refusal.TheVariants.{BadArgument, Impossible, NoEntry}
-use Rattle.process_model.specs.declared.step.Reply.{Reply}
-use Rattle.process_model.specs.declared.step.Reply.TheVariants.{Refused}
+use Rattle.process_model.specs.declared.reply.Refusal.{Refusal}
+use Rattle.process_model.specs.declared.reply.Refusal.TheVariants.{BadArgument, Impossible, NoEntry}
+use Rattle.process_model.specs.declared.reply.Reply.{Reply}
+use Rattle.process_model.specs.declared.reply.ScalarReply.TheVariants.{Refused}
+use Rattle.process_model.specs.declared.reply.Reply.TheVariants.{Scalar}
 use Rattle.process_model.specs.declared.step.Report.{Report}
 
 pub record World : Type 0 where
@@ -42,16 +43,16 @@ booted c files = record {
 }
 
 -- the reply to a step, and the world after it
-pub record Outcome : Type 0 where
+pub record StepOutcome : Type 0 where
   pub reply : Reply
   pub world : World
 
-abbrev pub answers : World → Reply → Outcome
+abbrev pub answers : World → Reply → StepOutcome
 answers w reply = record { reply = reply; world = w }
 
 -- a refusal changes nothing
-abbrev pub refuses : World → Refusal → Outcome
-refuses w r = answers w (Refused r)
+abbrev pub refuses : World → Refusal → StepOutcome
+refuses w r = answers w (Scalar (Refused r))
 
 -- parts of a world
 
@@ -145,31 +146,31 @@ common_refusal hart proper possible entry = first_true (
     ∷ (not (entry hart), NoEntry)
     ∷ [])
 
-abbrev pub unless_refused : World → (Hart → Outcome) → Hart → Option Refusal → Outcome
+abbrev pub unless_refused : World → (Hart → StepOutcome) → Hart → Option Refusal → StepOutcome
 unless_refused w run hart (Some r) = refuses w r
 unless_refused w run hart None = run hart
 
-abbrev pub on_hart_at : World → Bool → (Hart → Bool) → (Hart → Bool) → (Hart → Outcome) → Option Hart → Outcome
+abbrev pub on_hart_at : World → Bool → (Hart → Bool) → (Hart → Bool) → (Hart → StepOutcome) → Option Hart → StepOutcome
 on_hart_at w proper possible entry run None = refuses w BadArgument
 on_hart_at w proper possible entry run (Some hart) = unless_refused w run hart (common_refusal hart proper possible entry)
 
 -- a step on hart number h, or its refusal
-unfoldable pub on_hart : World → ℕ → Bool → (Hart → Bool) → (Hart → Bool) → (Hart → Outcome) → Outcome
+unfoldable pub on_hart : World → ℕ → Bool → (Hart → Bool) → (Hart → Bool) → (Hart → StepOutcome) → StepOutcome
 on_hart w h proper possible entry run = on_hart_at w proper possible entry run (slice_get w.harts h)
 
-abbrev pub with_process_of : World → Phase → (ℕ → Process → Outcome) → ℕ → Option Process → Outcome
+abbrev pub with_process_of : World → Phase → (ℕ → Process → StepOutcome) → ℕ → Option Process → StepOutcome
 with_process_of w phase run s None = refuses w (Impossible phase)
 with_process_of w phase run s (Some p) = run s p
 
-abbrev pub with_slot_of : World → Phase → (ℕ → Process → Outcome) → Option ℕ → Outcome
+abbrev pub with_slot_of : World → Phase → (ℕ → Process → StepOutcome) → Option ℕ → StepOutcome
 with_slot_of w phase run None = refuses w (Impossible phase)
 with_slot_of w phase run (Some s) = with_process_of w phase run s (process_in w s)
 
 -- what is done for the process of a hart, given its slot and the process. A hart that is not idle has a process, so these
 -- two refusals do not occur in a run
-unfoldable pub with_its_process : World → Hart → (ℕ → Process → Outcome) → Outcome
+unfoldable pub with_its_process : World → Hart → (ℕ → Process → StepOutcome) → StepOutcome
 with_its_process w hart run = with_slot_of w hart.phase run hart.slot
 
 -- a kernel call for the process of hart number h
-abbrev pub kernel_call : World → ℕ → Bool → (Hart → ℕ → Process → Outcome) → Outcome
+abbrev pub kernel_call : World → ℕ → Bool → (Hart → ℕ → Process → StepOutcome) → StepOutcome
 kernel_call w h proper run = on_hart w h proper (can_call w) always (λ hart. with_its_process w hart (run hart))

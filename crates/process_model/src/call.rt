@@ -2,11 +2,11 @@
 // `Start` (a process to start).
 
 use crate::image::Image;
-use crate::step::Refusal;
+use crate::reply::Refusal;
 use sv39_entry::Rule;
 
-/// One call of a process on threads: an access, a system call or a kernel copy. An access to a page that is not resident (in
-/// memory and ready for the access) is served within the call.
+/// One call of a process on threads: an access, a system call or a kernel copy. An access to a page that is not resident is
+/// served within the call.
 ///
 /// Addresses and lengths are in bytes.
 #[derive(Clone, Copy)]

@@ -1,6 +1,5 @@
-// Struct `Config`, what a machine boots with: harts, frames, slots (places in the process table), TLB policy and translation
-// scheme, and whether it can boot; enum `Policy`, fences or ASIDs; and `kernel_frames`, how many frames the kernel takes at
-// boot.
+// Struct `Config`, what a machine boots with: harts, frames, slots, TLB policy and translation scheme, and whether it can
+// boot; enum `Policy`, fences or ASIDs; and `kernel_frames`, how many frames the kernel takes at boot.
 
 ghost use Rattle.std.specs.Prelude.{◌≡◌, ◌≤◌};
 ghost use Rattle.process_model.specs.Frames as model;
@@ -37,8 +36,9 @@ pub struct Config {
 impl Config {
     ghost use Rattle.process_model.specs.Frames.{can_boot};
 
-    /// Whether a machine can boot with these sizes: 1 to 8 harts, 16 to 1,024 frames, 1 to 64 slots, and at least as many
-    /// frames as the kernel takes at boot (`kernel_frames`). The policy does not matter.
+    /// Whether a machine can boot with these sizes: 1 to `MOST_HARTS` harts, `FEWEST_FRAMES` to `MOST_FRAMES` frames, 1 to
+    /// `MOST_SLOTS` slots, and at least as many frames as the kernel takes at boot (`kernel_frames`). The policy does not
+    /// matter.
     pub fn is_bootable(&self) -> bool
         ensures { result ≡ can_boot self.now.scheme self.now.harts self.now.frames self.now.slots }
     {
@@ -51,7 +51,7 @@ impl Config {
 
 /// Returns how many frames the kernel takes at boot: the trampoline's, its page tables, and a stack for each of the `slots`.
 /// There are five tables under Sv39 and seven under Sv48, and one more if memory has more than 512 `frames` (two megabytes).
-/// The caller gives at most 64 `slots`.
+/// The caller gives at most `MOST_SLOTS` slots.
 pub fn kernel_frames(scheme: Scheme, frames: usize, slots: usize) -> usize
     requires few { slots ≤ MOST_SLOTS }
     ensures { result ≡ model.kernel_frames scheme frames slots }

@@ -32,7 +32,7 @@ pub enum Image<'a> {
 /// other); those from `Contents` on only for a segment with bytes in memory. `NoLoad` is last.
 #[derive(Clone, Copy, PartialEq, Eq, Debug)]
 pub enum BadImage {
-    /// The ELF file has more than 1,048,576 bytes.
+    /// The ELF file has more than `LONGEST_IMAGE` bytes.
     TooLong,
     /// The ELF file has fewer bytes than its header, 64.
     Header,

@@ -10,7 +10,7 @@ mod file;
 mod image;
 mod limits;
 mod phase;
-mod scalar_reply;
+mod reply;
 mod sequence;
 mod step;
 
@@ -19,11 +19,11 @@ pub use config::{Config, Policy, kernel_frames};
 pub use file::FileText;
 pub use image::{BadImage, Image, Segment};
 pub use limits::{
-    BUFFER_SIZE, FEWEST_FRAMES, LONGEST_COPY, LONGEST_FILE, MOST_ENTRIES, MOST_FILES, MOST_FRAMES,
-    MOST_HARTS, MOST_MAPPINGS, MOST_PARTS, MOST_REGIONS, MOST_SEGMENTS, MOST_SHARED_FRAMES,
-    MOST_SLOTS,
+    BUFFER_SIZE, FEWEST_FRAMES, GUARD_PAGES, LONGEST_COPY, LONGEST_FILE, LONGEST_IMAGE,
+    LONGEST_MAPPING, MOST_ENTRIES, MOST_FILES, MOST_FRAMES, MOST_HARTS, MOST_MAPPINGS, MOST_PARTS,
+    MOST_REFERENCES, MOST_REGIONS, MOST_SEGMENTS, MOST_SHARED_FRAMES, MOST_SLOTS, STACK_PAGES,
 };
 pub use phase::Phase;
-pub use scalar_reply::ScalarReply;
+pub use reply::{Refusal, Reply, ScalarReply};
 pub use sequence::{Bytes, Sequence};
-pub use step::{Refusal, Reply, Report, Step, is_width};
+pub use step::{Report, Step, is_width};

@@ -1,5 +1,5 @@
--- Tests that no buffer (TLB) entry filled under the kernel's table serves the process after the return, and that a buffer
--- has 32 entries after 33 fills. Scripts with their answers (`Plays`), for 1 and 4 slots and two images.
+-- Tests that no TLB entry filled under the kernel's table serves the process after the return, and that a buffer has 32
+-- entries after 33 fills. Scripts with their answers (`Plays`), for 1 and 4 slots and two images.
 use Rattle.std.proofs.Common.{refl, [], ◌∷◌}
 use Rattle.std.specs.Fmt.{digits}
 use Rattle.process_model.specs.Bytes.{number, low_bytes}

@@ -1,6 +1,6 @@
--- Tests that copy-on-write fork keeps stores apart, takes a frame only while a page is shared, leaves no writable buffer
--- (TLB) entry on another hart, and is refused without a slot or frames; a store without a frame ends its process. Scripts
--- with their answers (`Plays`).
+-- Tests that copy-on-write fork keeps stores apart, takes a frame only while a page is shared, leaves no writable TLB entry
+-- on another hart, and is refused without a slot or frames; a store without a frame ends its process. Scripts with their
+-- answers (`Plays`).
 use Rattle.std.proofs.Common.{refl, [], ◌∷◌}
 use Rattle.std.specs.Fmt.{digits}
 use Rattle.process_model.specs.Bytes.{number, low_bytes}

@@ -10,7 +10,7 @@ use Rattle.process_model.specs.Process.{Process}
 use Rattle.sv39_entry.specs.declared.scheme.Scheme.TheVariants.{Sv39, Sv48}
 use Rattle.process_model.specs.declared.image.BadImage.{BadImage}
 use Rattle.process_model.specs.declared.image.Segment.{Segment}
-use Rattle.process_model.specs.declared.step.Refusal.{Refusal}
+use Rattle.process_model.specs.declared.reply.Refusal.{Refusal}
 
 -- one page of text, two of data; guard and stack come after them
 abbrev standard_image : List Segment

@@ -1,5 +1,5 @@
--- Tests that under the policy of ASIDs no stale buffer (TLB) entry serves an access after a fork, a first store, or in a
--- slot (place in the process table) used again, while others are kept over a switch. Scripts with their answers (`Plays`).
+-- Tests that under the policy of ASIDs no stale TLB entry serves an access after a fork, a first store, or in a slot used
+-- again, while others are kept over a switch. Scripts with their answers (`Plays`).
 use Rattle.std.proofs.Common.{refl, [], ◌∷◌}
 use Rattle.std.specs.Fmt.{digits}
 use Rattle.process_model.specs.Bytes.{number, low_bytes}

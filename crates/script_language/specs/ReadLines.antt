@@ -8,7 +8,7 @@ use Rattle.script_language.specs.declared.script.Cause.{Cause}
 use Rattle.script_language.specs.declared.script.Cause.TheVariants as cause
 use Rattle.script_language.specs.declared.script.FieldValue.{FieldValue}
 use Rattle.script_language.specs.declared.script.Keyword.{Keyword}
-use Rattle.script_language.specs.declared.limits.TheConstants.{LONGEST_LINE, LONGEST_SCRIPT}
+use Rattle.script_language.specs.declared.limits.TheConstants.{LONGEST_LINE}
 
 -- steps that may fail, one after the other: the first fault is the result
 
@@ -56,16 +56,9 @@ abbrev pub fields_by : {I : Type 0} → (List ℕ → List (List ℕ) → Result
 fields_by item_line [] = Ok None
 fields_by item_line (text ∷ fields) = if is_comment text then Ok None else some_item (item_line text fields)
 
--- the most bytes of a line, without its end, and of a script
-abbrev pub longest_line : ℕ
-longest_line = LONGEST_LINE
-
-abbrev pub longest_script : ℕ
-longest_script = LONGEST_SCRIPT
-
 abbrev pub line_by : {I : Type 0} → (List ℕ → List (List ℕ) → Result I Cause) → List ℕ → Result (Option I) Cause
 line_by item_line line = do
-  short ← test (nat_le (length line) longest_line) cause.TooLong
+  short ← test (nat_le (length line) LONGEST_LINE) cause.TooLong
   ascii ← test (is_ascii line) cause.NotAscii
   fields_by item_line (fields_of line)
 

@@ -5,10 +5,10 @@ use Rattle.std.specs.Prelude.{length, slice_get, ◌+◌, ◌^◌, ◌&&◌, nat
 use Rattle.process_model.specs.Bytes.{is_width, padded}
 use Rattle.script_language.specs.Lines.{raw_lines}
 use Rattle.script_language.specs.Fields.{command_table}
-pub use Rattle.script_language.specs.ReadLines.{◌>>=◌, test, row_named, in_limits, item_by, is_comment, is_ascii, some_item, fields_by, longest_line, longest_script, line_by, ReadTo, with_said, next_by, lines_by}
-use Rattle.process_model.specs.Files.{fits_file, most_files}
+pub use Rattle.script_language.specs.ReadLines.{◌>>=◌, test, row_named, in_limits, item_by, is_comment, is_ascii, some_item, fields_by, line_by, ReadTo, with_said, next_by, lines_by}
+use Rattle.process_model.specs.Files.{fits_file}
 use Rattle.process_model.specs.Frames.{can_boot}
-use Rattle.process_model.specs.Copies.{longest_copy}
+use Rattle.process_model.specs.declared.limits.TheConstants.{LONGEST_COPY, MOST_FILES}
 use Rattle.sv39_entry.specs.declared.scheme.Scheme.{Scheme}
 use Rattle.sv39_entry.specs.declared.scheme.Scheme.TheVariants.{Sv39}
 use Rattle.process_model.specs.declared.config.Config.{Config}
@@ -30,7 +30,7 @@ use Rattle.script_language.specs.declared.script.Keyword.{Keyword}
 use Rattle.script_language.specs.declared.script.Keyword.TheVariants as word
 use Rattle.process_model.specs.declared.step.Step.{Step}
 use Rattle.process_model.specs.declared.step.Step.TheVariants as step
-use Rattle.script_language.specs.declared.limits.TheConstants.{MOST_COMMANDS, MOST_IMAGES}
+use Rattle.script_language.specs.declared.limits.TheConstants.{LONGEST_SCRIPT, MOST_COMMANDS, MOST_IMAGES}
 
 -- what was read so far
 pub record Draft : Type 0 where
@@ -168,13 +168,13 @@ item_of s word.Exec vs = in_limits (has_image s (number_at vs 1)) (item.Command 
 item_of s word.Sbrk vs = Ok (one (step.Sbrk (number_at vs 0) (signed_at vs 1)))
 item_of s word.Mmap vs = Ok (one (step.Mmap (number_at vs 0) (number_at vs 1) (number_at vs 2) (number_at vs 3) (number_at vs 4)))
 item_of s word.Munmap vs = Ok (one (step.Munmap (number_at vs 0) (number_at vs 1) (number_at vs 2)))
-item_of s word.CopyIn vs = in_limits (nat_le (number_at vs 2) longest_copy) (one (step.CopyIn (number_at vs 0) (number_at vs 1) (number_at vs 2)))
+item_of s word.CopyIn vs = in_limits (nat_le (number_at vs 2) LONGEST_COPY) (one (step.CopyIn (number_at vs 0) (number_at vs 1) (number_at vs 2)))
 item_of s word.CopyOut vs =
-    in_limits (nat_le (length (bytes_at vs 2)) longest_copy) (item.Command (command.CopyOut (number_at vs 0) (number_at vs 1) (bytes_at vs 2)))
+    in_limits (nat_le (length (bytes_at vs 2)) LONGEST_COPY) (item.Command (command.CopyOut (number_at vs 0) (number_at vs 1) (bytes_at vs 2)))
 item_of s word.Exit vs = in_limits (is_status (signed_at vs 1)) (one (step.Exit (number_at vs 0) (signed_at vs 1)))
 item_of s word.Show vs =
     in_limits (has_file s (number_at vs 0)
-    && nat_le (number_at vs 2) longest_copy) (item.Command (command.Show (number_at vs 0) (number_at vs 1) (number_at vs 2)))
+    && nat_le (number_at vs 2) LONGEST_COPY) (item.Command (command.Show (number_at vs 0) (number_at vs 1) (number_at vs 2)))
 item_of s word.Audit vs = Ok (item.Command command.Audit)
 item_of s word.On vs = Ok (item.Command (command.On (number_at vs 0) (number_at vs 1)))
 item_of s word.Enter vs = Ok (item.Command (command.Enter (number_at vs 0)))
@@ -183,17 +183,11 @@ item_of s word.Fix vs = Ok (item.Command (command.Fix (number_at vs 0)))
 item_of s word.Pool vs = Err cause.Word
 item_of s word.List vs = Err cause.Word
 
-abbrev pub most_images : ℕ
-most_images = MOST_IMAGES
-
-abbrev pub most_commands : ℕ
-most_commands = MOST_COMMANDS
-
 abbrev pub has_room : Draft → Item → Bool
-has_room s (item.File f) = nat_lt (length s.files) most_files
-has_room s (item.Image i) = nat_lt (length s.images) most_images
+has_room s (item.File f) = nat_lt (length s.files) MOST_FILES
+has_room s (item.Image i) = nat_lt (length s.images) MOST_IMAGES
 has_room s (item.Boot c) = true
-has_room s (item.Command c) = nat_lt (length s.commands) most_commands
+has_room s (item.Command c) = nat_lt (length s.commands) MOST_COMMANDS
 
 -- the item of a line with a word, or the first cause
 unfoldable pub item_line : Draft → List ℕ → List (List ℕ) → Result Item Cause
@@ -229,4 +223,4 @@ whole (Err f) = Err f
 
 -- the script of these bytes, or its first fault: the line and the cause; a script that is too long has its fault in line 0
 abbrev pub script_of : List ℕ → Result Script (ℕ × Cause)
-script_of bytes = if nat_le (length bytes) longest_script then whole (read_lines (Ok (no_lines, 0)) (raw_lines bytes)) else Err (0, cause.TooLong)
+script_of bytes = if nat_le (length bytes) LONGEST_SCRIPT then whole (read_lines (Ok (no_lines, 0)) (raw_lines bytes)) else Err (0, cause.TooLong)

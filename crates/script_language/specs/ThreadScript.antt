@@ -7,14 +7,14 @@ use Rattle.std.specs.Str.{bytes_eq}
 use Rattle.std.specs.List.{list_any}
 use Rattle.std.specs.List.{range_with_len}
 use Rattle.process_model.specs.Bytes.{is_width}
-use Rattle.process_model.specs.Copies.{longest_copy}
+use Rattle.process_model.specs.declared.limits.TheConstants.{LONGEST_COPY, MOST_FILES}
 use Rattle.process_model.specs.Frames.{can_share}
 use Rattle.script_language.specs.Lines.{raw_lines, without_return, fields_of}
 use Rattle.script_language.specs.Numbers.{number_of}
 use Rattle.script_language.specs.Fields.{Row, row, one_number, two_numbers, three_numbers, four_numbers}
-use Rattle.script_language.specs.ReadLines.{in_limits, item_by, line_by, ReadTo, next_by, lines_by, longest_script}
-use Rattle.process_model.specs.Files.{fits_file, most_files}
-use Rattle.script_language.specs.Script.{number_at, signed_at, bytes_at, segments_in, file_of_values, is_status, most_images, most_commands}
+use Rattle.script_language.specs.ReadLines.{in_limits, item_by, line_by, ReadTo, next_by, lines_by}
+use Rattle.process_model.specs.Files.{fits_file}
+use Rattle.script_language.specs.Script.{number_at, signed_at, bytes_at, segments_in, file_of_values, is_status}
 use Rattle.process_model.specs.declared.call.Call.{Call}
 use Rattle.process_model.specs.declared.call.Call.TheVariants as call
 use Rattle.script_language.specs.declared.declarations.CallList.{CallList}
@@ -34,7 +34,7 @@ use Rattle.script_language.specs.declared.script.Keyword.TheVariants as word
 use Rattle.script_language.specs.declared.script.Tail.TheVariants as tail
 use Rattle.script_language.specs.declared.script.ThreadItem.{ThreadItem}
 use Rattle.script_language.specs.declared.script.ThreadItem.TheVariants as item
-use Rattle.script_language.specs.declared.limits.TheConstants.{MOST_CALLS, MOST_LISTS}
+use Rattle.script_language.specs.declared.limits.TheConstants.{LONGEST_SCRIPT, MOST_CALLS, MOST_COMMANDS, MOST_IMAGES, MOST_LISTS}
 
 -- the words of a file for threads; unlike in a script, a call names no hart
 abbrev pub thread_table : List Row
@@ -79,13 +79,6 @@ pub record ThreadScript : Type 0 where
   pub lists : List CallList
   pub starts : List ListedStart
 
--- how many lists there may be, and how many calls in each
-abbrev pub most_lists : ℕ
-most_lists = MOST_LISTS
-
-abbrev pub most_calls : ℕ
-most_calls = MOST_CALLS
-
 -- the lists that a file begins: a fork may name one that begins further down, so that lists can fork into each other; a start
 -- names one that begins above it
 
@@ -102,7 +95,7 @@ abbrev pub begins_list : ℕ → List ℕ → Bool
 begins_list k line = begins k (fields_of (without_return line))
 
 abbrev pub lists_named : List (List ℕ) → List Bool
-lists_named lines = map (λ k. list_any (begins_list k) lines) (range_with_len 0 most_lists)
+lists_named lines = map (λ k. list_any (begins_list k) lines) (range_with_len 0 MOST_LISTS)
 
 abbrev pub is_named : List Bool → ℕ → Bool
 is_named named k = get_or named k false
@@ -161,7 +154,7 @@ item_of s word.File vs = in_limits (fits_file (file_of_values vs)) (item.File (f
 item_of s word.Image vs = Ok (item.Image (owned.Segments (segments_in vs)))
 item_of s word.Elf vs = Ok (item.Image (owned.Elf (bytes_at vs 0)))
 item_of s word.Pool vs = in_limits (can_share (number_at vs 0) (number_at vs 1)) (item.Pool (pool_of vs))
-item_of s word.List vs = in_limits (nat_lt (number_at vs 0) most_lists && not (has_list s.lists (number_at vs 0))) (item.List (number_at vs 0))
+item_of s word.List vs = in_limits (nat_lt (number_at vs 0) MOST_LISTS && not (has_list s.lists (number_at vs 0))) (item.List (number_at vs 0))
 item_of s word.Start vs = in_limits (has_image s (number_at vs 0) && has_list s.lists (number_at vs 1)) (item.Start (start_of vs))
 item_of s word.Fetch vs = Ok (one (call.Fetch (number_at vs 0)))
 item_of s word.Load vs = in_limits (is_width (number_at vs 1)) (one (call.Load (number_at vs 0) (number_at vs 1)))
@@ -170,8 +163,8 @@ item_of s word.Exec vs = in_limits (has_image s (number_at vs 0)) (item.Call (li
 item_of s word.Sbrk vs = Ok (one (call.Sbrk (signed_at vs 0)))
 item_of s word.Mmap vs = Ok (one (call.Mmap (number_at vs 0) (number_at vs 1) (number_at vs 2) (number_at vs 3)))
 item_of s word.Munmap vs = Ok (one (call.Munmap (number_at vs 0) (number_at vs 1)))
-item_of s word.CopyIn vs = in_limits (nat_le (number_at vs 1) longest_copy) (one (call.CopyIn (number_at vs 0) (number_at vs 1)))
-item_of s word.CopyOut vs = in_limits (nat_le (length (bytes_at vs 1)) longest_copy) (item.Call (listed.CopyOut (number_at vs 0) (bytes_at vs 1)))
+item_of s word.CopyIn vs = in_limits (nat_le (number_at vs 1) LONGEST_COPY) (one (call.CopyIn (number_at vs 0) (number_at vs 1)))
+item_of s word.CopyOut vs = in_limits (nat_le (length (bytes_at vs 1)) LONGEST_COPY) (item.Call (listed.CopyOut (number_at vs 0) (bytes_at vs 1)))
 item_of s word.Exit vs = in_limits (is_status (signed_at vs 0)) (one (call.Exit (signed_at vs 0)))
 item_of s word.Fork vs = in_limits (is_named s.named (number_at vs 0)) (one (call.Fork (number_at vs 0)))
 item_of s _ vs = Err cause.Word
@@ -183,12 +176,12 @@ open_calls (l ∷ []) = length l.calls
 open_calls (l ∷ m ∷ ls) = open_calls (m ∷ ls)
 
 abbrev pub has_room : ThreadDraft → ThreadItem → Bool
-has_room s (item.File f) = nat_lt (length s.files) most_files
-has_room s (item.Image i) = nat_lt (length s.images) most_images
+has_room s (item.File f) = nat_lt (length s.files) MOST_FILES
+has_room s (item.Image i) = nat_lt (length s.images) MOST_IMAGES
 has_room s (item.Pool p) = true
-has_room s (item.List k) = nat_lt s.lines most_commands
-has_room s (item.Call c) = nat_lt s.lines most_commands && nat_lt (open_calls s.lists) most_calls
-has_room s (item.Start x) = nat_lt s.lines most_commands
+has_room s (item.List k) = nat_lt s.lines MOST_COMMANDS
+has_room s (item.Call c) = nat_lt s.lines MOST_COMMANDS && nat_lt (open_calls s.lists) MOST_CALLS
+has_room s (item.Start x) = nat_lt s.lines MOST_COMMANDS
 
 -- the item of a line with a word, or the first cause
 unfoldable pub item_line : ThreadDraft → List ℕ → List (List ℕ) → Result ThreadItem Cause
@@ -223,7 +216,7 @@ said_in lines = whole (read_lines (Ok (nothing_said (lists_named lines), 0)) lin
 -- the file for threads of these bytes, or its first fault: the line and the cause; a file that is too long has its fault in
 -- line 0
 abbrev pub thread_script_of : List ℕ → Result ThreadScript (ℕ × Cause)
-thread_script_of bytes = if nat_le (length bytes) longest_script then said_in (raw_lines bytes) else Err (0, cause.TooLong)
+thread_script_of bytes = if nat_le (length bytes) LONGEST_SCRIPT then said_in (raw_lines bytes) else Err (0, cause.TooLong)
 
 -- the calls of list number k; None if there is no such list
 abbrev pub calls_of : List CallList → ℕ → Option (List ListedCall)

@@ -10,10 +10,11 @@ use Rattle.process_model.specs.declared.image.BadImage.{BadImage}
 use Rattle.process_model.specs.declared.image.BadImage.TheVariants as part
 use Rattle.script_language.specs.declared.script.Cause.{Cause}
 use Rattle.script_language.specs.declared.script.Cause.TheVariants as cause
-use Rattle.process_model.specs.declared.step.Refusal.{Refusal}
-use Rattle.process_model.specs.declared.step.Refusal.TheVariants as refusal
-use Rattle.process_model.specs.declared.step.Reply.{Reply}
-use Rattle.process_model.specs.declared.step.Reply.TheVariants as reply
+use Rattle.process_model.specs.declared.reply.Refusal.{Refusal}
+use Rattle.process_model.specs.declared.reply.Refusal.TheVariants as refusal
+use Rattle.process_model.specs.declared.reply.Reply.{Reply}
+use Rattle.process_model.specs.declared.reply.ScalarReply.TheVariants as scalar
+use Rattle.process_model.specs.declared.reply.Reply.TheVariants as reply
 use Rattle.process_model.specs.declared.step.Report.{Report}
 
 -- 0x and lower-case digits without leading zeros
@@ -82,25 +83,25 @@ refusal_text refusal.Memory = codes "21 Memory"
 refusal_text refusal.JournalFull = codes "22 JournalFull"
 
 abbrev pub reply_text : Reply → List ℕ
-reply_text reply.Done = codes "ok"
-reply_text (reply.Started s) = codes "slot " ++ decimal s
-reply_text (reply.Forked s) = codes "slot " ++ decimal s
-reply_text (reply.Value v) = codes "value " ++ hexadecimal v
-reply_text reply.Stored = codes "stored"
-reply_text (reply.Fault c) = codes "fault " ++ decimal c
-reply_text (reply.Filled n) = codes "entry " ++ decimal n
-reply_text reply.NothingFilled = codes "nothing"
-reply_text (reply.InFrame f) = codes "frame " ++ decimal f
-reply_text reply.Ready = codes "ready"
-reply_text (reply.Ended r) = codes "ended " ++ rule_text r
-reply_text (reply.OldSize n) = codes "old " ++ hexadecimal n
-reply_text (reply.MappedAt a) = codes "at " ++ hexadecimal a
+reply_text (reply.Scalar scalar.Done) = codes "ok"
+reply_text (reply.Scalar (scalar.Started s)) = codes "slot " ++ decimal s
+reply_text (reply.Scalar (scalar.Forked s)) = codes "slot " ++ decimal s
+reply_text (reply.Scalar (scalar.Value v)) = codes "value " ++ hexadecimal v
+reply_text (reply.Scalar scalar.Stored) = codes "stored"
+reply_text (reply.Scalar (scalar.Fault c)) = codes "fault " ++ decimal c
+reply_text (reply.Scalar (scalar.Filled n)) = codes "entry " ++ decimal n
+reply_text (reply.Scalar scalar.NothingFilled) = codes "nothing"
+reply_text (reply.Scalar (scalar.InFrame f)) = codes "frame " ++ decimal f
+reply_text (reply.Scalar scalar.Ready) = codes "ready"
+reply_text (reply.Scalar (scalar.Ended r)) = codes "ended " ++ rule_text r
+reply_text (reply.Scalar (scalar.OldSize n)) = codes "old " ++ hexadecimal n
+reply_text (reply.Scalar (scalar.MappedAt a)) = codes "at " ++ hexadecimal a
 reply_text (reply.CopiedIn bytes) = codes "copied " ++ decimal (length bytes.items) ++ codes " " ++ bytes_text bytes.items
-reply_text (reply.CopiedOut n) = codes "copied " ++ decimal n
+reply_text (reply.Scalar (scalar.CopiedOut n)) = codes "copied " ++ decimal n
 reply_text (reply.ShortIn r bytes) = codes "short " ++ rule_text r ++ codes " done " ++ decimal (length bytes.items) ++ codes " " ++ bytes_text bytes.items
-reply_text (reply.ShortOut r n) = codes "short " ++ rule_text r ++ codes " done " ++ decimal n
-reply_text (reply.Exited status) = codes "exited " ++ signed_decimal status
-reply_text (reply.Refused r) = codes "refused " ++ refusal_text r
+reply_text (reply.Scalar (scalar.ShortOut r n)) = codes "short " ++ rule_text r ++ codes " done " ++ decimal n
+reply_text (reply.Scalar (scalar.Exited status)) = codes "exited " ++ signed_decimal status
+reply_text (reply.Scalar (scalar.Refused r)) = codes "refused " ++ refusal_text r
 
 abbrev pub report_text : Report → List ℕ
 report_text r =

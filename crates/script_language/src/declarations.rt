@@ -1,6 +1,6 @@
-// What scripts and files for threads declare, as they own it: enums `OwnedImage` (an image) and `ListedCall` (a call); structs
-// `CallList` and `ListedStart` (a list of calls, a start), and `Pool`, the numbers of frames and slots (places in the process
-// table) that threads share, and whether they can.
+// What scripts and files for threads declare, as they own it: enums `OwnedImage` (an image) and `ListedCall` (a call);
+// structs `CallList` and `ListedStart` (a list of calls, a start), and `Pool`, the numbers of frames and slots that threads
+// share, and whether they can.
 
 use process_model::{
     Bytes, Call, FEWEST_FRAMES, MOST_SHARED_FRAMES, MOST_SLOTS, Segment, Sequence, kernel_frames,
@@ -51,8 +51,8 @@ impl Pool {
     ghost use Rattle.std.specs.Prelude.{◌≡◌};
     ghost use Rattle.process_model.specs.Frames.{can_share};
 
-    /// Whether threads can share a pool of these sizes: 16 to 256 frames, 1 to 64 slots, and at least as many frames as the
-    /// kernel takes at boot under Sv39 (`kernel_frames`).
+    /// Whether threads can share a pool of these sizes: `FEWEST_FRAMES` to `MOST_SHARED_FRAMES` frames, 1 to `MOST_SLOTS`
+    /// slots, and at least as many frames as the kernel takes at boot under Sv39 (`kernel_frames`).
     pub fn is_usable(&self) -> bool
         ensures { result ≡ can_share self.now.frames self.now.slots }
     {

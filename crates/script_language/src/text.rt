@@ -4,9 +4,10 @@
 ghost use Rattle.std.specs.Prelude.{◌≡◌, ◌+◌, ◌≤◌, ◌++◌, false, Some, codes, length, vec_len, vec_capacity};
 ghost use Rattle.std.specs.Fmt.{decimal, digits};
 ghost use Rattle.sv39_entry.specs.RuleText.{rule_text};
-ghost use Rattle.process_model.specs.ScalarReplies.{reply_of_scalar};
 ghost use Rattle.script_language.specs.Words as words;
-ghost use Rattle.process_model.specs.declared.step.Reply.TheVariants.{Exited, Refused};
+ghost use Rattle.process_model.specs.declared.limits.TheConstants.{LONGEST_COPY};
+ghost use Rattle.process_model.specs.declared.reply.Reply.TheVariants.{Scalar};
+ghost use Rattle.process_model.specs.declared.reply.ScalarReply.TheVariants.{Exited, Refused};
 
 use crate::digits::{put, put_decimal, put_hexadecimal, put_signed};
 use crate::hexes::put_bytes;
@@ -140,7 +141,7 @@ pub(crate) fn put_rule(text: &mut Vec<u8>, name: &[u8], rule: Rule)
 /// Appends `name`, the number of bytes, and the bytes in hexadecimal digits.
 fn put_counted(text: &mut Vec<u8>, name: &[u8], bytes: &[u8])
     requires short { length name.now ≤ 20 }
-    requires few { length bytes.now ≤ 256 }
+    requires few { length bytes.now ≤ LONGEST_COPY }
     requires room { vec_len text.old + 600 ≤ vec_capacity text.old }
     ensures text { text.new.items ≡ text.old.items ++ (name.now ++ decimal (length bytes.now) ++ codes " " ++ words.bytes_text bytes.now) }
     ensures len { vec_len text.new ≤ vec_len text.old + 600 }
@@ -151,10 +152,10 @@ fn put_counted(text: &mut Vec<u8>, name: &[u8], bytes: &[u8])
     put_bytes(text, bytes);
 }
 
-/// Appends the text of `Reply::Exited`.
+/// Appends the text of `Reply::Scalar(ScalarReply::Exited)`.
 fn put_exit(text: &mut Vec<u8>, status: i32)
     requires room { vec_len text.old + 40 ≤ vec_capacity text.old }
-    ensures text { text.new.items ≡ text.old.items ++ words.reply_text (Exited status) }
+    ensures text { text.new.items ≡ text.old.items ++ words.reply_text (Scalar (Exited status)) }
     ensures len { vec_len text.new ≤ vec_len text.old + 40 }
     ensures capacity { vec_capacity text.old ≤ vec_capacity text.new }
 {
@@ -162,11 +163,11 @@ fn put_exit(text: &mut Vec<u8>, status: i32)
     put_signed(text, status);
 }
 
-/// Appends the text of `Reply::Refused`.
+/// Appends the text of `Reply::Scalar(ScalarReply::Refused)`.
 #[inline(always)]
 fn put_refusal(text: &mut Vec<u8>, refusal: Refusal)
     requires room { vec_len text.old + 60 ≤ vec_capacity text.old }
-    ensures text { text.new.items ≡ text.old.items ++ words.reply_text (Refused refusal) }
+    ensures text { text.new.items ≡ text.old.items ++ words.reply_text (Scalar (Refused refusal)) }
     ensures len { vec_len text.new ≤ vec_len text.old + 60 }
     ensures capacity { vec_capacity text.old ≤ vec_capacity text.new }
 {
@@ -180,7 +181,7 @@ fn put_refusal(text: &mut Vec<u8>, refusal: Refusal)
 /// `text` must have room (unused capacity).
 pub fn put_scalar_reply(text: &mut Vec<u8>, scalar: ScalarReply)
     requires room { vec_len text.old + LONGEST_TEXT ≤ vec_capacity text.old }
-    ensures text { text.new.items ≡ text.old.items ++ words.reply_text (reply_of_scalar scalar) }
+    ensures text { text.new.items ≡ text.old.items ++ words.reply_text (Scalar scalar) }
     ensures len { vec_len text.new ≤ vec_len text.old + LONGEST_TEXT }
     ensures capacity { vec_capacity text.old ≤ vec_capacity text.new }
 {
@@ -220,31 +221,12 @@ pub fn put_reply(text: &mut Vec<u8>, reply: &Reply)
     ensures capacity { vec_capacity text.old ≤ vec_capacity text.new }
 {
     match reply {
-        Reply::Done => put_scalar_reply(text, ScalarReply::Done),
-        Reply::Started(slot) => put_scalar_reply(text, ScalarReply::Started(*slot)),
-        Reply::Forked(slot) => put_scalar_reply(text, ScalarReply::Forked(*slot)),
-        Reply::Value(value) => put_scalar_reply(text, ScalarReply::Value(*value)),
-        Reply::Stored => put_scalar_reply(text, ScalarReply::Stored),
-        Reply::Fault(cause) => put_scalar_reply(text, ScalarReply::Fault(*cause)),
-        Reply::Filled(entry) => put_scalar_reply(text, ScalarReply::Filled(*entry)),
-        Reply::NothingFilled => put_scalar_reply(text, ScalarReply::NothingFilled),
-        Reply::InFrame(frame) => put_scalar_reply(text, ScalarReply::InFrame(*frame)),
-        Reply::Ready => put_scalar_reply(text, ScalarReply::Ready),
-        Reply::Ended(rule) => put_scalar_reply(text, ScalarReply::Ended(*rule)),
-        Reply::OldSize(size) => put_scalar_reply(text, ScalarReply::OldSize(*size)),
-        Reply::MappedAt(address) => put_scalar_reply(text, ScalarReply::MappedAt(*address)),
+        Reply::Scalar(scalar) => put_scalar_reply(text, *scalar),
         Reply::CopiedIn(bytes) => put_counted(text, b"copied ", bytes.as_slice()),
-        Reply::CopiedOut(count) => put_scalar_reply(text, ScalarReply::CopiedOut(*count)),
         Reply::ShortIn(rule, bytes) => {
             put_rule(text, b"short ", *rule);
             put_counted(text, b" done ", bytes.as_slice());
         }
-        Reply::ShortOut(rule, count) => put_scalar_reply(
-            text,
-            ScalarReply::ShortOut(*rule, *count),
-        ),
-        Reply::Exited(status) => put_scalar_reply(text, ScalarReply::Exited(*status)),
-        Reply::Refused(refusal) => put_scalar_reply(text, ScalarReply::Refused(*refusal)),
     }
 }
 

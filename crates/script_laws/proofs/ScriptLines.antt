@@ -14,13 +14,14 @@ use Rattle.process_model.specs.Steps.{plain_step, run, step}
 use Rattle.process_model.specs.Steps.{is_refused}
 use Rattle.script_language.specs.Text.{back_if, commands_text, enter_steps, fixed, fixed_after, is_ready, line_text, on_steps, line_result, series_of, three_next, unless_stopped}
 use Rattle.script_language.specs.Words.{reply_text}
-use Rattle.process_model.specs.World.{booted, Outcome, World}
+use Rattle.process_model.specs.World.{booted, StepOutcome, World}
 use Rattle.script_language.specs.declared.declarations.OwnedImage.{OwnedImage}
 use Rattle.script_language.specs.declared.script.Command.{Command}
 use Rattle.script_language.specs.declared.script.Command.TheVariants as command
-use Rattle.process_model.specs.declared.step.Refusal.{Refusal}
-use Rattle.process_model.specs.declared.step.Reply.{Reply}
-use Rattle.process_model.specs.declared.step.Reply.TheVariants.{Done, Ready, Refused}
+use Rattle.process_model.specs.declared.reply.Refusal.{Refusal}
+use Rattle.process_model.specs.declared.reply.Reply.{Reply}
+use Rattle.process_model.specs.declared.reply.ScalarReply.TheVariants.{Done, Ready, Refused}
+use Rattle.process_model.specs.declared.reply.Reply.TheVariants.{Scalar}
 use Rattle.process_model.specs.declared.step.Step.{Step}
 use Rattle.process_model.specs.declared.step.Step.TheVariants.{Next, Serve, Switch, Trap}
 
@@ -33,30 +34,30 @@ run_append (x ∷ xs) ys w = let r = run_append xs ys (step w x).world in (r.0, 
 -- a step of the way into the kernel or out of it is done, or refused
 
 abbrev IsPlain : Step → Type 0
-IsPlain x = (w : World) → is_refused (step w x).reply ≡ false → (step w x).reply ≡ Done
+IsPlain x = (w : World) → is_refused (step w x).reply ≡ false → (step w x).reply ≡ Scalar Done
 
 abbrev AllPlain : List Step → Type 0
 AllPlain [] = Unit {0}
 AllPlain (x ∷ xs) = IsPlain x × AllPlain xs
 
 abbrev DoneIf : Reply → Type 0
-DoneIf r = is_refused r ≡ false → r ≡ Done
+DoneIf r = is_refused r ≡ false → r ≡ Scalar Done
 
-refusal_told : (r : Refusal) → DoneIf (Refused r)
+refusal_told : (r : Refusal) → DoneIf (Scalar (Refused r))
 refusal_told r e = absurd cc
 
-as_plain : (w : World) (x : Step) → DoneIf (plain_step w x).reply → is_refused (step w x).reply ≡ false → (step w x).reply ≡ Done
+as_plain : (w : World) (x : Step) → DoneIf (plain_step w x).reply → is_refused (step w x).reply ≡ false → (step w x).reply ≡ Scalar Done
 as_plain w x d e = step_reply w x ∙ d (ap is_refused (sym (step_reply w x)) ∙ e)
 
 next_plain : (h : ℕ) → IsPlain (Next h)
-next_plain h w = as_plain w (Next h) (on_hart_good w (λ (o : Outcome). DoneIf o.reply) refusal_told h true _ _ _ (λ hart is _ e. refl))
+next_plain h w = as_plain w (Next h) (on_hart_good w (λ (o : StepOutcome). DoneIf o.reply) refusal_told h true _ _ _ (λ hart is _ e. refl))
 
 switch_plain : (h : ℕ) (slot : Option ℕ) → IsPlain (Switch h slot)
-switch_plain h slot w = as_plain w (Switch h slot) (on_hart_good w (λ (o : Outcome). DoneIf o.reply) refusal_told h true _ _ _ (λ hart is _ e. refl))
+switch_plain h slot w = as_plain w (Switch h slot) (on_hart_good w (λ (o : StepOutcome). DoneIf o.reply) refusal_told h true _ _ _ (λ hart is _ e. refl))
 
 trap_plain : (h : ℕ) → IsPlain (Trap h)
 trap_plain h w = as_plain w (Trap h)
-    (on_hart_good w (λ (o : Outcome). DoneIf o.reply) refusal_told h true _ _ _ (λ hart is _. its_good w (λ (o : Outcome). DoneIf o.reply) refusal_told h hart _ is (λ t p on here e. refl)))
+    (on_hart_good w (λ (o : StepOutcome). DoneIf o.reply) refusal_told h true _ _ _ (λ hart is _. its_good w (λ (o : StepOutcome). DoneIf o.reply) refusal_told h hart _ is (λ t p on here e. refl)))
 
 three_plain : (h : ℕ) → AllPlain (three_next h)
 three_plain h = (next_plain h, (next_plain h, (next_plain h, tt)))
@@ -66,14 +67,14 @@ three_plain h = (next_plain h, (next_plain h, (next_plain h, tt)))
 given_or : Reply → Reply → Reply
 given_or given r = cond (is_refused r) r given
 
-record IsSeries (o : Outcome) (given : Reply) (w : World) (xs : List Step) : Type 0 where
+record IsSeries (o : StepOutcome) (given : Reply) (w : World) (xs : List Step) : Type 0 where
   world : o.world ≡ (run w xs).world
-  reply : o.reply ≡ given_or given (last_or Done (run w xs).replies)
+  reply : o.reply ≡ given_or given (last_or (Scalar Done) (run w xs).replies)
   silent : list_any is_ready (run w xs).replies ≡ false
-  plain : DoneIf (last_or Done (run w xs).replies)
+  plain : DoneIf (last_or (Scalar Done) (run w xs).replies)
 
 refused_not_ready : (r : Reply) → is_refused r ≡ true → is_ready r ≡ false
-refused_not_ready (Refused e) is = refl
+refused_not_ready (Scalar (Refused e)) is = refl
 refused_not_ready _ is = absurd cc
 
 module _ (given : Reply) where
@@ -96,11 +97,11 @@ module _ (given : Reply) where
   series_is (x ∷ xs) w plain = series_unless x xs w (is_refused (step w x).reply) refl plain.0 (series_is xs (step w x).world plain.1)
 
 -- the reply given is the last, where that is what each of them replies
-given_done : (r : Reply) → DoneIf r → given_or Done r ≡ r
+given_done : (r : Reply) → DoneIf r → given_or (Scalar Done) r ≡ r
 unfolding given_or
 given_done r plain = by (is_refused r) refl
   where
-    by : (b : Bool) → is_refused r ≡ b → cond b r Done ≡ r
+    by : (b : Bool) → is_refused r ≡ b → cond b r (Scalar Done) ≡ r
     by true e = refl
     by false e = sym (plain e)
 
@@ -120,20 +121,20 @@ any_after (x ∷ xs) ys e = elim (is_ready x) as (λ b. (b || list_any is_ready 
 -- the service after a fault, and the return after it
 
 module _ (images : List OwnedImage) (w : World) (h : ℕ) where
-  abbrev entered : Outcome
-  entered = series_of w (three_next h) Done
+  abbrev entered : StepOutcome
+  entered = series_of w (three_next h) (Scalar Done)
 
   abbrev entry : List Step
   entry = made_of w (three_next h)
 
-  abbrev served : Outcome
+  abbrev served : StepOutcome
   served = step entered.world (Serve h)
 
-  IsFixed : Outcome → List Step → Type 0
+  IsFixed : StepOutcome → List Step → Type 0
   IsFixed o xs = (o.world ≡ (run w xs).world) × (o.reply ≡ fixed_reply (run w xs).replies)
 
-  abbrev way_in : IsSeries entered Done w entry
-  way_in = series_is Done (three_next h) w (three_plain h)
+  abbrev way_in : IsSeries entered (Scalar Done) w entry
+  way_in = series_is (Scalar Done) (three_next h) w (three_plain h)
 
   no_entry : IsFixed entered (entry ++ [])
   unfolding IsFixed
@@ -153,19 +154,19 @@ module _ (images : List OwnedImage) (w : World) (h : ℕ) where
       let a = after_entry (Serve h ∷ []) in
       let rs = (run w entry).replies in
       let quiet : list_any is_ready (rs ++ served.reply ∷ []) ≡ false = any_after rs (served.reply ∷ []) way_in.silent ∙ rw e refl in
-      (sym a.0, sym (ap fixed_reply a.1 ∙ rw quiet (last_append Done served.reply rs [])))
+      (sym a.0, sym (ap fixed_reply a.1 ∙ rw quiet (last_append (Scalar Done) served.reply rs [])))
 
-  abbrev back : Outcome
-  back = series_of served.world (three_next h) Ready
+  abbrev back : StepOutcome
+  back = series_of served.world (three_next h) (Scalar Ready)
 
-  abbrev way_out : IsSeries back Ready served.world (made_of served.world (three_next h))
-  way_out = series_is Ready (three_next h) served.world (three_plain h)
+  abbrev way_out : IsSeries back (Scalar Ready) served.world (made_of served.world (three_next h))
+  way_out = series_is (Scalar Ready) (three_next h) served.world (three_plain h)
 
-  given_ready : (r : Reply) → given_or Ready r ≡ cond (true && not (is_refused r)) Ready r
+  given_ready : (r : Reply) → given_or (Scalar Ready) r ≡ cond (true && not (is_refused r)) (Scalar Ready) r
   unfolding given_or
   given_ready r = by (is_refused r)
     where
-      by : (b : Bool) → cond b r Ready ≡ cond (true && not b) Ready r
+      by : (b : Bool) → cond b r (Scalar Ready) ≡ cond (true && not b) (Scalar Ready) r
       by true = refl
       by false = refl
 
@@ -176,8 +177,8 @@ module _ (images : List OwnedImage) (w : World) (h : ℕ) where
       let rs = (run w entry).replies in
       let ys = (run served.world (made_of served.world (three_next h))).replies in
       let some : list_any is_ready (rs ++ served.reply ∷ ys) ≡ true = any_after rs (served.reply ∷ ys) way_in.silent ∙ rw e refl in
-      let last : last_or Done (rs ++ served.reply ∷ ys) ≡ last_or Done ys = last_append Done served.reply rs ys in
-      (way_out.world ∙ sym a.0, way_out.reply ∙ given_ready (last_or Done ys) ∙ sym (ap fixed_reply a.1 ∙ rw (some, last) refl))
+      let last : last_or (Scalar Done) (rs ++ served.reply ∷ ys) ≡ last_or (Scalar Done) ys = last_append (Scalar Done) served.reply rs ys in
+      (way_out.world ∙ sym a.0, way_out.reply ∙ given_ready (last_or (Scalar Done) ys) ∙ sym (ap fixed_reply a.1 ∙ rw (some, last) refl))
 
   fixed_unless : (b : Bool) → is_ready served.reply ≡ b → IsFixed (back_if h served b) (entry ++ Serve h ∷ cond b (made_of served.world (three_next h)) [])
   unfolding IsFixed
@@ -199,7 +200,7 @@ IsLine : List OwnedImage → World → Command → Type 0
 IsLine images w c = let now = run w (steps_of images w c) in ((line_result images w c).world ≡ now.world) × ((line_result images w c).text ≡ line_answer w c now.replies)
 
 module _ (images : List OwnedImage) (w : World) where
-  series_line : (o : Outcome) (xs : List Step) → IsSeries o Done w xs → (o.world ≡ (run w xs).world) × (reply_text o.reply ≡ reply_text (last_or Done (run w xs).replies))
+  series_line : (o : StepOutcome) (xs : List Step) → IsSeries o (Scalar Done) w xs → (o.world ≡ (run w xs).world) × (reply_text o.reply ≡ reply_text (last_or (Scalar Done) (run w xs).replies))
   series_line o xs s = (s.world, ap reply_text (s.reply ∙ given_done _ s.plain))
 
   line_is : (c : Command) → IsLine images w c
@@ -208,9 +209,9 @@ module _ (images : List OwnedImage) (w : World) where
   line_is (command.Start n) = (refl, refl)
   line_is (command.Exec h n) = (refl, refl)
   line_is (command.CopyOut h address bytes) = (refl, refl)
-  line_is (command.On h s) = series_line _ _ (series_is Done (on_steps h s) w (switch_plain h (Some s), three_plain h))
-  line_is (command.Enter h) = series_line _ _ (series_is Done (enter_steps h) w (trap_plain h, three_plain h))
-  line_is (command.Leave h) = series_line _ _ (series_is Done (three_next h) w (three_plain h))
+  line_is (command.On h s) = series_line _ _ (series_is (Scalar Done) (on_steps h s) w (switch_plain h (Some s), three_plain h))
+  line_is (command.Enter h) = series_line _ _ (series_is (Scalar Done) (enter_steps h) w (trap_plain h, three_plain h))
+  line_is (command.Leave h) = series_line _ _ (series_is (Scalar Done) (three_next h) w (three_plain h))
   line_is (command.Fix h) = let f = is_fixed images w h in (f.0, ap reply_text f.1)
   line_is (command.Show f offset n) = (refl, refl)
   line_is command.Audit = (refl, refl)

@@ -15,8 +15,9 @@ use Rattle.process_model.specs.World.{booted, report, World}
 use Rattle.script_language.specs.declared.declarations.OwnedImage.{OwnedImage}
 use Rattle.script_language.specs.declared.script.Command.{Command}
 use Rattle.script_language.specs.declared.script.Command.TheVariants as command
-use Rattle.process_model.specs.declared.step.Reply.{Reply}
-use Rattle.process_model.specs.declared.step.Reply.TheVariants.{Done, Ready}
+use Rattle.process_model.specs.declared.reply.Reply.{Reply}
+use Rattle.process_model.specs.declared.reply.ScalarReply.TheVariants.{Done, Ready}
+use Rattle.process_model.specs.declared.reply.Reply.TheVariants.{Scalar}
 use Rattle.process_model.specs.declared.step.Step.{Step}
 use Rattle.process_model.specs.declared.step.Step.TheVariants.{CopyOut, Exec, Serve, Start}
 
@@ -39,7 +40,7 @@ steps_of images w (command.On h s) = made_of w (on_steps h s)
 steps_of images w (command.Enter h) = made_of w (enter_steps h)
 steps_of images w (command.Leave h) = made_of w (three_next h)
 steps_of images w (command.Fix h) =
-    let o = series_of w (three_next h) Done in made_of w (three_next h) ++ (if is_refused o.reply then [] else service_of o.world h)
+    let o = series_of w (three_next h) (Scalar Done) in made_of w (three_next h) ++ (if is_refused o.reply then [] else service_of o.world h)
 steps_of images w (command.Show f offset n) = []
 steps_of images w command.Audit = []
 
@@ -50,14 +51,14 @@ last_or r (q ∷ rs) = last_or q rs
 
 -- the reply that a `fix` line answers: Ready if the service replied it and the last reply is no refusal, else the last reply
 abbrev pub fixed_reply : List Reply → Reply
-fixed_reply rs = if list_any is_ready rs && not (is_refused (last_or Done rs)) then Ready else last_or Done rs
+fixed_reply rs = if list_any is_ready rs && not (is_refused (last_or (Scalar Done) rs)) then Scalar Ready else last_or (Scalar Done) rs
 
 -- what a line answers: the last reply to its steps, or the bytes of a file (`show`), or the accounts (`audit`)
 abbrev pub line_answer : World → Command → List Reply → List ℕ
 line_answer w (command.Show f offset n) rs = show_text (bytes_of (slice_get w.files f)) offset n
 line_answer w command.Audit rs = report_text (report w)
 line_answer w (command.Fix h) rs = reply_text (fixed_reply rs)
-line_answer w _ rs = reply_text (last_or Done rs)
+line_answer w _ rs = reply_text (last_or (Scalar Done) rs)
 
 -- the text has one line for each command; the steps are those that the commands make, and the replies those to the steps
 pub data AreLines (images : List OwnedImage) : World → List Command → List Step → List Reply → List ℕ → Type 0 where

@@ -6,9 +6,10 @@ use Rattle.std.specs.List.{onto_first}
 use Rattle.std.proofs.lemmas.Bool.{cases_Bool, le-leb, ltb-false}
 use Rattle.std.proofs.lemmas.List.{take-append-drop}
 use Rattle.script_language.specs.Lines.{is_line_end, raw_lines}
-use Rattle.script_language.specs.Script.{Draft, Read, longest_script, next_line, no_lines, read_lines, script_of, whole, whole_with}
+use Rattle.script_language.specs.Script.{Draft, Read, next_line, no_lines, read_lines, script_of, whole, whole_with}
 use Rattle.script_language.specs.declared.script.Cause.{Cause}
 use Rattle.script_reader.specs.Reading.{CutsLines, EndsLines, HasRead, PieceReader, read_with}
+use Rattle.script_language.specs.declared.limits.TheConstants.{LONGEST_SCRIPT}
 
 -- the first line goes on, and the others stay
 abbrev IsSome : List (List ℕ) → Type 0
@@ -105,9 +106,9 @@ more_read bytes r h piece first ended rest c between s one two left few long =
     }
 
 -- all has come
-pub all_read : (bytes : List ℕ) (r : PieceReader) → HasRead bytes r → nat_lt longest_script r.length ≡ false → (final : Read) → final ≡ read_lines r.read (raw_lines r.rest) → script_of bytes ≡ whole final
+pub all_read : (bytes : List ℕ) (r : PieceReader) → HasRead bytes r → nat_lt LONGEST_SCRIPT r.length ≡ false → (final : Read) → final ≡ read_lines r.read (raw_lines r.rest) → script_of bytes ≡ whole final
 all_read bytes r h short final is =
-    let within : nat_le (length bytes) longest_script ≡ true = le-leb (length bytes) longest_script (omega (arith, h.long, ltb-false longest_script r.length short)) in
+    let within : nat_le (length bytes) LONGEST_SCRIPT ≡ true = le-leb (length bytes) LONGEST_SCRIPT (omega (arith, h.long, ltb-false LONGEST_SCRIPT r.length short)) in
     let lines : raw_lines bytes ≡ raw_lines h.ended ++ raw_lines r.rest = ap raw_lines (sym h.whole) ∙ h.ends r.rest in
     let read : read_lines (Ok (no_lines, 0)) (raw_lines bytes) ≡ final =
     ap (read_lines (Ok (no_lines, 0))) lines ∙ read_more (Ok (no_lines, 0)) (raw_lines h.ended) (raw_lines r.rest) ∙ ap (λ (x : Read). read_lines x (raw_lines r.rest)) (sym h.read) ∙ sym is in

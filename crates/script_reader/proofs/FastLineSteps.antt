@@ -8,7 +8,7 @@ use Rattle.std.proofs.lemmas.List.{append-nil}
 use Rattle.script_language.specs.Fields.{Row, command_table, four_numbers, kinds_for, row, row_among, said_or, three_numbers, two_numbers, value_of, values_from, values_of}
 use Rattle.script_language.specs.Lines.{fields_of}
 use Rattle.script_language.specs.Numbers.{if_below, number_of, signed_of}
-use Rattle.script_language.specs.Script.{Draft, comes_first, in_limits, in_order, is_status, is_ascii, is_comment, item_line, item_of, line_of, longest_line, most_commands, one, with_line}
+use Rattle.script_language.specs.Script.{Draft, comes_first, in_limits, in_order, is_status, is_ascii, is_comment, item_line, item_of, line_of, one, with_line}
 use Rattle.script_language.specs.declared.script.Cause.{Cause}
 use Rattle.script_language.specs.declared.script.Cause.TheVariants as cause
 use Rattle.script_language.specs.declared.script.Command.{Command}
@@ -26,6 +26,7 @@ use Rattle.process_model.specs.declared.step.Step.TheVariants as step
 use Rattle.script_reader.proofs.Digits.{from_none}
 use Rattle.script_reader.specs.FastLines.{AddsCommand, AddsMade}
 use Rattle.script_reader.specs.FastPath.{IsNext, Reads, ReadsFields, ReadsVia, SaysItem}
+use Rattle.script_language.specs.declared.limits.TheConstants.{LONGEST_LINE, MOST_COMMANDS}
 
 -- there are as many fields as values
 counted : (line : List ℕ) (ks : List FieldKind) (vs : List FieldValue) → ReadsFields line ks vs → length (fields_of line) ≡ length ks
@@ -127,21 +128,21 @@ no_comment table clear (b ∷ text) r e =
 ordered : (s : Draft) (w : Keyword) → is_some s.config ≡ true → comes_first w ≡ false → in_order s w ≡ true
 ordered s w some later = rw (some, later) refl
 
-item_says : (s : Draft) (text line : List ℕ) (c : Command) → SaysItem text line (Ok (item.Command c)) → is_some s.config ≡ true → nat_lt (length s.commands) most_commands ≡ true
+item_says : (s : Draft) (text line : List ℕ) (c : Command) → SaysItem text line (Ok (item.Command c)) → is_some s.config ≡ true → nat_lt (length s.commands) MOST_COMMANDS ≡ true
     → item_line s text (fields_of line) ≡ Ok (item.Command c)
 unfolding item_line
 item_says s text line c says some room = rw (says.found, ordered s (says.row).word some says.later, says.said, says.item s, room) refl
 
 pub line_says : (s : Draft) (line text fields : List ℕ) (c : Command) → fields_of line ≡ text ∷ fields_of fields → SaysItem text fields (Ok (item.Command c))
-    → (is_some s.config && nat_lt (length s.commands) most_commands) ≡ true → nat_le (length line) longest_line ≡ true → is_ascii line ≡ true → line_of s line ≡ Ok (Some (item.Command c))
+    → (is_some s.config && nat_lt (length s.commands) MOST_COMMANDS) ≡ true → nat_le (length line) LONGEST_LINE ≡ true → is_ascii line ≡ true → line_of s line ≡ Ok (Some (item.Command c))
 unfolding line_of
 line_says s line text fields c cut says takes short ascii =
-    let parts = and_parts (is_some s.config) (nat_lt (length s.commands) most_commands) takes in
+    let parts = and_parts (is_some s.config) (nat_lt (length s.commands) MOST_COMMANDS) takes in
     rw (short, ascii, cut, no_comment command_table (λ t. refl) text says.row says.found, item_says s text fields c says parts.0 parts.1) refl
 
 -- a line whose word was added with the fields after it was added
 pub line_added : {E : Type 0} (s t : Draft) (line text fields : List ℕ) (done : Option (Result (Unit {0}) E)) → fields_of line ≡ text ∷ fields_of fields
-    → (is_some s.config && nat_lt (length s.commands) most_commands) ≡ true → nat_le (length line) longest_line ≡ true → is_ascii line ≡ true
+    → (is_some s.config && nat_lt (length s.commands) MOST_COMMANDS) ≡ true → nat_le (length line) LONGEST_LINE ≡ true → is_ascii line ≡ true
     → IfSome done (λ d. OnOk d (AddsCommand s t text fields)) → IfSome done (λ d. OnOk d ((n : ℕ) → with_line s n (line_of s line) ≡ Ok (t, n)))
 line_added s t line text fields None cut takes short ascii adds = adds
 line_added s t line text fields (Some (Err e)) cut takes short ascii adds = adds

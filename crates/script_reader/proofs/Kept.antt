@@ -7,7 +7,7 @@ use Rattle.std.proofs.lemmas.List.Elements.{All-nil, All-cons, All-append}
 use Rattle.script_language.specs.Fields.{Row, row_among, values_of}
 use Rattle.script_language.specs.Lines.{without_return, fields_of}
 use Rattle.script_language.specs.ReadLines.{◌>>=◌, row_named, test, in_limits, item_by, is_comment, is_ascii, some_item, fields_by, line_by, ReadTo, with_said, next_by, lines_by}
-use Rattle.process_model.specs.Files.{most_files}
+use Rattle.process_model.specs.declared.limits.TheConstants.{MOST_FILES}
 use Rattle.process_model.specs.declared.file.FileText.{FileText}
 use Rattle.script_language.specs.declared.script.Cause.{Cause}
 use Rattle.script_language.specs.declared.script.FieldValue.{FieldValue}
@@ -40,8 +40,8 @@ at_most a b e = grind arith
 pub all_and_one : {A : Type 0} (P : A → Type 0) (xs : List A) (x : A) → All P xs → P x → All P (xs ++ x ∷ [])
 all_and_one P xs x h one = All-append P xs (x ∷ []) h (All-cons P x [] one (All-nil P))
 
-pub one_file_more : (fs : List FileText) (f : FileText) → nat_lt (length fs) most_files ≡ true → length (fs ++ f ∷ []) ≤ most_files
-one_file_more fs f room = omega (arith, length-append fs (f ∷ []), below (length fs) most_files room)
+pub one_file_more : (fs : List FileText) (f : FileText) → nat_lt (length fs) MOST_FILES ≡ true → length (fs ++ f ∷ []) ≤ MOST_FILES
+one_file_more fs f room = omega (arith, length-append fs (f ∷ []), below (length fs) MOST_FILES room)
 
 -- what a word says whose row and values are known
 pub item_is : {I : Type 0} (table : List Row) (in_order : Keyword → Bool) (item_of : Keyword → List FieldValue → Result I Cause) (has_room : I → Bool) (text : List ℕ) (fields : List (List ℕ)) (r : Row) (vs : List FieldValue)

@@ -5,7 +5,7 @@ use Rattle.std.specs.Prelude.{IfOk, All, nat_le, ◌&&◌, if◌then◌else◌}
 use Rattle.std.proofs.lemmas.List.Elements.{All-nil}
 use Rattle.script_language.specs.Fields.{command_table}
 use Rattle.script_language.specs.Lines.{raw_lines}
-use Rattle.script_language.specs.Script.{Draft, Script, Read, with_item, in_order, item_of, has_room, has_file, item_line, line_of, read_lines, whole_with, whole, longest_script, script_of, no_lines}
+use Rattle.script_language.specs.Script.{Draft, Script, Read, with_item, in_order, item_of, has_room, has_file, item_line, line_of, read_lines, whole_with, whole, script_of, no_lines}
 use Rattle.process_model.specs.declared.config.Config.{Config}
 use Rattle.process_model.specs.declared.file.FileText.{FileText}
 use Rattle.script_language.specs.declared.declarations.OwnedImage.{OwnedImage}
@@ -22,6 +22,7 @@ use Rattle.script_reader.specs.ReadResults.{GivesScript}
 use Rattle.script_reader.specs.Playable.{CanBootIf, FitsFile, FitsItem, IsDeclared, IsPlayable, IsSound}
 use Rattle.script_reader.specs.declared.fault.ScriptError.{ScriptError}
 use Rattle.script_reader.proofs.Kept.{limited, below, at_most, all_and_one, one_file_more, HasPlace, item_has_place, IfItem, line_fits, IfRead, lines_kept}
+use Rattle.script_language.specs.declared.limits.TheConstants.{LONGEST_SCRIPT}
 
 -- more files and images keep what is said of them
 still_declared : (fs gs : List FileText) (is js : List OwnedImage) (c : Command) → length fs ≤ length gs → length is ≤ length js → IsDeclared fs is c → IsDeclared gs js c
@@ -114,7 +115,7 @@ nothing_said = record { boots = tt; few = omega arith; files = All-nil FitsFile;
 -- what is read as a script can be played
 script_playable : (bytes : List ℕ) → IfOk (script_of bytes) IsPlayable
 script_playable bytes =
-    elim (nat_le (length bytes) longest_script) as (λ b. IfOk (if b then whole (read_lines (Ok (no_lines, 0)) (raw_lines bytes)) else Err (0, cause.TooLong)) IsPlayable) [
+    elim (nat_le (length bytes) LONGEST_SCRIPT) as (λ b. IfOk (if b then whole (read_lines (Ok (no_lines, 0)) (raw_lines bytes)) else Err (0, cause.TooLong)) IsPlayable) [
       | true ↦ whole_playable (read_lines (Ok (no_lines, 0)) (raw_lines bytes)) (lines_kept line_of with_item IsSound (λ d i. HasPlace (FitsItem d) (has_room d) i) line_has_place item_kept (Ok (no_lines, 0)) (raw_lines bytes) nothing_said)
       | false ↦ tt
     ]

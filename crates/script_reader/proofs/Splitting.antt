@@ -3,13 +3,14 @@
 use Rattle.std.proofs.Common.{◌≡◌, ℕ, true, false, List, [], ◌∷◌, length, Option, Some, None, Result, Ok, Err, refl, ap, ◌∙◌}
 use Rattle.std.specs.Prelude.{nat_le, if◌then◌else◌}
 use Rattle.script_language.specs.Lines.{fields_of}
-use Rattle.script_language.specs.ReadLines.{◌>>=◌, test, is_ascii, is_comment, longest_line, some_item, fields_by, line_by}
+use Rattle.script_language.specs.ReadLines.{◌>>=◌, test, is_ascii, is_comment, some_item, fields_by, line_by}
 use Rattle.script_language.specs.declared.script.Cause.{Cause}
 use Rattle.script_language.specs.declared.script.Cause.TheVariants as cause
 use Rattle.script_reader.specs.ReadResults.{Fails}
 use Rattle.script_reader.specs.WordOf.{word_in, word_of, said_with}
 use Rattle.script_reader.specs.declared.fault.LineFault.{LineFault}
 use Rattle.script_reader.specs.declared.fault.LineFault.TheVariants as fault
+use Rattle.script_language.specs.declared.limits.TheConstants.{LONGEST_LINE}
 
 fields_split : {I : Type 0} (says : List ℕ → List (List ℕ) → Result I Cause) (fields : List (List ℕ)) → fields_by says fields ≡ said_with says (word_in fields)
 fields_split says [] = refl
@@ -18,7 +19,7 @@ fields_split says (text ∷ fields) =
 
 split : {I : Type 0} (says : List ℕ → List (List ℕ) → Result I Cause) (line : List ℕ) → line_by says line ≡ (word_of line >>= said_with says)
 split says line =
-    elim (nat_le (length line) longest_line) as (λ b.
+    elim (nat_le (length line) LONGEST_LINE) as (λ b.
     (test b cause.TooLong >>= (λ u. test (is_ascii line) cause.NotAscii >>= (λ v. fields_by says (fields_of line))))
     ≡ ((test b cause.TooLong >>= (λ u. test (is_ascii line) cause.NotAscii >>= (λ v. Ok (word_in (fields_of line))))) >>= said_with says)) [
       | false ↦ refl

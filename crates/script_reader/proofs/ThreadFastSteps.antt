@@ -6,7 +6,7 @@ use Rattle.std.specs.Prelude.{Err, IfSome, OnOk, Result, nat_le}
 use Rattle.std.proofs.lemmas.Bool.{and_parts}
 use Rattle.script_language.specs.Fields.{Row, kinds_for, row_among}
 use Rattle.script_language.specs.Lines.{fields_of}
-use Rattle.script_language.specs.ReadLines.{is_ascii, longest_line, with_said}
+use Rattle.script_language.specs.ReadLines.{is_ascii, with_said}
 use Rattle.script_language.specs.ThreadScript.{ThreadDraft, in_order, item_line, item_of, line_of, thread_table, with_item}
 use Rattle.script_language.specs.declared.declarations.ListedCall.{ListedCall}
 use Rattle.script_language.specs.declared.script.FieldKind.{FieldKind}
@@ -17,6 +17,7 @@ use Rattle.script_language.specs.declared.script.ThreadItem.TheVariants as item
 use Rattle.script_reader.specs.FastPath.{Reads}
 use Rattle.script_reader.specs.ThreadFastLines.{AddsCall, AddsMade, SaysItem, has_call_room, is_open, takes_calls}
 use Rattle.script_reader.proofs.FastLineSteps.{no_comment, said}
+use Rattle.script_language.specs.declared.limits.TheConstants.{LONGEST_LINE}
 
 pub says : {line : List ℕ} {ks : List FieldKind} {vs : List FieldValue} → Reads line ks vs → (s : ThreadDraft) (text : List ℕ) (r : Row) (made : Result ThreadItem Cause) → row_among thread_table text ≡ Some r
     → kinds_for r.kinds r.tail (length ks) ≡ ks → item_of s r.word vs ≡ made → in_order s r.word ≡ is_open s → SaysItem s text line made
@@ -26,7 +27,7 @@ item_says : (s : ThreadDraft) (text line : List ℕ) (c : ListedCall) → SaysIt
 unfolding item_line
 item_says s text line c says opened room = rw (says.found, says.order ∙ opened, says.said, says.item, room) refl
 
-line_says : (s : ThreadDraft) (line text fields : List ℕ) (c : ListedCall) → fields_of line ≡ text ∷ fields_of fields → SaysItem s text fields (Ok (item.Call c)) → takes_calls s ≡ true → nat_le (length line) longest_line ≡ true
+line_says : (s : ThreadDraft) (line text fields : List ℕ) (c : ListedCall) → fields_of line ≡ text ∷ fields_of fields → SaysItem s text fields (Ok (item.Call c)) → takes_calls s ≡ true → nat_le (length line) LONGEST_LINE ≡ true
     → is_ascii line ≡ true → line_of s line ≡ Ok (Some (item.Call c))
 unfolding line_of
 line_says s line text fields c cut says takes short ascii =
@@ -35,7 +36,7 @@ line_says s line text fields c cut says takes short ascii =
 
 -- a line whose word was added with the fields after it was added
 pub call_added : {E : Type 0} (s t : ThreadDraft) (line text fields : List ℕ) (done : Option (Result (Unit {0}) E)) → fields_of line ≡ text ∷ fields_of fields → takes_calls s ≡ true
-    → nat_le (length line) longest_line ≡ true → is_ascii line ≡ true → IfSome done (λ d. OnOk d (AddsCall s t text fields)) → IfSome done (λ d. OnOk d ((n : ℕ) → with_said with_item s n (line_of s line) ≡ Ok (t, n)))
+    → nat_le (length line) LONGEST_LINE ≡ true → is_ascii line ≡ true → IfSome done (λ d. OnOk d (AddsCall s t text fields)) → IfSome done (λ d. OnOk d ((n : ℕ) → with_said with_item s n (line_of s line) ≡ Ok (t, n)))
 call_added s t line text fields None cut takes short ascii adds = adds
 call_added s t line text fields (Some (Err e)) cut takes short ascii adds = adds
 call_added s t line text fields (Some (Ok u)) cut takes short ascii adds = λ n. rw (line_says s line text fields adds.call cut adds.says takes short ascii, adds.added) refl

@@ -11,13 +11,12 @@ use Rattle.std.proofs.lemmas.List.Folds.{list_any-append}
 use Rattle.std.proofs.lemmas.List.FromFn.{get_or-map-range_with_len, length-map-range_with_len}
 use Rattle.std.proofs.lemmas.Map.Steps.{length-le_from_distinct_below}
 use Rattle.std.proofs.lemmas.Slice.Eq.{bytes_eq-Decides}
-use Rattle.process_model.specs.Copies.{longest_copy}
+use Rattle.process_model.specs.declared.limits.TheConstants.{LONGEST_COPY, MOST_FILES}
 use Rattle.script_language.specs.Fields.{one_number, row}
 use Rattle.script_language.specs.Lines.{raw_lines, without_return, fields_of}
 use Rattle.script_language.specs.Numbers.{number_of}
-use Rattle.script_language.specs.ReadLines.{test, is_ascii, fields_by, some_item, longest_script, with_said}
-use Rattle.process_model.specs.Files.{most_files}
-use Rattle.script_language.specs.ThreadScript.{ThreadDraft, ThreadScript, Read, begins, begins_list, has_image, has_list, has_room, in_order, is_named, is_number, item_line, item_of, line_of, lists_named, most_calls, most_lists, nothing_said, open_calls, read_lines, said_in, thread_script_of, thread_table, whole, whole_with, with_call, with_item}
+use Rattle.script_language.specs.ReadLines.{test, is_ascii, fields_by, some_item, with_said}
+use Rattle.script_language.specs.ThreadScript.{ThreadDraft, ThreadScript, Read, begins, begins_list, has_image, has_list, has_room, in_order, is_named, is_number, item_line, item_of, line_of, lists_named, nothing_said, open_calls, read_lines, said_in, thread_script_of, thread_table, whole, whole_with, with_call, with_item}
 use Rattle.process_model.specs.declared.call.Call.{Call}
 use Rattle.process_model.specs.declared.call.Call.TheVariants as call
 use Rattle.script_language.specs.declared.declarations.CallList.{CallList}
@@ -41,6 +40,7 @@ use Rattle.script_reader.specs.ThreadsPlayable.{CanShare, IsDeclaredCall, IsDecl
 use Rattle.script_reader.specs.declared.fault.ScriptError.{ScriptError}
 use Rattle.script_reader.specs.declared.fault.ScriptError.TheVariants as script
 use Rattle.script_reader.proofs.Kept.{followed, limited, item_is, HasPlace, item_has_place, IfItem, IfRead, line_fits, lines_kept, all_and_one, below, at_most, one_file_more}
+use Rattle.script_language.specs.declared.limits.TheConstants.{LONGEST_SCRIPT, MOST_CALLS, MOST_LISTS}
 
 -- what holds of the lines so far: each list that a fork names begins somewhere in the file, each that a start names in these lines
 
@@ -51,11 +51,11 @@ IsNamedCall named c = Unit {0}
 abbrev IsNamedLine : List OwnedImage → List Bool → ListedCall → Type 0
 IsNamedLine images named (listed.One c) = IsNamedCall named c
 IsNamedLine images named (listed.Exec n) = n < length images
-IsNamedLine images named (listed.CopyOut a bytes) = length bytes ≤ longest_copy
+IsNamedLine images named (listed.CopyOut a bytes) = length bytes ≤ LONGEST_COPY
 
 record IsNamedList (images : List OwnedImage) (named : List Bool) (l : CallList) : Type 0 where
-  pub number : l.number < most_lists
-  pub few : length l.calls ≤ most_calls
+  pub number : l.number < MOST_LISTS
+  pub few : length l.calls ≤ MOST_CALLS
   pub calls : All (IsNamedLine images named) l.calls
 
 abbrev IsBegunStart : List OwnedImage → List CallList → ListedStart → Type 0
@@ -71,7 +71,7 @@ numbers ls = map (λ l. l.number) ls
 record IsSound (named : List Bool) (d : ThreadDraft) : Type 0 where
   pub same : d.named ≡ named
   pub shares : SharesIf d.pool
-  pub few : length d.files ≤ most_files
+  pub few : length d.files ≤ MOST_FILES
   pub files : All FitsFile d.files
   pub distinct : IsDistinct eqb (numbers d.lists)
   pub lists : All (IsNamedList d.images d.named) d.lists
@@ -81,7 +81,7 @@ abbrev Fits : ThreadDraft → ThreadItem → Type 0
 Fits d (item.File f) = FitsFile f
 Fits d (item.Image i) = Unit {0}
 Fits d (item.Pool p) = CanShare p
-Fits d (item.List k) = (k < most_lists) × (has_list d.lists k ≡ false)
+Fits d (item.List k) = (k < MOST_LISTS) × (has_list d.lists k ≡ false)
 Fits d (item.Call c) = IsNamedLine d.images d.named c
 Fits d (item.Start s) = IsBegunStart d.images d.lists s
 
@@ -118,7 +118,7 @@ call_has [] c k = refl
 call_has (l ∷ []) c k = refl
 call_has (l ∷ m ∷ ls) c k = ap (λ (b : Bool). eqb l.number k || b) (call_has (m ∷ ls) c k)
 
-call_kept : (images : List OwnedImage) (named : List Bool) (ls : List CallList) (c : ListedCall) → All (IsNamedList images named) ls → IsNamedLine images named c → open_calls ls < most_calls
+call_kept : (images : List OwnedImage) (named : List Bool) (ls : List CallList) (c : ListedCall) → All (IsNamedList images named) ls → IsNamedLine images named c → open_calls ls < MOST_CALLS
     → All (IsNamedList images named) (with_call ls c)
 call_kept images named [] c h fits lt = h
 call_kept images named (l ∷ []) c h fits lt =
@@ -210,8 +210,8 @@ not_false : (b : Bool) → not b ≡ true → b ≡ false
 not_false true e = absurd cc
 not_false false e = refl
 
-new_list : (d : ThreadDraft) (k : ℕ) → (nat_lt k most_lists && not (has_list d.lists k)) ≡ true → Fits d (item.List k)
-new_list d k e = let parts = and_parts (nat_lt k most_lists) (not (has_list d.lists k)) e in (below k most_lists parts.0, not_false (has_list d.lists k) parts.1)
+new_list : (d : ThreadDraft) (k : ℕ) → (nat_lt k MOST_LISTS && not (has_list d.lists k)) ≡ true → Fits d (item.List k)
+new_list d k e = let parts = and_parts (nat_lt k MOST_LISTS) (not (has_list d.lists k)) e in (below k MOST_LISTS parts.0, not_false (has_list d.lists k) parts.1)
 
 a_start : (d : ThreadDraft) (i k : ℕ) → (has_image d i && has_list d.lists k) ≡ true → (i < length d.images) × (has_list d.lists k ≡ true)
 a_start d i k e = let parts = and_parts (has_image d i) (has_list d.lists k) e in (below i (length d.images) parts.0, parts.1)
@@ -341,9 +341,9 @@ no_name (b ∷ named) (suc k) le = no_name named k (omega (arith, le))
 named_begins : (lines : List (List ℕ)) (k : ℕ) → is_named (lists_named lines) k ≡ true → list_any (begins_list k) lines ≡ true
 named_begins lines k e =
     let test : ℕ → Bool = λ n. list_any (begins_list n) lines in
-    elim (cases_lt k most_lists) [
-      | inl lt ↦ sym (get_or-map-range_with_len test 0 most_lists k k false lt (omega arith)) ∙ e
-      | inr ge ↦ absurd (false_true (sym (no_name (lists_named lines) k (omega (arith, length-map-range_with_len test 0 most_lists, ge))) ∙ e))
+    elim (cases_lt k MOST_LISTS) [
+      | inl lt ↦ sym (get_or-map-range_with_len test 0 MOST_LISTS k k false lt (omega arith)) ∙ e
+      | inr ge ↦ absurd (false_true (sym (no_name (lists_named lines) k (omega (arith, length-map-range_with_len test 0 MOST_LISTS, ge))) ∙ e))
     ]
 
 -- the whole file
@@ -372,7 +372,7 @@ line_declared images named lists (listed.CopyOut a bytes) covers h = h
 list_declared : (images : List OwnedImage) (named : List Bool) (lists : List CallList) (l : CallList) → Covers named lists → IsNamedList images named l → IsList images lists l
 list_declared images named lists l covers h = record { number = h.number; few = h.few; calls = λ k c lt. line_declared images named lists (get_or l.calls k c) covers (h.calls k c lt) }
 
-has_below : (images : List OwnedImage) (named : List Bool) (ls : List CallList) (k : ℕ) → All (IsNamedList images named) ls → list_any (eqb k) (numbers ls) ≡ true → k < most_lists
+has_below : (images : List OwnedImage) (named : List Bool) (ls : List CallList) (k : ℕ) → All (IsNamedList images named) ls → list_any (eqb k) (numbers ls) ≡ true → k < MOST_LISTS
 has_below images named [] k h e = absurd cc
 has_below images named (l ∷ ls) k h e =
     elim (cases_Bool (eqb k l.number)) [
@@ -392,7 +392,7 @@ whole_with_playable named d n (Some p) e s covers =
       shares = subst SharesIf (sym e) s.shares;
       few = s.few;
       files = s.files;
-      few_lists = omega (arith, numbers_length d.lists, length-le_from_distinct_below (numbers d.lists) most_lists s.distinct (λ q h. has_below d.images d.named d.lists q s.lists h));
+      few_lists = omega (arith, numbers_length d.lists, length-le_from_distinct_below (numbers d.lists) MOST_LISTS s.distinct (λ q h. has_below d.images d.named d.lists q s.lists h));
       lists = λ k l lt. list_declared d.images d.named d.lists (get_or d.lists k l) names (s.lists k l lt);
       starts = s.starts;
     }
@@ -424,7 +424,7 @@ said_playable lines =
     (λ k e. covered k (nothing_said named) 0 lines (named_begins lines k e))
 
 script_playable : (bytes : List ℕ) → IfOk (thread_script_of bytes) IsThreadPlayable
-script_playable bytes = elim (nat_le (length bytes) longest_script) as (λ b. IfOk (if b then said_in (raw_lines bytes) else Err (0, cause.TooLong)) IsThreadPlayable) [ true ↦ said_playable (raw_lines bytes) | false ↦ tt ]
+script_playable bytes = elim (nat_le (length bytes) LONGEST_SCRIPT) as (λ b. IfOk (if b then said_in (raw_lines bytes) else Err (0, cause.TooLong)) IsThreadPlayable) [ true ↦ said_playable (raw_lines bytes) | false ↦ tt ]
 
 pub answer_playable : (bytes : List ℕ) (r : Result ThreadScript ScriptError) → GivesScript (λ s. s) r (thread_script_of bytes) → IfOk r IsThreadPlayable
 answer_playable bytes (Ok s) e = let P : Result ThreadScript (ℕ × Cause) → Type 0 = λ r. IfOk r IsThreadPlayable in subst P e (script_playable bytes)
@@ -445,12 +445,12 @@ or_none false = refl
 
 -- the whole script, by what its lines say
 
-pub script_refused : (bytes : List ℕ) (e : ScriptError) → nat_le (length bytes) longest_script ≡ true → GivesError e (read_lines (Ok (nothing_said (lists_named (raw_lines bytes)), 0)) (raw_lines bytes))
+pub script_refused : (bytes : List ℕ) (e : ScriptError) → nat_le (length bytes) LONGEST_SCRIPT ≡ true → GivesError e (read_lines (Ok (nothing_said (lists_named (raw_lines bytes)), 0)) (raw_lines bytes))
     → GivesError e (thread_script_of bytes)
 script_refused bytes script.Memory short r = tt
 script_refused bytes (script.Line n c) short r = rw (short, r) refl
 
-pub script_answers : (bytes : List ℕ) (r : Result ThreadScript ScriptError) (d : ThreadDraft) (n : ℕ) → nat_le (length bytes) longest_script ≡ true
+pub script_answers : (bytes : List ℕ) (r : Result ThreadScript ScriptError) (d : ThreadDraft) (n : ℕ) → nat_le (length bytes) LONGEST_SCRIPT ≡ true
     → read_lines (Ok (nothing_said (lists_named (raw_lines bytes)), 0)) (raw_lines bytes) ≡ Ok (d, n) → GivesScript (λ s. s) r (whole_with d n d.pool) → GivesScript (λ s. s) r (thread_script_of bytes)
 script_answers bytes r d n short is h = rw (short, is) h
 
@@ -459,10 +459,10 @@ script_answers bytes r d n short is h = rw (short, is) h
 pub named_first : (lines : List (List ℕ)) (k : ℕ) → (get_or (replicate 64 false) k false || list_any (begins_list k) lines) ≡ list_any (begins_list k) lines
 named_first lines k = ap (λ (b : Bool). b || list_any (begins_list k) lines) (none_there 64 k)
 
-pub named_is : (named : List Bool) (left : List ℕ) (lines : List (List ℕ)) → ((k : ℕ) → k < most_lists → (get_or named k false || list_any (begins_list k) (raw_lines left)) ≡ list_any (begins_list k) lines)
-    → length named ≡ most_lists → left ≡ [] → named ≡ lists_named lines
+pub named_is : (named : List Bool) (left : List ℕ) (lines : List (List ℕ)) → ((k : ℕ) → k < MOST_LISTS → (get_or named k false || list_any (begins_list k) (raw_lines left)) ≡ list_any (begins_list k) lines)
+    → length named ≡ MOST_LISTS → left ≡ [] → named ≡ lists_named lines
 named_is named left lines says long over =
     let test : ℕ → Bool = λ n. list_any (begins_list n) lines in
-    ext_get_or false named (lists_named lines) (long ∙ sym (length-map-range_with_len test 0 most_lists))
-    (λ k lt. let below_64 : k < most_lists = omega (arith, lt, long) in
-    sym (or_none (get_or named k false)) ∙ (rw over at says k below_64) ∙ sym (get_or-map-range_with_len test 0 most_lists k k false below_64 (omega arith)))
+    ext_get_or false named (lists_named lines) (long ∙ sym (length-map-range_with_len test 0 MOST_LISTS))
+    (λ k lt. let below_64 : k < MOST_LISTS = omega (arith, lt, long) in
+    sym (or_none (get_or named k false)) ∙ (rw over at says k below_64) ∙ sym (get_or-map-range_with_len test 0 MOST_LISTS k k false below_64 (omega arith)))

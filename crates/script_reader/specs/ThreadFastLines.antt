@@ -5,8 +5,8 @@
 use Rattle.std.specs.Prelude.{◌≡◌, ℕ, Bool, false, not, List, ◌∷◌, Some, Result, Ok, length, nat_lt, ◌==◌, ◌&&◌}
 use Rattle.script_language.specs.Fields.{Row, row_among, values_of}
 use Rattle.script_language.specs.Lines.{fields_of}
-use Rattle.script_language.specs.Script.{most_commands}
-use Rattle.script_language.specs.ThreadScript.{ThreadDraft, has_started, in_order, item_of, most_calls, open_calls, thread_table, with_item}
+use Rattle.script_language.specs.declared.limits.TheConstants.{MOST_CALLS, MOST_COMMANDS}
+use Rattle.script_language.specs.ThreadScript.{ThreadDraft, has_started, in_order, item_of, open_calls, thread_table, with_item}
 use Rattle.script_language.specs.declared.declarations.ListedCall.{ListedCall}
 use Rattle.script_language.specs.declared.script.FieldValue.{FieldValue}
 use Rattle.script_language.specs.declared.script.Cause.{Cause}
@@ -19,7 +19,7 @@ is_open s = nat_lt 0 (length s.lists) && not (has_started s)
 
 -- there is room for a line after the pool, and for a call in the open list
 abbrev pub has_call_room : ThreadDraft → Bool
-has_call_room s = nat_lt s.lines most_commands && nat_lt (open_calls s.lists) most_calls
+has_call_room s = nat_lt s.lines MOST_COMMANDS && nat_lt (open_calls s.lists) MOST_CALLS
 
 abbrev pub takes_calls : ThreadDraft → Bool
 takes_calls s = is_open s && has_call_room s

@@ -3,9 +3,10 @@
 use Rattle.std.specs.Prelude.{ℕ, List, [], ◌∷◌, Option, Some, None, Result, Ok, nat_le, length, if◌then◌else◌}
 use Rattle.std.specs.Borrow.{Bor}
 use Rattle.script_language.specs.Lines.{fields_of}
-use Rattle.script_language.specs.ReadLines.{◌>>=◌, test, is_ascii, is_comment, longest_line, some_item}
+use Rattle.script_language.specs.ReadLines.{◌>>=◌, test, is_ascii, is_comment, some_item}
 use Rattle.script_language.specs.declared.script.Cause.{Cause}
 use Rattle.script_language.specs.declared.script.Cause.TheVariants as cause
+use Rattle.script_language.specs.declared.limits.TheConstants.{LONGEST_LINE}
 
 abbrev pub as_fields : Bor (List ℕ) × Bor (List ℕ) → List ℕ × List (List ℕ)
 as_fields found = (found.0.now, fields_of found.1.now)
@@ -17,7 +18,7 @@ word_in (text ∷ fields) = if is_comment text then None else Some (text, fields
 
 abbrev pub word_of : List ℕ → Result (Option (List ℕ × List (List ℕ))) Cause
 word_of line = do
-  short ← test (nat_le (length line) longest_line) cause.TooLong
+  short ← test (nat_le (length line) LONGEST_LINE) cause.TooLong
   ascii ← test (is_ascii line) cause.NotAscii
   Ok (word_in (fields_of line))
 

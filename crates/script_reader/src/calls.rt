@@ -3,7 +3,6 @@
 // `compound_commands`.
 
 ghost use Rattle.std.specs.Prelude.{◌≡◌, nat_le};
-ghost use Rattle.process_model.specs.Copies.{longest_copy};
 ghost use Rattle.process_model.specs.declared.step.Step.TheVariants as step;
 ghost use Rattle.script_language.specs.Script as words;
 ghost use Rattle.script_reader.specs.Alone.{item_alone};
@@ -62,9 +61,9 @@ pub fn munmap(hart: usize, address: u64, length: u64) -> Item
 /// Makes the item of `copyin HART ADDRESS COUNT`.
 ///
 /// # Errors
-/// `Limits`, exactly when COUNT is above 256 bytes.
+/// `Limits`, exactly when COUNT is above `LONGEST_COPY` bytes.
 pub fn copy_in(hart: usize, address: u64, count: usize) -> Result<Item, Cause>
-    ensures { result ≡ words.in_limits (nat_le count longest_copy) (words.one (step.CopyIn hart address count)) }
+    ensures { result ≡ words.in_limits (nat_le count LONGEST_COPY) (words.one (step.CopyIn hart address count)) }
 {
     let step = Step::CopyIn {
         hart,
@@ -77,7 +76,7 @@ pub fn copy_in(hart: usize, address: u64, count: usize) -> Result<Item, Cause>
 /// Makes the item of `copyout HART ADDRESS HEX`.
 ///
 /// # Errors
-/// `Limits`, exactly when HEX has more than 256 bytes.
+/// `Limits`, exactly when HEX has more than `LONGEST_COPY` bytes.
 pub fn copy_out(alloc: Global, values: Vec<FieldValue>) -> Result<Item, Cause>
     ensures { result ≡ item_alone Keyword.CopyOut values.items }
 {

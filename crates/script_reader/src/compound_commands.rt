@@ -44,7 +44,7 @@ pub fn exec(draft: &Draft, values: &[FieldValue]) -> Result<Item, Cause>
 /// Makes the command of `show FILE OFFSET COUNT`.
 ///
 /// # Errors
-/// `Limits`, exactly when no file of this number was declared, or COUNT is above 256 bytes.
+/// `Limits`, exactly when no file of this number was declared, or COUNT is above `LONGEST_COPY` bytes.
 pub fn show(draft: &Draft, values: &[FieldValue]) -> Result<Item, Cause>
     ensures { result ≡ words.item_of draft.now Keyword.Show values.now }
 {

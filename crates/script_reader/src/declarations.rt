@@ -17,7 +17,7 @@ use std::alloc::{AllocError, Global};
 /// Makes the file of `file LEN MODE HEX`.
 ///
 /// # Errors
-/// `Limits`, exactly when LEN is above 65,536, or HEX has more than LEN bytes.
+/// `Limits`, exactly when LEN is above `LONGEST_FILE`, or HEX has more than LEN bytes.
 pub fn file(alloc: Global, values: Vec<FieldValue>) -> Result<FileText, Cause>
     ensures { result ≡ words.in_limits (fits_file (words.file_of_values values.items)) (words.file_of_values values.items) }
 {
@@ -55,8 +55,8 @@ pub fn elf(alloc: Global, values: Vec<FieldValue>) -> OwnedImage
 /// Makes the item of `boot HARTS FRAMES SLOTS POLICY [SCHEME]`; the scheme is Sv39 if the line names none.
 ///
 /// # Errors
-/// `Limits`, exactly when a size is out of range: 1 to 8 harts, 1 to 64 slots, 16 to 1,024 frames and no
-/// fewer than the kernel takes.
+/// `Limits`, exactly when a size is out of range: 1 to `MOST_HARTS` harts, 1 to `MOST_SLOTS` slots, `FEWEST_FRAMES` to
+/// `MOST_FRAMES` frames and no fewer than the kernel takes.
 pub fn boot(values: &[FieldValue]) -> Result<Item, Cause>
     ensures { result ≡ item_alone Keyword.Boot values.now }
 {

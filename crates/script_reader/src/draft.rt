@@ -1,6 +1,5 @@
 // `Draft`, a struct: the files, images, configuration and commands of the script lines read so far. Functions: whether the
 // next line may have a word (order), whether there is room for an item (what a line declares or commands), and adding one.
-// Constants: the most files, images and lines after `boot`.
 
 ghost use Rattle.std.specs.Prelude.{◌≡◌, ◌&&◌, OnOk, OnErr, is_some, length, nat_lt};
 ghost use Rattle.script_language.specs.declared.script.Item.TheVariants as item;
@@ -118,7 +117,7 @@ impl Draft {
 
     /// Whether `boot` was read, and the script may have one more line after it.
     pub fn takes_commands(&self) -> bool
-        ensures { result ≡ (is_some (self.now).config && nat_lt (length (self.now).commands) words.most_commands) }
+        ensures { result ≡ (is_some (self.now).config && nat_lt (length (self.now).commands) MOST_COMMANDS) }
     {
         self.config.is_some() && self.commands.len() < MOST_COMMANDS
     }

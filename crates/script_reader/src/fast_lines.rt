@@ -71,8 +71,8 @@ fn fast_item(word: FastWord, fields: &[u8]) -> Option<Result<Item, Cause>>
     ensures { IfSome result (λ made. SaysItem (letters word) fields.now made) }
 {
     match word {
-        FastWord::Load => load_item(fields),
-        FastWord::Store => store_item(fields),
+        // `add_word` has cases of its own for these
+        FastWord::Load | FastWord::Store => None,
         FastWord::Switch => {
             let (hart, slot) = number_slot(fields)?;
             Some(Ok(switch(hart as usize, slot)))

@@ -59,7 +59,7 @@ impl PieceReader {
 
     /// Whether more than 16,777,216 bytes were read, the most that a script may have.
     pub fn is_too_long(&self) -> bool
-        ensures { result ≡ nat_lt words.longest_script (self.now).length }
+        ensures { result ≡ nat_lt LONGEST_SCRIPT (self.now).length }
     {
         self.length > LONGEST_SCRIPT
     }
@@ -71,7 +71,7 @@ impl PieceReader {
     /// `AllocError`: host memory was refused; what was read so far is lost.
     pub fn add(&mut self, piece: &[u8]) -> Result<(), AllocError>
         requires read { (bytes : List ℕ) × model.HasRead bytes self.old }
-        requires short { (self.old).length ≤ words.longest_script }
+        requires short { (self.old).length ≤ LONGEST_SCRIPT }
         requires small { length piece.now < 2 ^ 63 }
         ensures read { OnOk result ((bytes : List ℕ) → model.HasRead bytes self.old → model.HasRead (bytes ++ piece.now) self.new) }
     {

@@ -53,12 +53,12 @@ impl Script {
         reading.finish()
     }
 
-    /// Makes the script of a draft that was read from `lines` lines, at most 16,777,216.
+    /// Makes the script of a draft that was read from `lines` lines, at most `LONGEST_SCRIPT`.
     ///
     /// # Errors
     /// `Line(lines + 1, Order)`: no line was a `boot`.
     pub(crate) fn of(draft: Draft, lines: u64) -> Result<Script, ScriptError>
-        requires { lines < words.longest_script + 1 }
+        requires { lines < LONGEST_SCRIPT + 1 }
         ensures { GivesScript (λ s. s) result (words.whole_with draft lines (draft.config)) }
     {
         let (files, images, config, commands) = draft.into_parts();

@@ -4,7 +4,6 @@
 
 ghost use Rattle.std.specs.Prelude.{◌≡◌, Ok, nat_le};
 ghost use Rattle.process_model.specs.Bytes as bytes;
-ghost use Rattle.process_model.specs.Copies.{longest_copy};
 ghost use Rattle.process_model.specs.declared.call.Call.TheVariants as call;
 ghost use Rattle.script_language.specs.ReadLines.{in_limits};
 ghost use Rattle.script_language.specs.ThreadScript as words;
@@ -97,9 +96,9 @@ pub fn munmap(values: &[FieldValue]) -> ThreadItem
 /// Makes the item of `copyin ADDRESS COUNT`.
 ///
 /// # Errors
-/// `Limits`, exactly when COUNT is above 256 bytes.
+/// `Limits`, exactly when COUNT is above `LONGEST_COPY` bytes.
 pub fn copy_in(address: u64, count: usize) -> Result<ThreadItem, Cause>
-    ensures { result ≡ in_limits (nat_le count longest_copy) (words.one (call.CopyIn address count)) }
+    ensures { result ≡ in_limits (nat_le count LONGEST_COPY) (words.one (call.CopyIn address count)) }
 {
     in_limits(count <= LONGEST_COPY, one(Call::CopyIn { address, count }))
 }
@@ -107,7 +106,7 @@ pub fn copy_in(address: u64, count: usize) -> Result<ThreadItem, Cause>
 /// Makes the item of `copyout ADDRESS HEX`.
 ///
 /// # Errors
-/// `Limits`, exactly when HEX has more than 256 bytes.
+/// `Limits`, exactly when HEX has more than `LONGEST_COPY` bytes.
 pub fn copy_out(alloc: Global, values: Vec<FieldValue>) -> Result<ThreadItem, Cause>
     ensures { result ≡ call_alone Keyword.CopyOut values.items }
 {

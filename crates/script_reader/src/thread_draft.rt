@@ -1,6 +1,6 @@
 // `ThreadDraft`, a struct: the files, images, pool (numbers of frames and slots), lists of calls and starts of the lines of
 // a file for threads read so far. Functions: whether the next line may have a word (order), room for an item (limits on the
-// numbers of files, images, calls and lines), both for a call (`takes_calls`), adding one. Constant: the most lists.
+// numbers of files, images, calls and lines), both for a call (`takes_calls`), adding one.
 // `Declared`, a struct: what all lines declare.
 
 ghost use Rattle.std.specs.Prelude.{◌≡◌, OnOk, true};
@@ -20,7 +20,7 @@ use std::marker::Model;
 #[derive(Drop)]
 pub struct ThreadDraft {
     alloc: Global,
-    named: [bool; 64],
+    named: [bool; MOST_LISTS],
     files: Vec<FileText>,
     images: Vec<OwnedImage>,
     pool: Option<Pool>,
@@ -68,7 +68,7 @@ fn push_call(lists: &mut Vec<CallList>, call: ListedCall) -> Result<(), AllocErr
 impl ThreadDraft {
     /// Returns the draft of no lines. `named` has for each number whether some line of the file begins a
     /// list of that number.
-    pub fn new(alloc: Global, named: [bool; 64]) -> ThreadDraft
+    pub fn new(alloc: Global, named: [bool; MOST_LISTS]) -> ThreadDraft
         ensures { result ≡ words.nothing_said named }
     {
         ThreadDraft {
@@ -145,7 +145,8 @@ impl ThreadDraft {
     }
 
     /// Whether the next line may be a call, and there is room for it: a list was begun, and no start was read; there are
-    /// fewer than 100,000 lines after the `pool`, skipped lines not counted, and fewer than 10,000 calls in the open list.
+    /// fewer than `MOST_COMMANDS` lines after the `pool`, skipped lines not counted, and fewer than `MOST_CALLS` calls in the
+    /// open list.
     pub fn takes_calls(&self) -> bool
         ensures { result ≡ takes_calls self.now }
     {

@@ -70,8 +70,6 @@ fn fast_item(
     ensures { IfSome result (λ made. SaysItem draft.now (letters word) fields.now made) }
 {
     match word {
-        FastWord::Load => load_item(fields),
-        FastWord::Store => store_item(fields),
         FastWord::Fetch => {
             let address = one_address(fields)?;
             Some(Ok(fetch(address)))
@@ -84,6 +82,7 @@ fn fast_item(
             let list = one_number(fields)?;
             Some(fork(draft, list as usize))
         }
+        // `load` and `store`, for which `add_word` has cases of its own; words of scripts alone
         _ => None,
     }
 }

@@ -158,15 +158,15 @@ fn list_begun(line: &[u8]) -> Option<usize>
     list_of_fields(line)
 }
 
-fn none_named() -> [bool; 64]
-    ensures { result ≡ replicate 64 false }
+fn none_named() -> [bool; MOST_LISTS]
+    ensures { result ≡ replicate MOST_LISTS false }
 {
-    [false; 64]
+    [false; MOST_LISTS]
 }
 
-/// Returns for each number below 64 whether some line `list K` of the text begins a list of that number, permitted there or
-/// not.
-pub fn lists_named(text: &[u8]) -> [bool; 64]
+/// Returns for each number below `MOST_LISTS` whether some line `list K` of the text begins a list of that number, permitted
+/// there or not.
+pub fn lists_named(text: &[u8]) -> [bool; MOST_LISTS]
     ensures { result ≡ words.lists_named (raw_lines text.now) }
 {
     let mut named = none_named();

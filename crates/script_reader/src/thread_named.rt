@@ -19,7 +19,8 @@ use script_language::{
 /// Makes the item of `pool FRAMES SLOTS`.
 ///
 /// # Errors
-/// `Limits`, exactly when a size is out of range: 1 to 64 slots, 16 to 256 frames and no fewer than the kernel takes.
+/// `Limits`, exactly when a size is out of range: 1 to `MOST_SLOTS` slots, `FEWEST_FRAMES` to `MOST_SHARED_FRAMES` frames and
+/// no fewer than the kernel takes.
 pub fn pool(values: &[FieldValue]) -> Result<ThreadItem, Cause>
     ensures { result ≡ call_alone Keyword.Pool values.now }
 {

@@ -3,7 +3,6 @@
 
 ghost use Rattle.std.specs.Prelude.{◌≡◌, ◌+◌, ◌<◌, IfOk};
 ghost use Rattle.std.specs.Option.{option_map};
-ghost use Rattle.script_language.specs.ReadLines.{longest_script};
 ghost use Rattle.script_language.specs.ThreadScript as words;
 ghost use Rattle.script_reader.specs.ReadResults.{GivesScript};
 ghost use Rattle.script_reader.specs.ThreadsPlayable.{IsThreadPlayable};
@@ -56,7 +55,7 @@ impl ThreadScript {
 
     /// Makes the parsed file of a draft that was read from `lines` lines; `Order` in the line after these if it has no pool.
     fn of(draft: ThreadDraft, lines: u64) -> Result<ThreadScript, ScriptError>
-        requires { lines < longest_script + 1 }
+        requires { lines < LONGEST_SCRIPT + 1 }
         ensures { GivesScript (λ s. s) result (words.whole_with draft lines (draft.pool)) }
     {
         let Declared {

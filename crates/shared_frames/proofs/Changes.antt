@@ -1,6 +1,5 @@
--- Lemmas: the invariant of shared frames (`IsSharedRule`) is kept as one seat's hold of one frame changes, together with
--- this frame's count and words (`kept_step`), and as only the free count and the seat's credits (reserved frames) change
--- (`kept_free`).
+-- Lemmas: the invariant of shared frames (`IsSharedRule`) is kept as one seat's hold of one frame changes, together with this
+-- frame's count and words (`kept_step`), and as only the free count and the seat's credits change (`kept_free`).
 use Rattle.std.proofs.Common.{◌≡◌, ◌≢◌, inl, inr, ⊎_elim, ℕ, ◌+◌, ◌<◌, ◌≤◌, List, length, slice_index, set, refl, sym, ap, ◌∙◌, subst, arith}
 use Rattle.std.proofs.lemmas.Bool.Decides.{eqb_tells}
 use Rattle.std.specs.FinMap as map

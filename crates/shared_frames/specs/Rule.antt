@@ -9,7 +9,7 @@ use Rattle.std.specs.FinMap as map
 use Rattle.atomic_table.specs.Table.{State}
 use Rattle.frame_store.specs.Laws.{IsAnchored}
 use Rattle.frame_store.specs.View.{View, Hold, hold_of, not_held, references, IsHeld}
-use Rattle.process_model.specs.declared.limits.TheConstants.{MOST_SHARED_FRAMES}
+use Rattle.process_model.specs.declared.limits.TheConstants.{MOST_REFERENCES, MOST_SHARED_FRAMES}
 
 -- Word 0 of the table is the free count. Then each frame has 513 words: its reference count, and the 512 words of its memory
 abbrev pub count_at : ℕ → ℕ
@@ -60,7 +60,7 @@ pub record IsSharedRule (n : ℕ) (words : List ℕ) (views : List View) : Type 
   pub narrow : n ≤ MOST_SHARED_FRAMES
   pub wide : length words ≡ 513 * n + 1
   pub counted : (f : ℕ) → f < n → slice_index words (count_at f) ≡ all_references f views
-  pub few : (f : ℕ) → f < n → all_references f views ≤ 65535
+  pub few : (f : ℕ) → f < n → all_references f views ≤ MOST_REFERENCES
   pub balanced : zero_counts words n ≡ slice_index words 0 + all_credits views
   pub agrees : (id : ℕ) (v : View) → get_elem? views id ≡ some v → ViewAgrees n words (λ f. all_references f views) v
 

@@ -1,7 +1,6 @@
--- Predicates: how many words a table of n frames has (`IsSized`), a seat (an owner's capability) is at a table
--- (`FitsIn`), all seats of a list are (`AllFit`, the invariant of the stores `SharedAccess` and `SharedSupply`). Laws:
--- seats may be in any order; a seat at the table may make a call or be joined, and is at the table afterwards, also after
--- a split; held frames exist.
+-- Predicates: how many words a table of n frames has (`IsSized`), a seat is at a table (`FitsIn`), all seats of a list are
+-- (`AllFit`, the invariant of the stores `SharedAccess` and `SharedSupply`). Laws: seats may be in any order; a seat at the
+-- table may make a call or be joined, and is at the table afterwards, also after a split; held frames exist.
 use Rattle.std.proofs.Common.{refl, sym, subst, ◌∙◌, arith}
 use Rattle.std.specs.Prelude.{◌≡◌, ℕ, ◌+◌, ◌*◌, ◌<◌, ◌≤◌, List, [], ◌∷◌, ◌++◌, IsTrue}
 use Rattle.atomic_table.specs.Seated.{TableId}

@@ -6,6 +6,7 @@ use Rattle.atomic_table.specs.Table.{Me, Step}
 use Rattle.frame_store.specs.View.{View, known_word, references, looked, released, without_credits, with_credits, with_word, saw_none}
 use Rattle.frame_store.specs.View.{claimed, shared, read_full}
 use Rattle.shared_frames.specs.Rule.{count_at, memory_at}
+use Rattle.process_model.specs.declared.limits.TheConstants.{MOST_REFERENCES}
 
 -- a seat of the table: its view, and its slots, of which there are none here
 abbrev Seated : Type 0
@@ -30,7 +31,7 @@ abbrev pub GivesBack : StepEffect
 GivesBack st m found w = w ≡ (without_credits st.first m.0, m.1)
 
 abbrev pub Looks : StepEffect
-Looks st m found w = (found ≤ 65535) × ((f : ℕ) → st.word ≡ count_at f → w ≡ (looked f found m.0, m.1)) × (0 < found)
+Looks st m found w = (found ≤ MOST_REFERENCES) × ((f : ℕ) → st.word ≡ count_at f → w ≡ (looked f found m.0, m.1)) × (0 < found)
 
 abbrev pub Releases : StepEffect
 Releases st m found w = (f : ℕ) → st.word ≡ count_at f → w ≡ (let_go f found m.0, m.1)
@@ -55,7 +56,7 @@ Claims st m found w = (f : ℕ) → st.word ≡ count_at f → (w ≡ (cond (fou
 
 -- the view after an exchange that found a count that it did not expect: 65,535, the most there can be, is tallied as read
 abbrev pub unshared : ℕ → View → View
-unshared found v = cond (found == 65535) (read_full v) v
+unshared found v = cond (found == MOST_REFERENCES) (read_full v) v
 
 abbrev pub Shares : StepEffect
-Shares st m found w = (found ≤ 65535) × ((f : ℕ) → st.word ≡ count_at f → w ≡ (cond (found == st.first) (shared f m.0) (unshared found m.0), m.1))
+Shares st m found w = (found ≤ MOST_REFERENCES) × ((f : ℕ) → st.word ≡ count_at f → w ≡ (cond (found == st.first) (shared f m.0) (unshared found m.0), m.1))

@@ -48,8 +48,8 @@ pub struct Totals {
 }
 
 impl SharedFrames {
-    /// Makes `frames` frames, 1 to 256, and returns them with the first seat: the sole holder of frame 0, with one
-    /// reference, which knows no word. The other frames are free.
+    /// Makes `frames` frames, 1 to `MOST_SHARED_FRAMES`, and returns them with the first seat: the sole holder of frame 0,
+    /// with one reference, which knows no word. The other frames are free.
     ///
     /// # Errors
     /// `AllocError`: the host is out of memory.

@@ -1,6 +1,6 @@
-//! A frame store that threads share: the free count, reference counts and words in one table of atomic words, with the
-//! laws of `frame_store`. Structs: `SharedFrames` owns the table, `SharedAccess` and `SharedSupply` are a thread's
-//! handles on it, `SharedSeat` is a seat (an owner's capability at the store), and `Totals` has the counts at the end.
+//! A frame store that threads share: the free count, reference counts and words in one table of atomic words, with the laws
+//! of `frame_store`. Structs: `SharedFrames` owns the table, `SharedAccess` and `SharedSupply` are a thread's handles on it,
+//! `SharedSeat` is a seat, and `Totals` has the counts at the end.
 //!
 //! Word 0 of the table is the free count; then each frame has its reference count and its 512 words. Each step is one atomic
 //! operation on one word. Between any two steps the invariant of `specs/Rule.antt` holds of all words and of the views of

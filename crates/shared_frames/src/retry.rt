@@ -10,11 +10,9 @@ use crate::seat::SharedSeat;
 use crate::steps;
 use crate::table::Words;
 use frame_store::{NoFrame, SharersFull};
+use process_model::MOST_REFERENCES;
 use std::sync::Wait;
 use sv39_entry::FrameNo;
-
-/// The most references that a frame can have.
-const MOST_REFERENCES: u64 = 65_535;
 
 /// Reserves `count` credits for the seat, by one or several exchanges of the free count.
 ///
@@ -92,7 +90,8 @@ pub fn claim<R: Wait>(
 /// shared.
 ///
 /// # Errors
-/// `SharersFull`: the frame's count was read as 65,535, which the seat's tallies record; nothing else of its view changes.
+/// `SharersFull`: the frame's count was read as `MOST_REFERENCES`, which the seat's tallies record; nothing else of its view
+/// changes.
 pub fn share<R: Wait>(
     rt: &R,
     table: &Words,
@@ -112,7 +111,7 @@ pub fn share<R: Wait>(
         if found == expected {
             return Ok(());
         }
-        if found == MOST_REFERENCES {
+        if found == u64::from(MOST_REFERENCES) {
             return Err(SharersFull);
         }
         expected = found;

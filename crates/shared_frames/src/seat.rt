@@ -1,5 +1,5 @@
-// `SharedSeat`, a struct: a seat (an owner's capability) at shared frames. And two ghost structs, `Told` and `Knowledge`,
-// by which the table's types name its view (what the seat holds and knows).
+// `SharedSeat`, a struct: a seat at shared frames. And two ghost structs, `Told` and `Knowledge`, by which the table's types
+// name its view (what the seat holds and knows).
 
 ghost use Rattle.std.specs.Borrow.{ftrue};
 ghost use Rattle.std.specs.Prelude.{◌≡◌, []};

@@ -1,6 +1,5 @@
-// Crate-internal functions `split` and `join` over shared frames: a seat (an owner's capability) is split in two, or two
-// seats become one; and the ghost types that name for the table how their views change. The table makes one atomic load
-// for each of these.
+// Crate-internal functions `split` and `join` over shared frames: a seat is split in two, or two seats become one; and the
+// ghost types that name for the table how their views change. The table makes one atomic load for each of these.
 
 ghost use Rattle.std.specs.Prelude.{◌≡◌, ℕ, List, [], map};
 ghost use Rattle.frame_store.specs.Laws.{IsAnchored};

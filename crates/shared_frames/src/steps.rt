@@ -7,6 +7,7 @@ ghost use Rattle.frame_store.specs.Laws.{IsAnchored};
 ghost use Rattle.frame_store.specs.View.{IsHeld, IsSole, known_word, references, claimed, looked, released, shared, with_credits, with_word, without_credits};
 ghost use Rattle.shared_frames.specs.SeatsOfTable.{FitsIn, IsSized, view_of};
 ghost use Rattle.shared_frames.specs.StepEffects.{let_go, saw_free, unshared};
+ghost use Rattle.process_model.specs.declared.limits.TheConstants.{MOST_REFERENCES};
 
 use crate::seat::SharedSeat;
 use crate::step_kinds::{
@@ -75,17 +76,17 @@ pub fn try_claim(table: &Words, seat: &mut SharedSeat, frame: FrameNo) -> u64
     table.compare_exchange::<Claim>(&mut seat.seat, FRAME_WORDS * frame.0 as usize + 1, 0, 1)
 }
 
-/// Exchanges the count of a held frame for `old + 1` if it is `old`, and returns the count as it was, at most 65,535. If
-/// that is `old`, the seat has one more reference; otherwise its view is unchanged, except that its tallies record a count
-/// of 65,535.
+/// Exchanges the count of a held frame for `old + 1` if it is `old`, and returns the count as it was, at most
+/// `MOST_REFERENCES`. If that is `old`, the seat has one more reference; otherwise its view is unchanged, except that its
+/// tallies record a count of `MOST_REFERENCES`.
 pub fn try_share(table: &Words, seat: &mut SharedSeat, frame: FrameNo, old: u64) -> u64
     requires sized { IsSized table.now.table_id.words table.now.key }
     requires fits { FitsIn table.now.table_id seat.old }
     requires held { IsHeld (view_of seat.old) frame.0 }
-    requires few { old < 65535 }
+    requires few { old < MOST_REFERENCES }
     ensures fits { FitsIn table.now.table_id seat.new }
     ensures view { view_of seat.new ≡ cond (result == old) (shared frame.0 (view_of seat.old)) (unshared result (view_of seat.old)) }
-    ensures few { result ≤ 65535 }
+    ensures few { result ≤ MOST_REFERENCES }
 {
     table.compare_exchange::<Share>(
         &mut seat.seat,
@@ -95,8 +96,8 @@ pub fn try_share(table: &Words, seat: &mut SharedSeat, frame: FrameNo, old: u64)
     )
 }
 
-/// Loads the count of a held frame, 1 to 65,535, and returns it; the seat's tallies record it. If it is 1, the seat is known
-/// to be the sole holder.
+/// Loads the count of a held frame, 1 to `MOST_REFERENCES`, and returns it; the seat's tallies record it. If it is 1, the
+/// seat is known to be the sole holder.
 pub fn look(table: &Words, seat: &mut SharedSeat, frame: FrameNo) -> u64
     requires sized { IsSized table.now.table_id.words table.now.key }
     requires fits { FitsIn table.now.table_id seat.old }
@@ -104,7 +105,7 @@ pub fn look(table: &Words, seat: &mut SharedSeat, frame: FrameNo) -> u64
     ensures fits { FitsIn table.now.table_id seat.new }
     ensures view { view_of seat.new ≡ looked frame.0 result (view_of seat.old) }
     ensures some { 0 < result }
-    ensures few { result ≤ 65535 }
+    ensures few { result ≤ MOST_REFERENCES }
 {
     table.load::<Look>(&mut seat.seat, FRAME_WORDS * frame.0 as usize + 1)
 }

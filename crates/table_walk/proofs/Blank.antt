@@ -1,5 +1,5 @@
--- Lemmas about what a seat (an owner's capability at a frame store) holds and knows when a frame is claimed and cleared: it
--- knows that each of the 512 words is 0, and has of every other frame what it had.
+-- Lemmas about what a seat holds and knows when a frame is claimed and cleared: it knows that each of the 512 words is 0, and
+-- has of every other frame what it had.
 use Rattle.std.proofs.Common.{◌≡◌, ℕ, zero, suc, ◌+◌, ◌-◌, ◌<◌, refl, ap, sym, subst, ◌∙◌, Some, IsTrue, inl, inr, arith}
 use Rattle.std.proofs.lemmas.Bool.{cases_eq}
 use Rattle.std.specs.FinMap as map

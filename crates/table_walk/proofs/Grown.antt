@@ -1,6 +1,5 @@
--- Lemmas about growth of page tables on the way to a page, one empty table after another (`Grows`): the seat (an owner's
--- capability at a frame store) still has the tables, with the new one; each takes one credit (reserved frame); and a credit
--- is left for each that is missing.
+-- Lemmas about growth of page tables on the way to a page, one empty table after another (`Grows`): the seat still has the
+-- tables, with the new one; each takes one credit (reserved frame); and a credit is left for each that is missing.
 use Rattle.std.proofs.Common.{◌≡◌, ℕ, zero, suc, ◌+◌, ◌-◌, ◌*◌, ◌/◌, ◌^◌, ◌<◌, ◌≤◌, ◌⊎◌, inl, inr, refl, ap, sym, subst, ◌∙◌, arith, Option, Some, None, IsTrue, unwrap_or}
 use Rattle.std.proofs.lemmas.Bool.{cases_eq, cases_lt}
 use Rattle.std.proofs.lemmas.Option.{same_Some}

@@ -1,6 +1,5 @@
 -- Lemmas about tables in which the last one on the way to a page is there: no table on the way is missing, so that these
--- tables are already grown as far as the page (`IsGrown`), and growing them changes nothing for the seat (an owner's capability
--- at a frame store).
+-- tables are already grown as far as the page (`IsGrown`), and growing them changes nothing for the seat.
 use Rattle.std.proofs.Common.{◌≡◌, ℕ, inl, refl, Option, Some, None}
 use Rattle.std.specs.FinMap.{get}
 use Rattle.frame_store.specs.View.{View}

@@ -1,6 +1,6 @@
--- Lemmas about writing one word of a last-level page table: the seat (an owner's capability at a frame store) then has the
--- tables with that leaf put (`put_page`) or removed (`drop_page`); and walks find that leaf for the page, or none, and for
--- pages with other table indices what they found.
+-- Lemmas about writing one word of a last-level page table: the seat then has the tables with that leaf put (`put_page`) or
+-- removed (`drop_page`); and walks find that leaf for the page, or none, and for pages with other table indices what they
+-- found.
 use Rattle.std.proofs.Common.{◌≡◌, ℕ, ◌+◌, ◌*◌, ◌/◌, ◌<◌, ◌≤◌, inl, inr, refl, ap, sym, subst, ◌∙◌, arith, Option, Some, None, unwrap_or}
 use Rattle.std.proofs.lemmas.Bool.{cases_eq, cases_lt}
 use Rattle.std.proofs.lemmas.Option.{same_Some}

@@ -1,6 +1,5 @@
--- Lemmas about a new root: a seat (an owner's capability at a frame store) that holds its frame once and knows each of its
--- words as 0 has the page tables of a bare root (`bare_root`), which are that one table and no leaf; and it holds frame 0 as
--- before.
+-- Lemmas about a new root: a seat that holds its frame once and knows each of its words as 0 has the page tables of a bare
+-- root (`bare_root`), which are that one table and no leaf; and it holds frame 0 as before.
 use Rattle.std.proofs.Common.{◌≡◌, ℕ, ◌+◌, ◌*◌, ◌^◌, ◌<◌, refl, ap, sym, subst, ◌∙◌, arith, inl, inr, Option, None, Some, lit<}
 use Rattle.std.proofs.lemmas.Bool.{cases_eq}
 use Rattle.std.proofs.lemmas.Option.{same_Some}

@@ -1,6 +1,5 @@
 -- Lemmas about release of page tables one by one, each after the tables below it and after the pointer to it is cleared, the
--- root last: the seat (an owner's capability at a frame store) then holds none of their frames, and has the other frames,
--- credits (reserved frames) and tallies that it had.
+-- root last: the seat then holds none of their frames, and has the other frames, credits and tallies that it had.
 use Rattle.std.proofs.Common.{◌≡◌, ℕ, zero, suc, ◌+◌, ◌-◌, ◌*◌, ◌/◌, ◌%◌, ◌^◌, ◌<◌, ◌≤◌, inl, inr, refl, ap, sym, subst, ◌∙◌, arith, cond, true, Option, Some, None}
 use Rattle.std.proofs.lemmas.Bool.{cases_eq, cases_lt, eq-eqb}
 use Rattle.std.proofs.lemmas.Option.{same_Some}

@@ -1,5 +1,5 @@
--- Lemma: over the page tables that a seat (an owner's capability at a frame store) has, if each leaf names a frame, an
--- access is translated to what the tables say (`walk_answer`): the leaf and the physical address, or a page fault.
+-- Lemma: over the page tables that a seat has, if each leaf names a frame, an access is translated to what the tables say
+-- (`walk_answer`): the leaf and the physical address, or a page fault.
 use Rattle.std.proofs.Common.{◌≡◌, ℕ, true, is_some, Option, None, option_map, Some, refl, ap, sym, ◌∙◌, inl, inr}
 use Rattle.std.proofs.lemmas.Bool.{cases_Bool}
 use Rattle.std.specs.FinMap.{get}

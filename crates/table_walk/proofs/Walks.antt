@@ -1,6 +1,5 @@
--- Lemmas about walks over the page tables that a seat (an owner's capability at a frame store) has: they find exactly the
--- tables' leaves, each at level 0; a leaf is global if and only if it has G itself; no walk leaves the memory; and all
--- tables on a way may be read.
+-- Lemmas about walks over the page tables that a seat has: they find exactly the tables' leaves, each at level 0; a leaf is
+-- global if and only if it has G itself; no walk leaves the memory; and all tables on a way may be read.
 use Rattle.std.proofs.Common.{◌≡◌, ◌↔◌, ℕ, zero, suc, ◌+◌, ◌-◌, ◌*◌, ◌/◌, ◌%◌, ◌^◌, ◌<◌, ◌≤◌, inl, inr, refl, ap, sym, subst, ◌∙◌, arith, true, false, Option, Some, None, IsSome, unwrap_or}
 use Rattle.std.specs.Prelude.{option_and_then}
 use Rattle.std.proofs.lemmas.Bool.{cases_eq, le-leb, lt-ltb}

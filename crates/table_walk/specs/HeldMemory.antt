@@ -1,6 +1,5 @@
--- The frames that a seat (an owner's capability at a frame store) holds, as a memory for walks: its words are those that the
--- seat knows (`held_memory`); which page numbers may be read (`IsReadable`); and a lemma, in these each word is known
--- exactly when the number is a frame's.
+-- The frames that a seat holds, as a memory for walks: its words are those that the seat knows (`held_memory`); which page
+-- numbers may be read (`IsReadable`); and a lemma, in these each word is known exactly when the number is a frame's.
 use Rattle.std.proofs.Common.{refl}
 use Rattle.std.specs.Prelude.{is_some, None, Option, ◌≡◌, ℕ, ◌<◌, Some, IsSome, option_and_then}
 use Rattle.frame_store.specs.View.{View, IsHeld, known_word}

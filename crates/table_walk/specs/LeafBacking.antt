@@ -1,6 +1,6 @@
--- `IsBacked`: which leaves may be written to a page table. Of a leaf for the user (U), a seat (an owner's capability at a
--- frame store) knows all words of the frame that it names, if it names one, and is its sole holder if the leaf permits
--- stores (W). A lemma: each leaf for the kernel alone is backed.
+-- `IsBacked`: which leaves may be written to a page table. Of a leaf for the user (U), a seat knows all words of the frame
+-- that it names, if it names one, and is its sole holder if the leaf permits stores (W). A lemma: each leaf for the kernel
+-- alone is backed.
 use Rattle.std.proofs.Common.{◌≡◌, ℕ, true, false, Some, sym, ◌∙◌}
 use Rattle.frame_store.specs.View.{AllKnown, IsSole, View}
 use Rattle.sv39_entry.specs.Address.{has}

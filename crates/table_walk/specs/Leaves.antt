@@ -1,6 +1,6 @@
 -- `Leaf`, a record of a leaf's word and level. Then the outcome of an access by a leaf or without one (`answer`), and by the
--- page tables that a seat (an owner's capability at a frame store) has (`walk_answer`); and predicates of these tables: each
--- leaf names a frame (`LeavesAreThere`), none has G (`LeavesAreLocal`).
+-- page tables that a seat has (`walk_answer`); and predicates of these tables: each leaf names a frame (`LeavesAreThere`),
+-- none has G (`LeavesAreLocal`).
 use Rattle.std.specs.Prelude.{◌≡◌, ℕ, ◌/◌, false, true, is_some, Option, None, Some, option_map, if◌then◌else◌}
 use Rattle.std.proofs.Common.{arith}
 use Rattle.std.specs.FinMap.{get}

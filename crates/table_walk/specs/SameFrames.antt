@@ -1,5 +1,5 @@
--- Lemma: a seat (an owner's capability at a frame store) still has the page tables below a root after any change that leaves
--- what it holds and knows of their frames as it was (`same_tables`).
+-- Lemma: a seat still has the page tables below a root after any change that leaves what it holds and knows of their frames
+-- as it was (`same_tables`).
 use Rattle.std.proofs.Common.{◌≡◌, ℕ, ◌<◌, Some, sym, ap, ◌∙◌, subst}
 use Rattle.std.specs.FinMap.{get}
 use Rattle.frame_store.specs.View.{Hold, View, hold_of, IsHeld}

@@ -1,6 +1,6 @@
--- `AreLast`: which page tables may be released: they have no leaf, and the seat (an owner's capability at a frame store)
--- holds each of their frames once. `ReleasesTables`: what a release of some changes in the tables and in what the seat
--- holds. `SameTallies`: the seat's credits (reserved frames) and tallies stay.
+-- `AreLast`: which page tables may be released: they have no leaf, and the seat holds each of their frames once.
+-- `ReleasesTables`: what a release of some changes in the tables and in what the seat holds. `SameTallies`: the seat's
+-- credits and tallies stay.
 use Rattle.std.specs.Prelude.{◌≡◌, ℕ, ◌≤◌, None, Some}
 use Rattle.std.specs.FinMap.{get, remove}
 use Rattle.frame_store.specs.View.{View, hold_of, IsHeld, not_held, references}

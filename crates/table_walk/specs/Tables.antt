@@ -1,7 +1,6 @@
 -- `Tables`: the page tables below a root as a record of two finite maps, by number: the frames of tables and the words of
--- leaves. `HasTables`: a seat (an owner's capability at a frame store) knows them by the words of its frames. Then changes:
--- a leaf put or removed, a table added, those missing on the way to a page made (`IsGrown`), and what that changes for the
--- seat (`ChangesTables`).
+-- leaves. `HasTables`: a seat knows them by the words of its frames. Then changes: a leaf put or removed, a table added,
+-- those missing on the way to a page made (`IsGrown`), and what that changes for the seat (`ChangesTables`).
 use Rattle.std.specs.Prelude.{◌≡◌, ℕ, zero, suc, ◌+◌, ◌-◌, ◌*◌, ◌/◌, ◌^◌, ◌<◌, ◌≤◌, ◌⊎◌, nat_lt, is_some, true, if◌then◌else◌, Option, None, Some, unwrap_or}
 use Rattle.std.specs.Ordering.{nat_cmp}
 use Rattle.std.specs.FinMap.{FinMap, empty, get, insert, remove}

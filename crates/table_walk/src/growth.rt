@@ -1,5 +1,5 @@
-// Makes new page tables of frames that the seat (an owner's capability at a frame store) reserved: one empty table, which
-// can be a root (`new_table`), and those that are missing on the way to a page (`grown_table`).
+// Makes new page tables of frames that the seat reserved: one empty table, which can be a root (`new_table`), and those that
+// are missing on the way to a page (`grown_table`).
 
 ghost use Rattle.std.specs.FinMap.{get};
 ghost use Rattle.std.specs.Prelude.{◌≡◌, ◌<◌, ◌≤◌, ℕ, Some};

@@ -1,5 +1,5 @@
-// `HeldWords`: a struct, a frame store and a seat (an owner's capability at a frame store) as a memory for walks. It
-// implements `Words`: a walk reads the words of the frames that the seat holds.
+// `HeldWords`: a struct, a frame store and a seat as a memory for walks. It implements `Words`: a walk reads the words of the
+// frames that the seat holds.
 
 use crate::words::Words;
 use frame_store::{FrameAccess, FrameSeat};

@@ -1,6 +1,6 @@
 // Three laws of walks. Over any memory: a walk finds exactly one thing for an address (`one_found`), and an access is
-// translated to exactly one outcome (`one_outcome`). Over the page tables that a seat (an owner's capability at a frame
-// store) has: walks find exactly their leaves, and stay inside the memory (`walks_of_tables`).
+// translated to exactly one outcome (`one_outcome`). Over the page tables that a seat has: walks find exactly their leaves,
+// and stay inside the memory (`walks_of_tables`).
 
 ghost use Rattle.std.specs.FinMap.{get};
 ghost use Rattle.std.specs.Prelude.{◌≡◌, ◌↔◌, ℕ, Some, true};

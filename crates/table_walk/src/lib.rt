@@ -1,6 +1,6 @@
 //! Page tables in memory under Sv39 (three levels) and Sv48 (four levels): the walk to a leaf, translation of accesses, and
-//! for tables in frames of a seat (an owner's capability at a frame store) map, protect, unmap, enumeration of leaves,
-//! growth and release (RISC-V Privileged Architecture 20211203, 4.3.2, 4.4 and 4.5, "the standard").
+//! for tables in frames of a seat map, protect, unmap, enumeration of leaves, growth and release (RISC-V Privileged
+//! Architecture 20211203, 4.3.2, 4.4 and 4.5, "the standard").
 #![tactic(auto)]
 
 mod change;

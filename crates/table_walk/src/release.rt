@@ -15,9 +15,9 @@ use crate::tables::child;
 use frame_store::{FrameAccess, FrameSeat};
 use sv39_entry::{FrameNo, Scheme};
 
-/// Releases the frames of the tables below a root, the root's last. The tables must have no leaf, and the seat must hold
-/// each of their frames once, and frame 0 too, which is none of them. The seat then holds none of their frames; it keeps
-/// what it has of other frames, and its credits (reserved frames). Cannot fail.
+/// Releases the frames of the tables below a root, the root's last. The tables must have no leaf, and the seat must hold each
+/// of their frames once, and frame 0 too, which is none of them. The seat then holds none of their frames; it keeps what it
+/// has of other frames, and its credits. Cannot fail.
 pub fn release_tables<F: FrameAccess>(
     store: &mut F,
     seat: &mut F::Seat,

@@ -122,8 +122,8 @@ pub(crate) fn table_of<F: FrameAccess>(
     table_at(store, seat, scheme, root, page, scheme.top_level())
 }
 
-/// Returns how many tables are missing on the way to `page`, and so how many credits (reserved frames) `map` needs: at most
-/// two under Sv39, three under Sv48. The seat must have the tables below `root`. Changes nothing.
+/// Returns how many tables are missing on the way to `page`, and so how many credits `map` needs: at most two under Sv39,
+/// three under Sv48. The seat must have the tables below `root`. Changes nothing.
 pub fn missing_tables<F: FrameAccess>(
     store: &mut F,
     seat: &mut F::Seat,

@@ -1,6 +1,6 @@
 // Translation of an access to a physical address or a fault: the walk, then the rights, then whether the byte is in memory.
-// `translate` is for any memory, `translate_held` for the page tables that a seat (an owner's capability at a frame store)
-// has; `has_byte` is the last of the three tests.
+// `translate` is for any memory, `translate_held` for the page tables that a seat has; `has_byte` is the last of the three
+// tests.
 
 ghost use Rattle.std.specs.Prelude.{◌≡◌};
 ghost use Rattle.frame_store.specs.Laws.{IsSeatOf, KeepsSeats};

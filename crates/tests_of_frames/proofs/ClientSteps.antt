@@ -1,5 +1,5 @@
 -- Lemmas for the tests of clients of a frame store: what the places of a `Pool` hold and know after a fill and a close; the
--- word known in a frame just filled; and a second seat (an owner's capability at the store), opened beside the first.
+-- word known in a frame just filled; and a second seat, opened beside the first.
 use Rattle.std.proofs.Common.{◌≡◌, ℕ, List, [], ◌∷◌, Option, None, Some, replicate, ap, sym, subst, ◌∙◌}
 use Rattle.std.specs.Prelude.{slice_get, slice_index, slice_set, IsSome}
 use Rattle.std.proofs.lemmas.Option.{get_or_from_slice_get}

@@ -1,5 +1,5 @@
--- Lemmas for the byte tests: which frames their seat (an owner's capability at the store) holds, is the sole holder of, and
--- knows the bytes of (`Owns`, `OwnsBoth`) when frames are reserved, claimed, filled or changed.
+-- Lemmas for the byte tests: which frames their seat holds, is the sole holder of, and knows the bytes of (`Owns`,
+-- `OwnsBoth`) when frames are reserved, claimed, filled or changed.
 use Rattle.std.proofs.Common.{◌≡◌, ◌≢◌, ℕ, ◌<◌, List, [], ◌∷◌, refl, ap, sym, subst, ◌∙◌, lit<, arith}
 use Rattle.std.specs.Prelude.{IsTrue}
 use Rattle.frame_store.specs.Plain.{PlainState, PlainStateRule}

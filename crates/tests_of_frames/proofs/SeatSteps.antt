@@ -1,5 +1,5 @@
--- Lemmas for the tests of both frame stores: which frames a seat (an owner's capability) holds after each call (reserve,
--- give back, claim, share, look, store, release), in a round of two frames (`Round`), and after a second seat is split off.
+-- Lemmas for the tests of both frame stores: which frames a seat holds after each call (reserve, give back, claim, share,
+-- look, store, release), in a round of two frames (`Round`), and after a second seat is split off.
 use Rattle.std.proofs.Common.{◌≡◌, ◌≢◌, inl, inr, ℕ, ◌+◌, ◌-◌, ◌<◌, refl, ap, sym, ◌∙◌, subst, Result, Ok, Err, IfOk, IfErr, [], ◌∷◌, arith, lit<}
 use Rattle.std.specs.Prelude.{IsOk}
 use Rattle.std.proofs.lemmas.Bool.Decides.{eqb_tells}

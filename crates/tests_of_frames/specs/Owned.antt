@@ -1,6 +1,5 @@
--- Predicates on the seat (an owner's capability at a frame store) of the byte tests (`Bench`), by its view (what it holds
--- and knows): it is the sole holder of a frame and knows its bytes (`Owns`), and so of two frames, between calls
--- (`OwnsBoth`).
+-- Predicates on the seat of the byte tests (`Bench`), by its view (what it holds and knows): it is the sole holder of a frame
+-- and knows its bytes (`Owns`), and so of two frames, between calls (`OwnsBoth`).
 use Rattle.std.specs.Prelude.{◌≢◌, ℕ, List, [], ◌∷◌}
 use Rattle.frame_store.specs.Plain.{PlainState, PlainStateRule}
 use Rattle.frame_store.specs.View.{View, IsHeld, IsSole}

@@ -1,5 +1,5 @@
-// Tests that `PlainFrames` counts references of a frame up to 65,535, refuses to reserve more frames than are free beside
-// the credits (reserved frames) of another seat (an owner's capability at the store), and reports the counts of all frames.
+// Tests that `PlainFrames` counts references of a frame up to 65,535, refuses to reserve more frames than are free beside the
+// credits of another seat, and reports the counts of all frames.
 
 use frame_store::{FrameAccess, FrameSupply, NoFrame, PlainFrames, SharersFull};
 use std::test::Fail;

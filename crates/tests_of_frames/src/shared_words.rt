@@ -1,6 +1,6 @@
-// Tests that `SharedFrames` returns the right reference counts (up to 65,535), refusals of credits (reserved frames) and
-// words, and the right totals after four threads, each with its own seat (an owner's capability at the store), used the
-// frames. Helpers: `round` claims, shares and releases frames over any store, `work` does so 1,000 times.
+// Tests that `SharedFrames` returns the right reference counts (up to 65,535), refusals of credits and words, and the right
+// totals after four threads, each with its own seat, used the frames. Helpers: `round` claims, shares and releases frames
+// over any store, `work` does so 1,000 times.
 
 ghost use Rattle.std.specs.Prelude.{◌≡◌, ◌<◌, IfOk, IfSome};
 ghost use Rattle.std.specs.Thread.{IsSync};

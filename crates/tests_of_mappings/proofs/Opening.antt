@@ -1,5 +1,4 @@
--- Lemma: the first seat (an owner's capability) of a store holds the trampoline's frame (`HoldsTrampoline`), as building a
--- space needs.
+-- Lemma: the first seat of a store holds the trampoline's frame (`HoldsTrampoline`), as building a space needs.
 use Rattle.std.proofs.Common.{◌≡◌, ℕ, ap, refl, subst, sym, ◌∙◌}
 use Rattle.frame_store.specs.Holds.{hold_of-empty, hold_of-with_hold_other, hold_of-with_hold_same}
 use Rattle.frame_store.specs.View.{Hold, View, empty_view, opening_view, sole_hold}

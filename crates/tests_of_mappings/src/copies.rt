@@ -6,6 +6,8 @@ use crate::kernel_copies::counted;
 use crate::operation::Operation::{CopyIn, CopyOut, Load, Map, Unmap};
 use crate::operation::Row;
 use crate::stores::{Story, first_wrong_outcome};
+use process_model::Reply::Scalar;
+use process_model::ScalarReply::{CopiedOut, Done, Fault, MappedAt, Refused, ShortOut, Value};
 use process_model::{Refusal, Reply};
 use std::test::Fail;
 use sv39_entry::Rule;
@@ -13,26 +15,29 @@ use sv39_entry::Rule;
 /// Maps two pages of file 2 privately, and copies 250 bytes to them and from them, across the end of the first page.
 fn across() -> [Row; 8] {
     [
-        (Map(8_192, 3, 2, 2), Reply::MappedAt(0x3fffffc000)),
-        (CopyOut(0x3fffffcf81, 1, 250), Reply::CopiedOut(250)),
+        (Map(8_192, 3, 2, 2), Scalar(MappedAt(0x3fffffc000))),
+        (CopyOut(0x3fffffcf81, 1, 250), Scalar(CopiedOut(250))),
         (CopyIn(0x3fffffcf81, 250), Reply::CopiedIn(counted(1, 250))),
         // the bytes just before the copied ones, and just after them, are the file's
-        (Load(0x3fffffcf80, 2), Reply::Value(0x018f)),
-        (Load(0x3fffffd07a, 2), Reply::Value(0x90fa)),
+        (Load(0x3fffffcf80, 2), Scalar(Value(0x018f))),
+        (Load(0x3fffffd07a, 2), Scalar(Value(0x90fa))),
         (CopyIn(0x3fffffcf7f, 1), Reply::CopiedIn(counted(0x8f, 1))),
         // a copy of no bytes succeeds at any address
         (
             CopyIn(0x8000000000000000, 0),
             Reply::CopiedIn(counted(0, 0)),
         ),
-        (CopyOut(0x1000, 0, 0), Reply::CopiedOut(0)),
+        (CopyOut(0x1000, 0, 0), Scalar(CopiedOut(0))),
     ]
 }
 
 /// Copies that stop: after the process's only page; at TRAPFRAME, 16 bytes after the start; at a page that grants no stores.
 fn denied() -> [Row; 9] {
     [
-        (CopyOut(0xff8, 0x41, 16), Reply::ShortOut(Rule::NoRegion, 8)),
+        (
+            CopyOut(0xff8, 0x41, 16),
+            Scalar(ShortOut(Rule::NoRegion, 8)),
+        ),
         (
             CopyIn(0xff8, 16),
             Reply::ShortIn(Rule::NoRegion, counted(0x41, 8)),
@@ -41,19 +46,19 @@ fn denied() -> [Row; 9] {
             CopyIn(0x1000, 16),
             Reply::ShortIn(Rule::NoRegion, counted(0, 0)),
         ),
-        (Map(4_096, 3, 2, 2), Reply::MappedAt(0x3fffffd000)),
+        (Map(4_096, 3, 2, 2), Scalar(MappedAt(0x3fffffd000))),
         (
             CopyOut(0x3fffffdff0, 7, 256),
-            Reply::ShortOut(Rule::KernelPage, 16),
+            Scalar(ShortOut(Rule::KernelPage, 16)),
         ),
         (
             CopyIn(0x3fffffdff0, 17),
             Reply::ShortIn(Rule::KernelPage, counted(7, 16)),
         ),
-        (Map(4_096, 1, 2, 2), Reply::MappedAt(0x3fffffc000)),
+        (Map(4_096, 1, 2, 2), Scalar(MappedAt(0x3fffffc000))),
         (
             CopyOut(0x3fffffcfff, 7, 2),
-            Reply::ShortOut(Rule::NoWrite, 0),
+            Scalar(ShortOut(Rule::NoWrite, 0)),
         ),
         (CopyIn(0x3fffffcfff, 1), Reply::CopiedIn(counted(0x8f, 1))),
     ]
@@ -62,16 +67,16 @@ fn denied() -> [Row; 9] {
 /// One frame is free and a copy needs two: it stops at the second page, and the bytes in the first page stay copied.
 fn dry() -> [Row; 5] {
     [
-        (Map(8_192, 3, 2, 2), Reply::MappedAt(0x3fffffc000)),
+        (Map(8_192, 3, 2, 2), Scalar(MappedAt(0x3fffffc000))),
         (
             CopyOut(0x3fffffcf81, 1, 250),
-            Reply::ShortOut(Rule::NoFrame, 127),
+            Scalar(ShortOut(Rule::NoFrame, 127)),
         ),
         (
             CopyIn(0x3fffffcf81, 250),
             Reply::ShortIn(Rule::NoFrame, counted(1, 127)),
         ),
-        (Load(0x3fffffd000, 1), Reply::Fault(13)),
+        (Load(0x3fffffd000, 1), Scalar(Fault(13))),
         (CopyIn(0x3fffffcf81, 127), Reply::CopiedIn(counted(1, 127))),
     ]
 }
@@ -80,16 +85,16 @@ fn dry() -> [Row; 5] {
 /// count of bytes; what it copied before stays.
 fn unpromised() -> [Row; 8] {
     [
-        (Map(8_192, 3, 2, 2), Reply::MappedAt(0x3fffffc000)),
+        (Map(8_192, 3, 2, 2), Scalar(MappedAt(0x3fffffc000))),
         (
             CopyOut(0x3fffffcf81, 1, 250),
-            Reply::Refused(Refusal::Memory),
+            Scalar(Refused(Refusal::Memory)),
         ),
-        (Load(0x3fffffd000, 1), Reply::Fault(13)),
+        (Load(0x3fffffd000, 1), Scalar(Fault(13))),
         (CopyIn(0x3fffffcf81, 127), Reply::CopiedIn(counted(1, 127))),
-        (CopyOut(0x3fffffcf81, 2, 250), Reply::CopiedOut(250)),
+        (CopyOut(0x3fffffcf81, 2, 250), Scalar(CopiedOut(250))),
         (CopyIn(0x3fffffcf81, 250), Reply::CopiedIn(counted(2, 250))),
-        (Unmap(0x3fffffc000, 8_192), Reply::Done),
+        (Unmap(0x3fffffc000, 8_192), Scalar(Done)),
         (
             CopyIn(0x3fffffcf81, 250),
             Reply::ShortIn(Rule::NoRegion, counted(0, 0)),

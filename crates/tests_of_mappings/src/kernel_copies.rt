@@ -8,7 +8,7 @@ use address_space::Space;
 use arrayvec::ArrayVec;
 use file_cabinet::Files;
 use frame_store::{FrameSeat, FrameSupply};
-use process_model::{Refusal, Reply};
+use process_model::{Refusal, Reply, ScalarReply};
 use sv39_entry::Va;
 use user_copy::{Short, Stop, copy_in, copy_out};
 
@@ -38,7 +38,7 @@ pub(crate) fn copy_from<S: FrameSeat, F: FrameSupply<Seat = S>, C: Files>(
     ensures keeps { KeepsSeats F.rule store.old space.old.seat store.new space.new.seat }
 {
     if count > 256 {
-        return Reply::Refused(Refusal::BadArgument);
+        return Reply::Scalar(ScalarReply::Refused(Refusal::BadArgument));
     }
     match copy_in(space, store, files, va, count) {
         Ok(bytes) => Reply::CopiedIn(bytes),
@@ -63,7 +63,7 @@ pub(crate) fn copy_to<S: FrameSeat, F: FrameSupply<Seat = S>, C: Files>(
 {
     let bytes = counted(first, count);
     match copy_out(space, store, files, va, bytes.as_slice()) {
-        Ok(()) => Reply::CopiedOut(bytes.len()),
+        Ok(()) => Reply::Scalar(ScalarReply::CopiedOut(bytes.len())),
         Err(short) => stopped(short, false),
     }
 }
@@ -72,7 +72,7 @@ pub(crate) fn copy_to<S: FrameSeat, F: FrameSupply<Seat = S>, C: Files>(
 fn stopped(short: Short, from: bool) -> Reply {
     match short.rule {
         Stop::Denied(rule) if from => Reply::ShortIn(rule, short.bytes),
-        Stop::Denied(rule) => Reply::ShortOut(rule, short.done),
-        Stop::Unpromised(refusal) => Reply::Refused(refusal),
+        Stop::Denied(rule) => Reply::Scalar(ScalarReply::ShortOut(rule, short.done)),
+        Stop::Unpromised(refusal) => Reply::Scalar(ScalarReply::Refused(refusal)),
     }
 }

@@ -12,6 +12,8 @@ use address_space::{AccessRequest, Space};
 use file_cabinet::{Files, PromiseError};
 use frame_store::{FrameAccess, FrameSeat, FrameSupply};
 use mmap_regions::{mmap, munmap, promise_write_back, write_back};
+use process_model::Reply::Scalar;
+use process_model::ScalarReply::{Done, MappedAt, Ready, Refused, Value};
 use process_model::{Refusal, Reply, is_width};
 use sv39_entry::{Access, Mode, Va};
 
@@ -55,15 +57,15 @@ fn perform<S: FrameSeat, F: FrameSupply<Seat = S>, C: Files>(
     match operation {
         Operation::Map(length, protection, flags, file) => {
             match mmap(space, files, length, protection, flags, file) {
-                Ok(address) => Reply::MappedAt(address),
-                Err(refusal) => Reply::Refused(refusal),
+                Ok(address) => Scalar(MappedAt(address)),
+                Err(refusal) => Scalar(Refused(refusal)),
             }
         }
         Operation::Unmap(address, length) => {
-            done(Reply::Done, munmap(space, store, files, address, length))
+            done(Scalar(Done), munmap(space, store, files, address, length))
         }
         Operation::Serve(access, address) => done(
-            Reply::Ready,
+            Scalar(Ready),
             serve(space, store, files, Va(address).page(), access),
         ),
         Operation::Fetch(address) => access(
@@ -89,7 +91,7 @@ fn perform<S: FrameSeat, F: FrameSupply<Seat = S>, C: Files>(
         Operation::CopyOut(address, first, count) => {
             copy_to(space, store, files, Va(address), first, count)
         }
-        Operation::WriteBack => done(Reply::Done, write_all(space, store, files)),
+        Operation::WriteBack => done(Scalar(Done), write_all(space, store, files)),
         Operation::Look(file, offset) => look(files, file, offset),
     }
 }
@@ -98,7 +100,7 @@ fn perform<S: FrameSeat, F: FrameSupply<Seat = S>, C: Files>(
 fn done(reply: Reply, outcome: Result<(), Refusal>) -> Reply {
     match outcome {
         Ok(()) => reply,
-        Err(refusal) => Reply::Refused(refusal),
+        Err(refusal) => Scalar(Refused(refusal)),
     }
 }
 
@@ -114,10 +116,10 @@ fn access<S: FrameSeat, F: FrameAccess<Seat = S>>(
     ensures keeps { KeepsSeats F.rule store.old space.old.seat store.new space.new.seat }
 {
     if !is_width(request.width) {
-        return Reply::Refused(Refusal::BadArgument);
+        return Scalar(Refused(Refusal::BadArgument));
     }
     let walk = space.translate(store, request.va, request.access, Mode::User);
-    space.user_access(store, walk, request)
+    Reply::Scalar(space.user_access(store, walk, request))
 }
 
 /// Writes back the stored pages of all mappings, after a promise for them. `Err` is the refusal of that promise.
@@ -139,8 +141,8 @@ fn write_all<S: FrameSeat, F: FrameAccess<Seat = S>, C: Files>(
 /// Reads the eight bytes of a file from `offset` on, as a number whose lowest byte is the first. Zeros past its end.
 fn look<C: Files>(files: &mut C, file: usize, offset: usize) -> Reply {
     match first_number(files, file, offset) {
-        Ok(number) => Reply::Value(number),
-        Err(error) => Reply::Refused(Refusal::from(error)),
+        Ok(number) => Scalar(Value(number)),
+        Err(error) => Scalar(Refused(Refusal::from(error))),
     }
 }
 

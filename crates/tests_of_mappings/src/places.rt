@@ -5,7 +5,9 @@
 use crate::operation::Operation::{Map, Serve, Unmap};
 use crate::operation::Row;
 use crate::stores::{Story, first_wrong_outcome};
-use process_model::{Refusal, Reply};
+use process_model::Refusal;
+use process_model::Reply::Scalar;
+use process_model::ScalarReply::{Done, MappedAt, Ready, Refused};
 use std::alloc::{AllocError, Global};
 use std::test::Fail;
 use sv39_entry::Access;
@@ -16,18 +18,18 @@ fn sixteen(alloc: Global) -> Result<Vec<Row>, AllocError> {
     let mut rows = Vec::new(alloc);
     for below in 0..16 {
         let address = 0x3fffffd000 - 0x1000 * below;
-        rows.push((Map(4_096, 1, 2, 0), Reply::MappedAt(address)))?;
+        rows.push((Map(4_096, 1, 2, 0), Scalar(MappedAt(address))))?;
     }
-    rows.push((Map(4_096, 1, 2, 0), Reply::Refused(Refusal::MappingsFull)))?;
+    rows.push((Map(4_096, 1, 2, 0), Scalar(Refused(Refusal::MappingsFull))))?;
     // a fault of the request itself is reported before `MappingsFull`
-    rows.push((Map(0, 1, 2, 0), Reply::Refused(Refusal::BadArgument)))?;
+    rows.push((Map(0, 1, 2, 0), Scalar(Refused(Refusal::BadArgument))))?;
     rows.push((
         Map(4_096, 3, 1, 1),
-        Reply::Refused(Refusal::FileNotWritable),
+        Scalar(Refused(Refusal::FileNotWritable)),
     ))?;
     // the sixteenth is at 0x3fffffd000 - 15 * 0x1000; its room is the highest that is free once it is unmapped
-    rows.push((Unmap(0x3ffffee000, 4_096), Reply::Done))?;
-    rows.push((Map(4_096, 1, 2, 0), Reply::MappedAt(0x3ffffee000)))?;
+    rows.push((Unmap(0x3ffffee000, 4_096), Scalar(Done)))?;
+    rows.push((Map(4_096, 1, 2, 0), Scalar(MappedAt(0x3ffffee000))))?;
     Ok(rows)
 }
 
@@ -50,7 +52,7 @@ fn takes_sixteen_mappings(rt: HostRuntime) -> Result<(), Fail> {
 
 #[test]
 fn refuses_in_order(rt: HostRuntime) -> Result<(), Fail> {
-    let bad = || Reply::Refused(Refusal::BadArgument);
+    let bad = || Scalar(Refused(Refusal::BadArgument));
     let rows = [
         (Map(0, 1, 2, 0), bad()),
         (Map(1_048_577, 1, 2, 0), bad()),
@@ -64,16 +66,16 @@ fn refuses_in_order(rt: HostRuntime) -> Result<(), Fail> {
         (Map(0, 3, 1, 1), bad()),
         (
             Map(4_096, 3, 1, 1),
-            Reply::Refused(Refusal::FileNotWritable),
+            Scalar(Refused(Refusal::FileNotWritable)),
         ),
         (
             Map(4_096, 2, 1, 1),
-            Reply::Refused(Refusal::FileNotWritable),
+            Scalar(Refused(Refusal::FileNotWritable)),
         ),
-        (Map(4_096, 3, 2, 1), Reply::MappedAt(0x3fffffd000)),
-        (Map(4_096, 5, 1, 1), Reply::MappedAt(0x3fffffc000)),
+        (Map(4_096, 3, 2, 1), Scalar(MappedAt(0x3fffffd000))),
+        (Map(4_096, 5, 1, 1), Scalar(MappedAt(0x3fffffc000))),
         // 256 pages
-        (Map(1_048_576, 7, 2, 0), Reply::MappedAt(0x3fffefc000)),
+        (Map(1_048_576, 7, 2, 0), Scalar(MappedAt(0x3fffefc000))),
     ];
     let story = Story {
         frames: 8,
@@ -88,12 +90,12 @@ fn refuses_in_order(rt: HostRuntime) -> Result<(), Fail> {
 
 #[test]
 fn gives_room_back(rt: HostRuntime) -> Result<(), Fail> {
-    let bad = || Reply::Refused(Refusal::BadArgument);
+    let bad = || Scalar(Refused(Refusal::BadArgument));
     let rows = [
-        (Map(12_288, 1, 2, 0), Reply::MappedAt(0x3fffffb000)),
+        (Map(12_288, 1, 2, 0), Scalar(MappedAt(0x3fffffb000))),
         (
             Unmap(0x3fffffc000, 4_096),
-            Reply::Refused(Refusal::HoleInMapping),
+            Scalar(Refused(Refusal::HoleInMapping)),
         ),
         (Unmap(0x3fffffb001, 4_096), bad()),
         (Unmap(0x3fffffb000, 0), bad()),
@@ -104,16 +106,16 @@ fn gives_room_back(rt: HostRuntime) -> Result<(), Fail> {
         (Unmap(0, 4_096), bad()),
         (Unmap(0xfffffffffffff000, u64::MAX), bad()),
         // one byte is rounded up to a page
-        (Unmap(0x3fffffb000, 1), Reply::Done),
+        (Unmap(0x3fffffb000, 1), Scalar(Done)),
         (Unmap(0x3fffffb000, 1), bad()),
-        (Unmap(0x3fffffc000, 8_192), Reply::Done),
-        (Map(12_288, 1, 2, 0), Reply::MappedAt(0x3fffffb000)),
+        (Unmap(0x3fffffc000, 8_192), Scalar(Done)),
+        (Map(12_288, 1, 2, 0), Scalar(MappedAt(0x3fffffb000))),
         // the last page alone
-        (Unmap(0x3fffffd000, 4_096), Reply::Done),
-        (Map(8_192, 1, 2, 0), Reply::MappedAt(0x3fffff9000)),
+        (Unmap(0x3fffffd000, 4_096), Scalar(Done)),
+        (Map(8_192, 1, 2, 0), Scalar(MappedAt(0x3fffff9000))),
         // two pages, of different mappings
         (Unmap(0x3fffffa000, 8_192), bad()),
-        (Map(4_096, 1, 2, 0), Reply::MappedAt(0x3fffffd000)),
+        (Map(4_096, 1, 2, 0), Scalar(MappedAt(0x3fffffd000))),
     ];
     let story = Story {
         frames: 8,
@@ -128,14 +130,14 @@ fn gives_room_back(rt: HostRuntime) -> Result<(), Fail> {
 
 #[test]
 fn stays_above_the_heap(rt: HostRuntime) -> Result<(), Fail> {
-    let full = || Reply::Refused(Refusal::NoRoom);
+    let full = || Scalar(Refused(Refusal::NoRoom));
     let rows = [
         (Map(12_289, 1, 2, 0), full()),
-        (Map(12_288, 1, 2, 0), Reply::MappedAt(0x3fffffb000)),
+        (Map(12_288, 1, 2, 0), Scalar(MappedAt(0x3fffffb000))),
         (Map(1, 1, 2, 0), full()),
-        (Unmap(0x3fffffb000, 4_096), Reply::Done),
+        (Unmap(0x3fffffb000, 4_096), Scalar(Done)),
         (Map(8_192, 1, 2, 0), full()),
-        (Map(1, 1, 2, 0), Reply::MappedAt(0x3fffffb000)),
+        (Map(1, 1, 2, 0), Scalar(MappedAt(0x3fffffb000))),
     ];
     // the heap ends at 0x3fffffb000, three pages below the trapframe
     let story = Story {
@@ -152,14 +154,14 @@ fn stays_above_the_heap(rt: HostRuntime) -> Result<(), Fail> {
 #[test]
 fn gives_frames_back(rt: HostRuntime) -> Result<(), Fail> {
     let rows = [
-        (Map(8_192, 1, 2, 0), Reply::MappedAt(0x3fffffc000)),
-        (Serve(Access::Load, 0x3fffffc000), Reply::Ready),
+        (Map(8_192, 1, 2, 0), Scalar(MappedAt(0x3fffffc000))),
+        (Serve(Access::Load, 0x3fffffc000), Scalar(Ready)),
         (
             Serve(Access::Load, 0x3fffffd000),
-            Reply::Refused(Refusal::NoFrame),
+            Scalar(Refused(Refusal::NoFrame)),
         ),
-        (Unmap(0x3fffffc000, 4_096), Reply::Done),
-        (Serve(Access::Load, 0x3fffffd000), Reply::Ready),
+        (Unmap(0x3fffffc000, 4_096), Scalar(Done)),
+        (Serve(Access::Load, 0x3fffffd000), Scalar(Ready)),
     ];
     // frame 0, the trapframe, the page of data and five page tables, which serve the mapping too; one of the nine frames is
     // free

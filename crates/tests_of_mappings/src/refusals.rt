@@ -5,7 +5,9 @@
 use crate::operation::Operation::{Load, Look, Map, Serve, Store, Unmap, WriteBack};
 use crate::operation::Row;
 use crate::stores::{Story, first_wrong_outcome};
-use process_model::{Refusal, Reply};
+use process_model::Refusal;
+use process_model::Reply::Scalar;
+use process_model::ScalarReply::{Done, Fault, MappedAt, Ready, Refused, Stored, Value};
 use std::alloc::Global;
 use std::test::Fail;
 use sv39_entry::Access;
@@ -13,11 +15,11 @@ use sv39_entry::Access;
 /// Maps two pages of file 2 shared and stores a byte to each, which takes two promises; then the rows of `more`.
 fn after_stores(alloc: Global, more: Vec<Row>) -> Result<Vec<Row>, Fail> {
     let mut rows = vec![in alloc;
-        (Map(8_192, 3, 1, 2), Reply::MappedAt(0x3fffffc000)),
-        (Serve(Access::Store, 0x3fffffc000), Reply::Ready),
-        (Serve(Access::Store, 0x3fffffd000), Reply::Ready),
-        (Store(0x3fffffc000, 1, 0xc1), Reply::Stored),
-        (Store(0x3fffffd000, 1, 0xd1), Reply::Stored),
+        (Map(8_192, 3, 1, 2), Scalar(MappedAt(0x3fffffc000))),
+        (Serve(Access::Store, 0x3fffffc000), Scalar(Ready)),
+        (Serve(Access::Store, 0x3fffffd000), Scalar(Ready)),
+        (Store(0x3fffffc000, 1, 0xc1), Scalar(Stored)),
+        (Store(0x3fffffd000, 1, 0xd1), Scalar(Stored)),
     ]?;
     for row in more {
         rows.push(row)?;
@@ -27,31 +29,31 @@ fn after_stores(alloc: Global, more: Vec<Row>) -> Result<Vec<Row>, Fail> {
 
 #[test]
 fn unmaps_all_or_nothing(rt: HostRuntime) -> Result<(), Fail> {
-    let memory = || Reply::Refused(Refusal::Memory);
+    let memory = || Scalar(Refused(Refusal::Memory));
     // the munmap of the whole mapping is refused; then, with one promise more, that of its second page alone
     let first_refused = after_stores(
         rt.alloc(),
         vec![in rt.alloc();
             (Unmap(0x3fffffc000, 8_192), memory()),
-            (Look(2, 0), Reply::Value(0x8080808080808080)),
-            (Look(2, 4_096), Reply::Value(0x9090909090909090)),
-            (Load(0x3fffffc000, 1), Reply::Value(0xc1)),
-            (Load(0x3fffffd000, 1), Reply::Value(0xd1)),
-            (Unmap(0x3fffffc000, 8_192), Reply::Done),
-            (Load(0x3fffffc000, 1), Reply::Fault(13)),
-            (Load(0x3fffffd000, 1), Reply::Fault(13)),
+            (Look(2, 0), Scalar(Value(0x8080808080808080))),
+            (Look(2, 4_096), Scalar(Value(0x9090909090909090))),
+            (Load(0x3fffffc000, 1), Scalar(Value(0xc1))),
+            (Load(0x3fffffd000, 1), Scalar(Value(0xd1))),
+            (Unmap(0x3fffffc000, 8_192), Scalar(Done)),
+            (Load(0x3fffffc000, 1), Scalar(Fault(13))),
+            (Load(0x3fffffd000, 1), Scalar(Fault(13))),
         ]?,
     )?;
     let second_refused = after_stores(
         rt.alloc(),
         vec![in rt.alloc();
-            (Unmap(0x3fffffc000, 4_096), Reply::Done),
+            (Unmap(0x3fffffc000, 4_096), Scalar(Done)),
             (Unmap(0x3fffffd000, 4_096), memory()),
-            (Look(2, 4_096), Reply::Value(0x9090909090909090)),
-            (Load(0x3fffffd000, 1), Reply::Value(0xd1)),
-            (Unmap(0x3fffffd000, 4_096), Reply::Done),
-            (Look(2, 4_096), Reply::Value(0x90909090909090d1)),
-            (Load(0x3fffffd000, 1), Reply::Fault(13)),
+            (Look(2, 4_096), Scalar(Value(0x9090909090909090))),
+            (Load(0x3fffffd000, 1), Scalar(Value(0xd1))),
+            (Unmap(0x3fffffd000, 4_096), Scalar(Done)),
+            (Look(2, 4_096), Scalar(Value(0x90909090909090d1))),
+            (Load(0x3fffffd000, 1), Scalar(Fault(13))),
         ]?,
     )?;
     for (promises, rows) in [(2, &first_refused), (3, &second_refused)] {
@@ -72,11 +74,11 @@ fn writes_all_or_nothing(rt: HostRuntime) -> Result<(), Fail> {
     let rows = after_stores(
         rt.alloc(),
         vec![in rt.alloc();
-            (WriteBack, Reply::Refused(Refusal::Memory)),
-            (Look(2, 0), Reply::Value(0x8080808080808080)),
-            (Load(0x3fffffd000, 1), Reply::Value(0xd1)),
-            (Store(0x3fffffc001, 1, 0xc2), Reply::Stored),
-            (WriteBack, Reply::Done),
+            (WriteBack, Scalar(Refused(Refusal::Memory))),
+            (Look(2, 0), Scalar(Value(0x8080808080808080))),
+            (Load(0x3fffffd000, 1), Scalar(Value(0xd1))),
+            (Store(0x3fffffc001, 1, 0xc2), Scalar(Stored)),
+            (WriteBack, Scalar(Done)),
         ]?,
     )?;
     let story = Story {
@@ -93,13 +95,13 @@ fn writes_all_or_nothing(rt: HostRuntime) -> Result<(), Fail> {
 #[test]
 fn gives_no_frame_without_a_promise(rt: HostRuntime) -> Result<(), Fail> {
     let rows = [
-        (Map(4_096, 3, 1, 2), Reply::MappedAt(0x3fffffd000)),
+        (Map(4_096, 3, 1, 2), Scalar(MappedAt(0x3fffffd000))),
         (
             Serve(Access::Store, 0x3fffffd000),
-            Reply::Refused(Refusal::Memory),
+            Scalar(Refused(Refusal::Memory)),
         ),
-        (Load(0x3fffffd000, 8), Reply::Fault(13)),
-        (Serve(Access::Store, 0x3fffffd000), Reply::Ready),
+        (Load(0x3fffffd000, 8), Scalar(Fault(13))),
+        (Serve(Access::Store, 0x3fffffd000), Scalar(Ready)),
     ];
     let story = Story {
         frames: 9,

@@ -4,7 +4,8 @@
 use crate::operation::Operation::{Fetch, Load, Map, Serve, Store};
 use crate::operation::Row;
 use crate::stores::{Story, first_wrong_outcome};
-use process_model::Reply;
+use process_model::Reply::Scalar;
+use process_model::ScalarReply::{Fault, MappedAt, Ready, Stored, Value};
 use std::alloc::{AllocError, Global};
 use std::test::Fail;
 use sv39_entry::Access;
@@ -29,18 +30,18 @@ fn accesses(alloc: Global) -> Result<Vec<Row>, AllocError> {
         let first = if loads { Access::Load } else { Access::Fetch };
         let value = |granted, cause| {
             if granted {
-                Reply::Value(0)
+                Scalar(Value(0))
             } else {
-                Reply::Fault(cause)
+                Scalar(Fault(cause))
             }
         };
         let stored = if stores {
-            Reply::Stored
+            Scalar(Stored)
         } else {
-            Reply::Fault(15)
+            Scalar(Fault(15))
         };
-        rows.push((Map(4_096, protection, 2, 0), Reply::MappedAt(address)))?;
-        rows.push((Serve(first, address), Reply::Ready))?;
+        rows.push((Map(4_096, protection, 2, 0), Scalar(MappedAt(address))))?;
+        rows.push((Serve(first, address), Scalar(Ready)))?;
         rows.push((Fetch(address), value(fetches, 12)))?;
         rows.push((Load(address, 8), value(loads, 13)))?;
         rows.push((Store(address, 8, 1), stored))?;

@@ -4,7 +4,8 @@
 
 use crate::operation::Operation::{Load, Look, Map, Serve, Store, Unmap, WriteBack};
 use crate::stores::{Story, first_wrong_outcome};
-use process_model::Reply;
+use process_model::Reply::Scalar;
+use process_model::ScalarReply::{Done, Fault, MappedAt, Ready, Stored, Value};
 use std::test::Fail;
 use sv39_entry::Access;
 
@@ -12,23 +13,23 @@ use sv39_entry::Access;
 fn writes_up_to_the_end_of_a_file(rt: HostRuntime) -> Result<(), Fail> {
     // file 0 has 5,000 bytes, 904 (0x388) of them in the second page
     let rows = [
-        (Map(6_000, 3, 1, 0), Reply::MappedAt(0x3fffffc000)),
-        (Serve(Access::Store, 0x3fffffc000), Reply::Ready),
-        (Serve(Access::Store, 0x3fffffd000), Reply::Ready),
-        (Load(0x3fffffcff8, 8), Reply::Value(0x0f0f0f0f0f0f0f0f)),
-        (Load(0x3fffffd000, 8), Reply::Value(0x1010101010101010)),
-        (Load(0x3fffffd380, 8), Reply::Value(0x1313131313131313)),
-        (Load(0x3fffffd388, 8), Reply::Value(0)),
-        (Store(0x3fffffd384, 4, 0xa1a2a3a4), Reply::Stored),
-        (Store(0x3fffffd388, 4, 0xb1b2b3b4), Reply::Stored),
-        (Load(0x3fffffd380, 8), Reply::Value(0xa1a2a3a413131313)),
-        (Load(0x3fffffd388, 8), Reply::Value(0xb1b2b3b4)),
-        (Look(0, 4_992), Reply::Value(0x1313131313131313)),
-        (Unmap(0x3fffffc000, 6_000), Reply::Done),
-        (Look(0, 4_992), Reply::Value(0xa1a2a3a413131313)),
-        (Look(0, 5_000), Reply::Value(0)),
+        (Map(6_000, 3, 1, 0), Scalar(MappedAt(0x3fffffc000))),
+        (Serve(Access::Store, 0x3fffffc000), Scalar(Ready)),
+        (Serve(Access::Store, 0x3fffffd000), Scalar(Ready)),
+        (Load(0x3fffffcff8, 8), Scalar(Value(0x0f0f0f0f0f0f0f0f))),
+        (Load(0x3fffffd000, 8), Scalar(Value(0x1010101010101010))),
+        (Load(0x3fffffd380, 8), Scalar(Value(0x1313131313131313))),
+        (Load(0x3fffffd388, 8), Scalar(Value(0))),
+        (Store(0x3fffffd384, 4, 0xa1a2a3a4), Scalar(Stored)),
+        (Store(0x3fffffd388, 4, 0xb1b2b3b4), Scalar(Stored)),
+        (Load(0x3fffffd380, 8), Scalar(Value(0xa1a2a3a413131313))),
+        (Load(0x3fffffd388, 8), Scalar(Value(0xb1b2b3b4))),
+        (Look(0, 4_992), Scalar(Value(0x1313131313131313))),
+        (Unmap(0x3fffffc000, 6_000), Scalar(Done)),
+        (Look(0, 4_992), Scalar(Value(0xa1a2a3a413131313))),
+        (Look(0, 5_000), Scalar(Value(0))),
         // a load page fault (RISC-V Privileged Architecture 20211203, 4.1.8)
-        (Load(0x3fffffd380, 8), Reply::Fault(13)),
+        (Load(0x3fffffd380, 8), Scalar(Fault(13))),
     ];
     let story = Story {
         frames: 12,
@@ -49,24 +50,24 @@ fn writes_up_to_the_end_of_a_file(rt: HostRuntime) -> Result<(), Fail> {
 #[test]
 fn leaves_what_was_only_loaded(rt: HostRuntime) -> Result<(), Fail> {
     let rows = [
-        (Map(4_096, 3, 1, 0), Reply::MappedAt(0x3fffffd000)),
-        (Map(4_096, 3, 1, 0), Reply::MappedAt(0x3fffffc000)),
-        (Map(4_096, 3, 2, 0), Reply::MappedAt(0x3fffffb000)),
-        (Serve(Access::Load, 0x3fffffd000), Reply::Ready),
-        (Serve(Access::Store, 0x3fffffc000), Reply::Ready),
-        (Serve(Access::Store, 0x3fffffb000), Reply::Ready),
+        (Map(4_096, 3, 1, 0), Scalar(MappedAt(0x3fffffd000))),
+        (Map(4_096, 3, 1, 0), Scalar(MappedAt(0x3fffffc000))),
+        (Map(4_096, 3, 2, 0), Scalar(MappedAt(0x3fffffb000))),
+        (Serve(Access::Load, 0x3fffffd000), Scalar(Ready)),
+        (Serve(Access::Store, 0x3fffffc000), Scalar(Ready)),
+        (Serve(Access::Store, 0x3fffffb000), Scalar(Ready)),
         // a store page fault: this page of a writable shared mapping was loaded from, and lacks the dirty mark
-        (Store(0x3fffffd000, 8, 1), Reply::Fault(15)),
-        (Store(0x3fffffc100, 2, 0x0202), Reply::Stored),
-        (Store(0x3fffffb200, 2, 0x0303), Reply::Stored),
-        (Unmap(0x3fffffc000, 4_096), Reply::Done),
-        (Look(0, 0x100), Reply::Value(0x0101010101010202)),
+        (Store(0x3fffffd000, 8, 1), Scalar(Fault(15))),
+        (Store(0x3fffffc100, 2, 0x0202), Scalar(Stored)),
+        (Store(0x3fffffb200, 2, 0x0303), Scalar(Stored)),
+        (Unmap(0x3fffffc000, 4_096), Scalar(Done)),
+        (Look(0, 0x100), Scalar(Value(0x0101010101010202))),
         // the page that was only loaded from has the bytes that the file had; the private page has its own
-        (Load(0x3fffffd100, 8), Reply::Value(0x0101010101010101)),
-        (Load(0x3fffffb200, 8), Reply::Value(0x0202020202020303)),
-        (WriteBack, Reply::Done),
-        (Unmap(0x3fffffd000, 4_096), Reply::Done),
-        (Unmap(0x3fffffb000, 4_096), Reply::Done),
+        (Load(0x3fffffd100, 8), Scalar(Value(0x0101010101010101))),
+        (Load(0x3fffffb200, 8), Scalar(Value(0x0202020202020303))),
+        (WriteBack, Scalar(Done)),
+        (Unmap(0x3fffffd000, 4_096), Scalar(Done)),
+        (Unmap(0x3fffffb000, 4_096), Scalar(Done)),
     ];
     let story = Story {
         frames: 12,
@@ -83,26 +84,26 @@ fn leaves_what_was_only_loaded(rt: HostRuntime) -> Result<(), Fail> {
 fn writes_all_mappings(rt: HostRuntime) -> Result<(), Fail> {
     // file 2 has 10,003 bytes, 1,811 (0x713) of them in the third page
     let rows = [
-        (Map(5_000, 3, 1, 0), Reply::MappedAt(0x3fffffc000)),
-        (Map(10_003, 3, 1, 2), Reply::MappedAt(0x3fffff9000)),
-        (Serve(Access::Store, 0x3fffffd000), Reply::Ready),
-        (Serve(Access::Store, 0x3fffff9000), Reply::Ready),
-        (Serve(Access::Store, 0x3fffffb000), Reply::Ready),
-        (Store(0x3fffffd000, 1, 0xd1), Reply::Stored),
-        (Store(0x3fffff9fff, 1, 0xe1), Reply::Stored),
-        (Load(0x3fffffb710, 8), Reply::Value(0xa7a7a7)),
-        (Store(0x3fffffb710, 8, 0xf1f2f3f4f5f6f7f8), Reply::Stored),
-        (WriteBack, Reply::Done),
-        (Look(0, 4_096), Reply::Value(0x10101010101010d1)),
-        (Look(2, 10_000), Reply::Value(0xf6f7f8)),
+        (Map(5_000, 3, 1, 0), Scalar(MappedAt(0x3fffffc000))),
+        (Map(10_003, 3, 1, 2), Scalar(MappedAt(0x3fffff9000))),
+        (Serve(Access::Store, 0x3fffffd000), Scalar(Ready)),
+        (Serve(Access::Store, 0x3fffff9000), Scalar(Ready)),
+        (Serve(Access::Store, 0x3fffffb000), Scalar(Ready)),
+        (Store(0x3fffffd000, 1, 0xd1), Scalar(Stored)),
+        (Store(0x3fffff9fff, 1, 0xe1), Scalar(Stored)),
+        (Load(0x3fffffb710, 8), Scalar(Value(0xa7a7a7))),
+        (Store(0x3fffffb710, 8, 0xf1f2f3f4f5f6f7f8), Scalar(Stored)),
+        (WriteBack, Scalar(Done)),
+        (Look(0, 4_096), Scalar(Value(0x10101010101010d1))),
+        (Look(2, 10_000), Scalar(Value(0xf6f7f8))),
         // the pages stay settled, with their dirty marks
-        (Load(0x3fffffb710, 8), Reply::Value(0xf1f2f3f4f5f6f7f8)),
-        (Store(0x3fffffd001, 1, 0xd2), Reply::Stored),
-        (Look(0, 4_096), Reply::Value(0x10101010101010d1)),
-        (Unmap(0x3fffffd000, 4_096), Reply::Done),
-        (Look(0, 4_096), Reply::Value(0x101010101010d2d1)),
-        (Unmap(0x3fffff9000, 10_003), Reply::Done),
-        (Unmap(0x3fffffc000, 1), Reply::Done),
+        (Load(0x3fffffb710, 8), Scalar(Value(0xf1f2f3f4f5f6f7f8))),
+        (Store(0x3fffffd001, 1, 0xd2), Scalar(Stored)),
+        (Look(0, 4_096), Scalar(Value(0x10101010101010d1))),
+        (Unmap(0x3fffffd000, 4_096), Scalar(Done)),
+        (Look(0, 4_096), Scalar(Value(0x101010101010d2d1))),
+        (Unmap(0x3fffff9000, 10_003), Scalar(Done)),
+        (Unmap(0x3fffffc000, 1), Scalar(Done)),
     ];
     let story = Story {
         frames: 12,
@@ -126,13 +127,13 @@ fn writes_all_mappings(rt: HostRuntime) -> Result<(), Fail> {
 fn keeps_places_in_the_file(rt: HostRuntime) -> Result<(), Fail> {
     // of three pages the first is unmapped, then the last; the middle one has the bytes of file 2 from offset 4,096 on
     let rows = [
-        (Map(12_288, 3, 1, 2), Reply::MappedAt(0x3fffffb000)),
-        (Unmap(0x3fffffb000, 4_096), Reply::Done),
-        (Unmap(0x3fffffd000, 4_096), Reply::Done),
-        (Serve(Access::Store, 0x3fffffc000), Reply::Ready),
-        (Load(0x3fffffc000, 8), Reply::Value(0x9090909090909090)),
-        (Store(0x3fffffc000, 2, 0xc1c2), Reply::Stored),
-        (Unmap(0x3fffffc000, 4_096), Reply::Done),
+        (Map(12_288, 3, 1, 2), Scalar(MappedAt(0x3fffffb000))),
+        (Unmap(0x3fffffb000, 4_096), Scalar(Done)),
+        (Unmap(0x3fffffd000, 4_096), Scalar(Done)),
+        (Serve(Access::Store, 0x3fffffc000), Scalar(Ready)),
+        (Load(0x3fffffc000, 8), Scalar(Value(0x9090909090909090))),
+        (Store(0x3fffffc000, 2, 0xc1c2), Scalar(Stored)),
+        (Unmap(0x3fffffc000, 4_096), Scalar(Done)),
     ];
     let story = Story {
         frames: 12,

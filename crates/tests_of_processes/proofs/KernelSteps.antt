@@ -1,5 +1,5 @@
--- Lemmas for the tests of `KernelTable`: the first seat (an owner's capability) of a store holds the trampoline's frame, as
--- building the table needs; and a walk leaves the table as it was.
+-- Lemmas for the tests of `KernelTable`: the first seat of a store holds the trampoline's frame, as building the table needs;
+-- and a walk leaves the table as it was.
 use Rattle.std.proofs.Common.{◌≡◌, ℕ, List, refl, ap, sym, subst, ◌∙◌}
 use Rattle.frame_store.specs.Holds.{hold_of-empty, hold_of-with_hold_other, hold_of-with_hold_same}
 use Rattle.frame_store.specs.View.{Hold, View, empty_view, opening_view, sole_hold}

@@ -1,6 +1,6 @@
 // Tests that `KernelTable`, xv6's `kvmmake`, leads addresses to the right frames (`Row`: an access, an address and its walk)
 // over both frame stores; maps each slot's kernel stack (slot: a place in the process table); takes the right number of
-// frames (`FreeRow`); and, if too few are free, returns its seat (an owner's capability at the store).
+// frames (`FreeRow`); and, if too few are free, returns its seat.
 
 ghost use Rattle.std.specs.Prelude.{◌≤◌, IfErr, IfOk};
 ghost use Rattle.address_space.specs.Agreement.{HoldsTrampoline};

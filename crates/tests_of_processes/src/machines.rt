@@ -1,6 +1,6 @@
 // Tests that `Machine` boots within its limits (`Row`: harts, frames, slots and the error); that `run` and `step` return the
-// right replies on two harts, for eight and for thousands of steps, and for a heap page past 2^39; that a hart's buffer
-// (TLB) keeps entries by the policy; and that the accounts of frames (`Accounts`) are those counted by hand.
+// right replies on two harts, for eight and for thousands of steps, and for a heap page past 2^39; that a hart's TLB keeps
+// entries by the policy; and that the accounts of frames (`Accounts`) are those counted by hand.
 
 ghost use Rattle.std.specs.Prelude.{IfSome};
 ghost use Rattle.hart_machine.specs.BufferEntries.{IsInWorld};
@@ -9,7 +9,9 @@ ghost use Rattle.process_model.specs.World.{World};
 use crate::SCHEMES;
 use file_cabinet::Cabinet;
 use hart_machine::{BootError, Machine};
-use process_model::{Bytes, Config, Image, Phase, Policy, Refusal, Reply, Segment, Step};
+use process_model::{
+    Bytes, Config, Image, Phase, Policy, Refusal, Reply, ScalarReply, Segment, Step,
+};
 use std::alloc::{AllocError, Global};
 use sv39_entry::{Scheme, Va, Vpn};
 
@@ -179,9 +181,11 @@ fn steps(image: Image<'_>) -> [Step<'_>; 23] {
 /// at one address. Hart 0 faults at a fetch, so it is before the first fence of kernel entry, and its buffer keeps its
 /// entry.
 const REPLIES: &str =
-    "[Started(0), Started(1), Done, Refused(Impossible(Idle)), Done, Done, Done, Done, \
-    Stored, Value(1432778632), Filled(0), Value(13124), Fault(12), Refused(Impossible(Enter0)), Done, Done, Done, \
-    Value(1799), Value(0), Done, InFrame(0), Refused(NoEntry), Refused(BadArgument)]";
+    "[Scalar(Started(0)), Scalar(Started(1)), Scalar(Done), Scalar(Refused(Impossible(Idle))), Scalar(Done), \
+    Scalar(Done), Scalar(Done), Scalar(Done), Scalar(Stored), Scalar(Value(1432778632)), Scalar(Filled(0)), \
+    Scalar(Value(13124)), Scalar(Fault(12)), Scalar(Refused(Impossible(Enter0))), Scalar(Done), Scalar(Done), \
+    Scalar(Done), Scalar(Value(1799)), Scalar(Value(0)), Scalar(Done), Scalar(InFrame(0)), \
+    Scalar(Refused(NoEntry)), Scalar(Refused(BadArgument))]";
 
 /// A process starts, is scheduled, returns to user mode, stores eight bytes, and loads them and two of them.
 fn first_steps(image: Image<'_>) -> [Step<'_>; 8] {
@@ -205,7 +209,8 @@ fn first_steps(image: Image<'_>) -> [Step<'_>; 8] {
 
 /// The replies to `first_steps`: the values are 0x1122334455667788 and 0x3344.
 const FIRST_REPLIES: &str =
-    "[Started(0), Done, Done, Done, Done, Stored, Value(1234605616436508552), Value(13124)]";
+    "[Scalar(Started(0)), Scalar(Done), Scalar(Done), Scalar(Done), Scalar(Done), Scalar(Stored), \
+    Scalar(Value(1234605616436508552)), Scalar(Value(13124))]";
 
 /// The number of entries of a buffer, and the page of the oldest.
 type Buffered = (usize, Option<Vpn>);
@@ -301,7 +306,7 @@ fn steps_on_two_harts(rt: HostRuntime) {
             (
                 REPLIES,
                 [Some((1, Some(page))), None, Some((0, None))],
-                Reply::Done
+                Reply::Scalar(ScalarReply::Done)
             )
         );
     }
@@ -376,7 +381,10 @@ fn idle_steps<'a>(alloc: Global, count: usize) -> Result<Vec<Step<'a>>, AllocErr
 /// Whether each reply is the refusal of a step on an idle hart.
 fn are_idle(replies: &[Reply]) -> bool {
     for reply in replies {
-        if !matches!(reply, Reply::Refused(Refusal::Impossible(Phase::Idle))) {
+        if !matches!(
+            reply,
+            Reply::Scalar(ScalarReply::Refused(Refusal::Impossible(Phase::Idle)))
+        ) {
             return false;
         }
     }
@@ -434,13 +442,16 @@ fn far_steps(image: Image<'_>) -> [Step<'_>; 16] {
 }
 
 const FAR_REPLIES: &str =
-    "[Started(0), Done, OldSize(16384), Done, Done, Done, Fault(13), Done, Done, Done, Ready, Done, Done, Done, Value(0), Done]";
+    "[Scalar(Started(0)), Scalar(Done), Scalar(OldSize(16384)), Scalar(Done), Scalar(Done), Scalar(Done), \
+    Scalar(Fault(13)), Scalar(Done), Scalar(Done), Scalar(Done), Scalar(Ready), Scalar(Done), Scalar(Done), \
+    Scalar(Done), Scalar(Value(0)), Scalar(Done)]";
 
 /// The replies to `far_steps` if too few frames are free for the page: the service ends the process, and the hart is idle.
 const ENDED_REPLIES: &str =
-    "[Started(0), Done, OldSize(16384), Done, Done, Done, Fault(13), Done, Done, Done, Ended(NoFrame), \
-    Refused(Impossible(Idle)), Refused(Impossible(Idle)), Refused(Impossible(Idle)), Refused(Impossible(Idle)), \
-    Refused(Impossible(Idle))]";
+    "[Scalar(Started(0)), Scalar(Done), Scalar(OldSize(16384)), Scalar(Done), Scalar(Done), Scalar(Done), \
+    Scalar(Fault(13)), Scalar(Done), Scalar(Done), Scalar(Done), Scalar(Ended(NoFrame)), \
+    Scalar(Refused(Impossible(Idle))), Scalar(Refused(Impossible(Idle))), Scalar(Refused(Impossible(Idle))), \
+    Scalar(Refused(Impossible(Idle))), Scalar(Refused(Impossible(Idle)))]";
 
 /// The replies to `far_steps` on a machine of Sv48 with `frames` frames.
 fn far_replies(alloc: Global, frames: usize) -> Option<String> {

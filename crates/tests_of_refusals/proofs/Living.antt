@@ -6,7 +6,7 @@ use Rattle.frame_store.specs.View.{View}
 use Rattle.process_model.specs.Files.{File}
 use Rattle.process_model.specs.Process.{Process, regions}
 use Rattle.process_model.specs.Regions.{first_rule}
-use Rattle.process_model.specs.declared.step.Refusal.{Refusal}
+use Rattle.process_model.specs.declared.reply.Refusal.{Refusal}
 use Rattle.sv39_entry.specs.Address.{page_of}
 use Rattle.sv39_entry.specs.declared.access.Access.{Access}
 use Rattle.sv39_entry.specs.declared.frame.FrameNo.{FrameNo}

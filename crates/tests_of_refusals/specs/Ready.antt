@@ -1,5 +1,5 @@
--- Predicate `IsReady`: a process over frames that threads share: its seat (an owner's capability at the store) is at the
--- store's table, and its space agrees with some process of the model.
+-- Predicate `IsReady`: a process over frames that threads share: its seat is at the store's table, and its space agrees with
+-- some process of the model.
 use Rattle.atomic_table.specs.Seated.{TableId}
 use Rattle.shared_frames.specs.SeatsOfTable.{FitsIn, view_of}
 use Rattle.shared_frames.specs.declared.seat.SharedSeat.{SharedSeat}

@@ -1,6 +1,5 @@
-// `begun`: starts the process of a story (test case) beside a second seat (an owner's capability at the store), the keeper,
-// which reserves frames so that few are left and takes references of frame 0. `reserved_all`: reserves, and so counts, the
-// free frames.
+// `begun`: starts the process of a story (test case) beside a second seat, the keeper, which reserves frames so that few are
+// left and takes references of frame 0. `reserved_all`: reserves, and so counts, the free frames.
 
 ghost use Rattle.std.specs.Prelude.{◌∷◌, IfOk, List};
 ghost use Rattle.frame_store.specs.Laws.{IsSeatOf, KeepsSeats};

@@ -1,6 +1,5 @@
-// `Story`, a struct: a test case of one process beside a second seat (an owner's capability at the store), the keeper:
-// frames left, references of frame 0, promises (reservations of page I/O), rows of operations, free frames after them.
-// `played_over` plays it over any store.
+// `Story`, a struct: a test case of one process beside a second seat, the keeper: frames left, references of frame 0,
+// promises (reservations of page I/O), rows of operations, free frames after them. `played_over` plays it over any store.
 
 ghost use Rattle.std.specs.Prelude.{IfOk};
 ghost use Rattle.frame_store.specs.Laws.{IsSeatOf, KeepsSeats};

@@ -16,7 +16,7 @@ use exec_segments::Image;
 use fault_rules::{Served, serve};
 use file_cabinet::{Cabinet, Files};
 use frame_store::{FrameAccess, FrameSeat, FrameSupply};
-use process_model::Reply;
+use process_model::{Reply, ScalarReply};
 use shared_frames::{SharedFrames, SharedSeat, Totals};
 use std::alloc::Global;
 use std::sync::Wait;
@@ -55,7 +55,7 @@ fn access<S: FrameSeat, F: FrameAccess<Seat = S>>(
         value,
     };
     let walk = space.translate(store, asked.va, access, Mode::User);
-    space.user_access(store, walk, asked)
+    Reply::Scalar(space.user_access(store, walk, asked))
 }
 
 /// Stores a number; if the store faults, serves the fault and stores again. Returns whether it was stored.
@@ -71,13 +71,13 @@ fn store_served<S: FrameSeat, F: FrameSupply<Seat = S>, C: Files>(
     ensures alive { IsAlive (body_of S.view space.new) }
     ensures keeps { KeepsSeats F.rule store.old space.old.seat store.new space.new.seat }
 {
-    if access(space, store, Access::Store, address, number) == Reply::Stored {
+    if access(space, store, Access::Store, address, number) == Reply::Scalar(ScalarReply::Stored) {
         return true;
     }
     if serve(space, store, files, Va(address), 8, Access::Store) != Served::Ready {
         return false;
     }
-    access(space, store, Access::Store, address, number) == Reply::Stored
+    access(space, store, Access::Store, address, number) == Reply::Scalar(ScalarReply::Stored)
 }
 
 /// Stores a number at two addresses and loads both. Returns whether both stores were made and both loads read the number.
@@ -98,7 +98,7 @@ fn keep<S: FrameSeat, F: FrameSupply<Seat = S>, C: Files>(
     let second = store_served(space, store, files, other, number);
     let there = access(space, store, Access::Load, one, 0);
     let there_too = access(space, store, Access::Load, other, 0);
-    let read = Reply::Value(number);
+    let read = Reply::Scalar(ScalarReply::Value(number));
     first && second && there == read && there_too == read
 }
 

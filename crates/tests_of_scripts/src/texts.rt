@@ -2,6 +2,10 @@
 // texts that are printed: rows of a reply and its text, the report of frames, the longest number and bytes.
 
 use arrayvec::ArrayVec;
+use process_model::Reply::Scalar;
+use process_model::ScalarReply::{
+    CopiedOut, Ended, Exited, Fault, MappedAt, OldSize, Refused, ShortOut, Value,
+};
 use process_model::{Refusal, Reply, Report};
 use script_language::{LONGEST_TEXT, put, put_bytes, put_decimal, put_reply, put_report};
 use std::test::Fail;
@@ -21,20 +25,20 @@ fn prints_replies(rt: HostRuntime) -> Result<(), Fail> {
             "short 4 GuardPage done 1 f0",
         ),
         (
-            Reply::ShortOut(Rule::GuardPage, 8),
+            Scalar(ShortOut(Rule::GuardPage, 8)),
             "short 4 GuardPage done 8",
         ),
         (Reply::CopiedIn(ArrayVec::new()), "copied 0 -"),
-        (Reply::CopiedOut(8), "copied 8"),
-        (Reply::Ended(Rule::GuardPage), "ended 4 GuardPage"),
-        (Reply::OldSize(0x5000), "old 0x5000"),
-        (Reply::MappedAt(0x3f_ffff_c000), "at 0x3fffffc000"),
-        (Reply::Value(0), "value 0x0"),
-        (Reply::Value(u64::MAX), "value 0xffffffffffffffff"),
-        (Reply::Fault(15), "fault 15"),
-        (Reply::Exited(-1), "exited -1"),
-        (Reply::Exited(i32::MIN), "exited -2147483648"),
-        (Reply::Refused(Refusal::BadSize), "refused 13 BadSize"),
+        (Scalar(CopiedOut(8)), "copied 8"),
+        (Scalar(Ended(Rule::GuardPage)), "ended 4 GuardPage"),
+        (Scalar(OldSize(0x5000)), "old 0x5000"),
+        (Scalar(MappedAt(0x3f_ffff_c000)), "at 0x3fffffc000"),
+        (Scalar(Value(0)), "value 0x0"),
+        (Scalar(Value(u64::MAX)), "value 0xffffffffffffffff"),
+        (Scalar(Fault(15)), "fault 15"),
+        (Scalar(Exited(-1)), "exited -1"),
+        (Scalar(Exited(i32::MIN)), "exited -2147483648"),
+        (Scalar(Refused(Refusal::BadSize)), "refused 13 BadSize"),
     ];
     for (reply, want) in rows {
         let mut said = Vec::with_capacity(rt.alloc(), LONGEST_TEXT)?;

@@ -1,6 +1,5 @@
--- Lemmas for the tests of page tables: what a seat (an owner's capability at a frame store) holds after a claim, a write and
--- a release; enough credits (reserved frames) for each page that is mapped; a page that was found has a leaf; and tables
--- without leaves can be released.
+-- Lemmas for the tests of page tables: what a seat holds after a claim, a write and a release; enough credits for each page
+-- that is mapped; a page that was found has a leaf; and tables without leaves can be released.
 use Rattle.std.proofs.Common.{◌≡◌, ℕ, zero, suc, ◌+◌, ◌-◌, ◌*◌, ◌<◌, ◌≤◌, ◌==◌, Bool, true, false, cond, refl, ap, sym, subst, ◌∙◌, arith, Option, None, Some, Result, Ok, Err, lit<, inl, inr}
 use Rattle.std.specs.Prelude.{if◌then◌else◌, is_ok, is_some, IfOk, IsSome}
 use Rattle.std.specs.FinMap as map

@@ -1,6 +1,6 @@
 // Tests that walks (RISC-V Privileged Architecture 20211203, 4.3.2) agree with independent test vectors (`Row`: a PTE, an
 // access and the outcome) over a memory of at most 1,024 frames with a few page tables, under Sv39 and Sv48; and that map,
-// protect, unmap, look-up and release work on page tables that a seat (an owner's capability at a frame store) holds.
+// protect, unmap, look-up and release work on page tables that a seat holds.
 
 ghost use Rattle.std.specs.Prelude.{◌≡◌, ◌+◌, ◌≤◌, ◌<◌, [], ◌∷◌, ℕ, IfOk};
 ghost use Rattle.frame_store.specs.Laws.{IsSeatOf, KeepsSeats};

@@ -7,6 +7,8 @@ use arrayvec::ArrayVec;
 use audit_player::{lend_lists, lend_starts, run_pool};
 use hart_calls::{JournalReply, StoredReply};
 use hart_threads::OpenGate;
+use process_model::Reply::Scalar;
+use process_model::ScalarReply::{Forked, Refused, Value};
 use process_model::{Refusal, Reply};
 use script_reader::ThreadScript;
 use std::alloc::Global;
@@ -17,7 +19,7 @@ use std::thread::Threads;
 /// Whether the reply that a journal keeps is this one.
 fn is_reply(kept: &JournalReply, reply: &Reply) -> bool {
     match kept.kept() {
-        StoredReply::ScalarReply(scalar) => scalar.reply() == *reply,
+        StoredReply::Scalar(scalar) => Reply::Scalar(scalar) == *reply,
         StoredReply::Long(long) => *long == *reply,
     }
 }
@@ -93,17 +95,17 @@ fn rows() -> [Row; 11] {
     let read =
         "file 5000 rw 6162\nimage 0x1000:0x1000:rw:-\npool 64 4\nlist 0\nmmap 5000 1 2 0\nload 0x3fffffc000 2\nstart 0 0\n";
     [
-        (alone, &[0], 0, Reply::Refused(Refusal::NoSlot)),
-        (written, &[0], 4, Reply::Value(9)),
-        (parted, &[0], 1, Reply::Forked(0)),
-        (parted, &[0], 3, Reply::Value(2)),
-        (parted, &[0, 0], 0, Reply::Value(1)),
-        (parted, &[0, 0], 2, Reply::Value(3)),
-        (returned, &[0], 4, Reply::Value(0)),
-        (copies, &[0], 1, Reply::Value(0x0403_0201_0000_0000)),
-        (copies, &[0], 2, Reply::Value(0x0807_0605)),
+        (alone, &[0], 0, Scalar(Refused(Refusal::NoSlot))),
+        (written, &[0], 4, Scalar(Value(9))),
+        (parted, &[0], 1, Scalar(Forked(0))),
+        (parted, &[0], 3, Scalar(Value(2))),
+        (parted, &[0, 0], 0, Scalar(Value(1))),
+        (parted, &[0, 0], 2, Scalar(Value(3))),
+        (returned, &[0], 4, Scalar(Value(0))),
+        (copies, &[0], 1, Scalar(Value(0x0403_0201_0000_0000))),
+        (copies, &[0], 2, Scalar(Value(0x0807_0605))),
         (copies, &[0], 3, copied(&[0, 1, 2, 3, 4, 5])),
-        (read, &[0], 1, Reply::Value(0x6261)),
+        (read, &[0], 1, Scalar(Value(0x6261))),
     ]
 }
 

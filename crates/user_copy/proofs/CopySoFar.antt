@@ -11,6 +11,7 @@ use Rattle.address_space.specs.Agreement.{IsFrameOfPage, IsSpace, same_body}
 use Rattle.address_space.specs.Steps.{CanWrite}
 use Rattle.fault_rules.specs.Allowed.{can_reside, denied_otherwise}
 use Rattle.fault_rules.specs.MadeResident.{CanMakeResident, is_shared_by, moves_for, moves_from, resident_reads}
+use Rattle.fault_rules.specs.PageService.{body_at, Moment, StoreModel}
 use Rattle.fault_rules.specs.Serves.{is_ready, IsEnd, served_moves}
 use Rattle.fault_rules.specs.declared.service.Served.{Served}
 use Rattle.fault_rules.specs.declared.service.Served.TheVariants as served
@@ -26,7 +27,7 @@ use Rattle.process_model.specs.Process.{Page, Process, regions}
 use Rattle.process_model.specs.Regions.{copy_rule, file, image, keeps_stores, Region, region_at, Source, zeros}
 use Rattle.process_model.specs.ResidenceLaws.{made_settles, no_alignment, same_rule, SettlesPage, stays_resident}
 use Rattle.process_model.specs.Residence.{can_complete, is_resident, is_resident_page, made_resident, made_resident_from, parts_from, region_on, stored, taken_over_unless, with_page}
-use Rattle.process_model.specs.declared.step.Refusal.{Refusal}
+use Rattle.process_model.specs.declared.reply.Refusal.{Refusal}
 use Rattle.sv39_entry.specs.Address.{page_of}
 use Rattle.sv39_entry.specs.Frame.{ppn_of}
 use Rattle.sv39_entry.specs.Word.{ppn}
@@ -37,7 +38,7 @@ use Rattle.sv39_entry.specs.declared.rule.Rule.TheVariants.{NoFrame}
 use Rattle.table_walk.specs.Tables.{leaf_node, Tables}
 use Rattle.user_copy.specs.CopyModel.{copy_progress, environment_with}
 use Rattle.user_copy.specs.CopyOfProcess.{AreGranted, HasPut, IsAfterCopy, process_byte, process_bytes, RanShort}
-use Rattle.user_copy.specs.ReachedPage.{body_at, Place, Reaches, served_of, StoreModel}
+use Rattle.user_copy.specs.ReachedPage.{Reaches, served_of}
 use Rattle.user_copy.specs.Runs.{IsRead, Puts}
 use Rattle.user_copy.specs.declared.short.Stop.{Stop}
 use Rattle.user_copy.specs.declared.short.Stop.TheVariants.{Denied, Unpromised}
@@ -108,12 +109,12 @@ regions_after access address n p q after =
     λ i. let x : Process = record p { parts = after.parts i; mappings = after.mappings i; heap_base = after.heap_base i; size = after.size i } in regions x
 
 module _ {Seat Frames Cabinet : Type 0} (l : StoreModel Seat Frames Cabinet) (comes : (x y : Cabinet) (ms : List PageMove) → l.becomes x ms y → l.files y ≡ files_after (l.files x) ms)
-    (start : Place Seat Frames Cabinet) (p : Process) (access : Access) (address : ℕ) where
+    (start : Moment Seat Frames Cabinet) (p : Process) (access : Access) (address : ℕ) where
   abbrev files : List File
   files = l.files start.files
 
-  -- the space is at the place b the process after a copy of n bytes, of which these were put
-  pub record Stands (n : ℕ) (sent : List ℕ) (b : Place Seat Frames Cabinet) : Type 0 where
+  -- the space is at the moment b the process after a copy of n bytes, of which these were put
+  pub record Stands (n : ℕ) (sent : List ℕ) (b : Moment Seat Frames Cabinet) : Type 0 where
     pub tables : Tables
     pub progress : Progress
     pub space : IsSpace (body_at l b) tables progress.process
@@ -121,8 +122,8 @@ module _ {Seat Frames Cabinet : Type 0} (l : StoreModel Seat Frames Cabinet) (co
     pub after : IsAfterCopy access address n p progress.process
     pub bytes : HasPut files address sent p progress.process
 
-  -- the copy came as far as the place a, over n bytes that were granted, and the free count was never read as 0
-  pub record SoFar (n : ℕ) (sent : List ℕ) (a : Place Seat Frames Cabinet) : Type 0 where
+  -- the copy came as far as the moment a, over n bytes that were granted, and the free count was never read as 0
+  pub record SoFar (n : ℕ) (sent : List ℕ) (a : Moment Seat Frames Cabinet) : Type 0 where
     pub stands : Stands n sent a
     pub open stands use *
     pub zeros : (l.view a.space.seat).tallies.zeros ≡ (l.view start.space.seat).tallies.zeros
@@ -150,7 +151,7 @@ module _ {Seat Frames Cabinet : Type 0} (l : StoreModel Seat Frames Cabinet) (co
     granted = λ k less. absurd (omega (arith, less));
   }
 
-  module _ (n : ℕ) (sent : List ℕ) (a : Place Seat Frames Cabinet) (c : SoFar n sent a) (b : Place Seat Frames Cabinet) where
+  module _ (n : ℕ) (sent : List ℕ) (a : Moment Seat Frames Cabinet) (c : SoFar n sent a) (b : Moment Seat Frames Cabinet) where
     abbrev at : ℕ
     at = address + n
 
@@ -284,7 +285,7 @@ module _ {Seat Frames Cabinet : Type 0} (l : StoreModel Seat Frames Cabinet) (co
     left_space : (s : Stop) → Reaches l a b access at (Err s) → IsSpace (body_at l b) c.tables q
     left_space (Denied r) e = e.whole r refl c.tables q c.space
     left_space (Unpromised x) e =
-        subst (λ y. IsSpace y c.tables q) (same_body l.view a.space b.space (sym (e.view_stays (λ is. cc, λ is. cc))) (sym e.root) (sym e.trapframe) (sym e.layout)) c.space
+        subst (λ y. IsSpace y c.tables q) (same_body l.view a.space b.space (sym (e.stays (λ is. cc, λ is. cc)).view) (sym e.place.root) (sym e.place.trapframe) (sym e.place.layout)) c.space
 
     left_files : (s : Stop) → Reaches l a b access at (Err s) → l.files b.files ≡ files
     left_files (Denied r) e = files_on (copy_rule q.scheme (regions q) access at) (e.moves (λ x un. cc) c.tables q c.space)
@@ -392,7 +393,7 @@ module _ {Seat Frames Cabinet : Type 0} (l : StoreModel Seat Frames Cabinet) (co
 
   -- bytes were read, which changes nothing
 
-  module _ (n : ℕ) (sent : List ℕ) (b : Place Seat Frames Cabinet) (c : SoFar n sent b) (d : Place Seat Frames Cabinet) where
+  module _ (n : ℕ) (sent : List ℕ) (b : Moment Seat Frames Cabinet) (c : SoFar n sent b) (d : Moment Seat Frames Cabinet) where
     abbrev pub read_on : (place m : ℕ) (got : List ℕ) → IsRead l b d place m got → SoFar n sent d
     read_on place m got read = record {
       stands = record {
@@ -431,8 +432,8 @@ module _ {Seat Frames Cabinet : Type 0} (l : StoreModel Seat Frames Cabinet) (co
         }
 
 module _ {Seat Frames Cabinet : Type 0} (l : StoreModel Seat Frames Cabinet) (comes : (x y : Cabinet) (ms : List PageMove) → l.becomes x ms y → l.files y ≡ files_after (l.files x) ms)
-    (start : Place Seat Frames Cabinet) (p : Process) (address n : ℕ) (sent : List ℕ) (long : n ≡ length sent) (given : List ℕ) (some : 0 < length given) (fits : (address + n) % 4096 + length given ≤ 4096)
-    (b d : Place Seat Frames Cabinet) (c : SoFar l comes start p Store address (n + length given) sent b) (puts : Puts l b d (address + n) given) where
+    (start : Moment Seat Frames Cabinet) (p : Process) (address n : ℕ) (sent : List ℕ) (long : n ≡ length sent) (given : List ℕ) (some : 0 < length given) (fits : (address + n) % 4096 + length given ≤ 4096)
+    (b d : Moment Seat Frames Cabinet) (c : SoFar l comes start p Store address (n + length given) sent b) (puts : Puts l b d (address + n) given) where
   abbrev to : ℕ
   to = address + n
 

@@ -1,57 +1,40 @@
 -- Lemmas on the two runs of a kernel copy (copyin, copyout), the bytes in the first page and the rest: the copy stops in the
--- first run, is all in it, or goes on with the second. Also two lemmas that weaken a clause about a result.
-use Rattle.std.proofs.Common.{◌≡◌, ℕ, ◌+◌, ◌-◌, arith, refl, sym, subst, List, [], length, drop, take, Option, None, Some, Result, Ok, Err}
-use Rattle.std.specs.Prelude.{IfErr, IfOk}
-use Rattle.user_copy.specs.ReachedPage.{Place, StoreModel}
+-- first run, is all in it, or goes on with the second.
+use Rattle.std.proofs.Common.{◌≡◌, ℕ, ◌+◌, ◌-◌, arith, refl, sym, subst, List, [], length, drop, take, Option, None, Some}
+use Rattle.fault_rules.specs.PageService.{Moment, StoreModel}
 use Rattle.user_copy.specs.Runs.{CopiesIn, CopiesOut, near, runs, runs_of, some_bytes, some_run}
 use Rattle.user_copy.specs.declared.short.Stop.{Stop}
 use Rattle.user_copy.proofs.Chains.{more_in, more_out, no_more_in, no_more_out, nothing_out}
 
--- what is told of a result, said otherwise
-module _ {A E : Type 0} (r : Result A E) where
-  pub if_ok : (P Q : A → Type 0) → ((a : A) → P a → Q a) → IfOk r P → IfOk r Q
-  if_ok P Q f = by r
-    where
-      by : (r : Result A E) → IfOk r P → IfOk r Q
-      by (Ok a) is = f a is
-      by (Err e) is = tt
-
-  pub if_err : (P Q : E → Type 0) → ((e : E) → P e → Q e) → IfErr r P → IfErr r Q
-  if_err P Q f = by r
-    where
-      by : (r : Result A E) → IfErr r P → IfErr r Q
-      by (Ok a) is = tt
-      by (Err e) is = f e is
-
 -- the bytes in the first page come first, and then the others
 
 module _ {Seat Frames Cabinet : Type 0} (l : StoreModel Seat Frames Cabinet) (address n here : ℕ) (is : here ≡ near address n) where
-  pub stops_here_in : (a b : Place Seat Frames Cabinet) (bytes : List ℕ) (s : Stop) → CopiesIn l (some_run address here) a b [] bytes (Some s)
+  pub stops_here_in : (a b : Moment Seat Frames Cabinet) (bytes : List ℕ) (s : Stop) → CopiesIn l (some_run address here) a b [] bytes (Some s)
       → CopiesIn l (runs address n) a b [] bytes (Some s)
   stops_here_in a b bytes s stops =
       no_more_in l (some_run address (near address n)) (some_run (address + near address n) (n - near address n)) a b [] bytes s
       (subst (λ k. CopiesIn l (some_run address k) a b [] bytes (Some s)) is stops)
 
-  pub both_in : (a b c : Place Seat Frames Cabinet) (first bytes : List ℕ) (stop : Option Stop) → CopiesIn l (some_run address here) a b [] first None
+  pub both_in : (a b c : Moment Seat Frames Cabinet) (first bytes : List ℕ) (stop : Option Stop) → CopiesIn l (some_run address here) a b [] first None
       → CopiesIn l (some_run (address + here) (n - here)) b c first bytes stop → CopiesIn l (runs address n) a c [] bytes stop
   both_in a b c first bytes stop front behind =
       more_in l (some_run address (near address n)) (some_run (address + near address n) (n - near address n)) a b c [] first bytes stop
       (subst (λ k. CopiesIn l (some_run address k) a b [] first None) is front) (subst (λ k. CopiesIn l (some_run (address + k) (n - k)) b c first bytes stop) is behind)
 
-  pub all_in : (a b : Place Seat Frames Cabinet) (bytes : List ℕ) → here ≡ n → CopiesIn l (some_run address here) a b [] bytes None → CopiesIn l (runs address n) a b [] bytes None
+  pub all_in : (a b : Moment Seat Frames Cabinet) (bytes : List ℕ) → here ≡ n → CopiesIn l (some_run address here) a b [] bytes None → CopiesIn l (runs address n) a b [] bytes None
   all_in a b bytes all front =
       let none : n - here ≡ 0 = omega (arith, all) in
       both_in a b b bytes bytes None front (subst (λ k. CopiesIn l (some_run (address + here) k) b b bytes bytes None) (sym none) (refl, refl, refl))
 
 module _ {Seat Frames Cabinet : Type 0} (l : StoreModel Seat Frames Cabinet) (address : ℕ) (bytes : List ℕ) (here : ℕ) (is : here ≡ near address (length bytes)) where
-  pub stops_here_out : (a b : Place Seat Frames Cabinet) (count : ℕ) (s : Stop) → CopiesOut l (some_bytes address (take here bytes)) a b 0 count (Some s)
+  pub stops_here_out : (a b : Moment Seat Frames Cabinet) (count : ℕ) (s : Stop) → CopiesOut l (some_bytes address (take here bytes)) a b 0 count (Some s)
       → CopiesOut l (runs_of address bytes) a b 0 count (Some s)
   stops_here_out a b count s stops =
       let near = near address (length bytes) in
       no_more_out l (some_bytes address (take near bytes)) (some_bytes (address + near) (drop near bytes)) a b 0 count s
       (subst (λ k. CopiesOut l (some_bytes address (take k bytes)) a b 0 count (Some s)) is stops)
 
-  pub both_out : (a b c : Place Seat Frames Cabinet) (first count : ℕ) (stop : Option Stop) → CopiesOut l (some_bytes address (take here bytes)) a b 0 first None
+  pub both_out : (a b c : Moment Seat Frames Cabinet) (first count : ℕ) (stop : Option Stop) → CopiesOut l (some_bytes address (take here bytes)) a b 0 first None
       → CopiesOut l (some_bytes (address + here) (drop here bytes)) b c first count stop → CopiesOut l (runs_of address bytes) a c 0 count stop
   both_out a b c first count stop front behind =
       let near = near address (length bytes) in
@@ -59,7 +42,7 @@ module _ {Seat Frames Cabinet : Type 0} (l : StoreModel Seat Frames Cabinet) (ad
       (subst (λ k. CopiesOut l (some_bytes address (take k bytes)) a b 0 first None) is front)
       (subst (λ k. CopiesOut l (some_bytes (address + k) (drop k bytes)) b c first count stop) is behind)
 
-  pub all_out : (a b : Place Seat Frames Cabinet) (count : ℕ) → length (drop here bytes) ≡ 0 → CopiesOut l (some_bytes address (take here bytes)) a b 0 count None
+  pub all_out : (a b : Moment Seat Frames Cabinet) (count : ℕ) → length (drop here bytes) ≡ 0 → CopiesOut l (some_bytes address (take here bytes)) a b 0 count None
       → CopiesOut l (runs_of address bytes) a b 0 count None
   all_out a b count none front =
       both_out a b b count count None front

@@ -7,6 +7,7 @@ use Rattle.address_space.specs.Agreement.{IsSpace, same_body}
 use Rattle.address_space.specs.Steps.{CanRead, CanWrite}
 use Rattle.fault_rules.specs.Allowed.{can_reside}
 use Rattle.fault_rules.specs.MadeResident.{CanMakeResident}
+use Rattle.fault_rules.specs.PageService.{body_at, Moment, StoreModel}
 use Rattle.fault_rules.specs.Serves.{IsEnd}
 use Rattle.fault_rules.specs.declared.service.Served.TheVariants as served
 use Rattle.process_model.specs.GrantLaws.{none_true}
@@ -22,7 +23,7 @@ use Rattle.sv39_entry.specs.declared.access.Access.TheVariants as access
 use Rattle.sv39_entry.specs.declared.rule.Rule.{Rule}
 use Rattle.sv39_entry.specs.declared.scheme.Scheme.{Scheme}
 use Rattle.table_walk.specs.Tables.{Tables}
-use Rattle.user_copy.specs.ReachedPage.{body_at, Place, Reaches, StillStands, StoreModel}
+use Rattle.user_copy.specs.ReachedPage.{Reaches, StillStands}
 use Rattle.user_copy.specs.declared.short.Stop.{Stop}
 use Rattle.user_copy.specs.declared.short.Stop.TheVariants.{Denied, Unpromised}
 
@@ -30,7 +31,7 @@ use Rattle.user_copy.specs.declared.short.Stop.TheVariants.{Denied, Unpromised}
 low : (z : Scheme) (rs : List Region) (access : Access) (address : ℕ) → copy_rule z rs access address ≡ None → address < maxva z
 low z rs access address none = let tests = none_true (copy_tests z rs access address) none in leb-false (maxva z) address tests.0
 
-module _ {Seat Frames Cabinet : Type 0} (l : StoreModel Seat Frames Cabinet) (a b : Place Seat Frames Cabinet) (access : Access) (address : ℕ) where
+module _ {Seat Frames Cabinet : Type 0} (l : StoreModel Seat Frames Cabinet) (a b : Moment Seat Frames Cabinet) (access : Access) (address : ℕ) where
   module _ (e : Reaches l a b access address (Ok tt)) (t : Tables) (p : Process) (space : IsSpace (body_at l a) t p) where
     -- no rule denies an address that was reached
     pub allowed : copy_rule p.scheme (regions p) access address ≡ None
@@ -59,9 +60,9 @@ module _ {Seat Frames Cabinet : Type 0} (l : StoreModel Seat Frames Cabinet) (a 
   still_reaches (Ok tt) e t p space = let made = e.ready refl t p (can e t p space) in (made.0, _, made.2.agrees 0)
   still_reaches (Err (Denied rule)) e t p space = (t, p, e.whole rule refl t p space)
   still_reaches (Err (Unpromised refusal)) e t p space =
-      (t, p, subst (λ x. IsSpace x t p) (same_body l.view a.space b.space (sym (e.view_stays (λ is. cc, λ is. cc))) (sym e.root) (sym e.trapframe) (sym e.layout)) space)
+      (t, p, subst (λ x. IsSpace x t p) (same_body l.view a.space b.space (sym (e.stays (λ is. cc, λ is. cc)).view) (sym e.place.root) (sym e.place.trapframe) (sym e.place.layout)) space)
 
-module _ {Seat Frames Cabinet : Type 0} (l : StoreModel Seat Frames Cabinet) (a b : Place Seat Frames Cabinet) (address : ℕ) where
+module _ {Seat Frames Cabinet : Type 0} (l : StoreModel Seat Frames Cabinet) (a b : Moment Seat Frames Cabinet) (address : ℕ) where
   -- a page that was reached for a store is the process's own
   pub may_store : Reaches l a b access.Store address (Ok tt) → (t : Tables) (p : Process) → IsSpace (body_at l a) t p
       → (u : Tables) × (q : Process) × (s : Page) × CanWrite (body_at l b) u q (page_of address) s

@@ -1,14 +1,17 @@
--- Lemmas: a kernel copy (copyin, copyout) of at most 256 bytes, run by run, against the process that the space was before the
--- call: it was whole, or stopped at its first address that is denied, dry or not promised (`ends_in`, `result_out`), and is
--- the model's copy (`model_in`, `model_out`).
+-- Lemmas: a kernel copy (copyin, copyout) of at most 256 bytes, run by run, against the process that the space was before
+-- the call: it was whole, or stopped at its first address that is denied, dry or not promised, and is the model's copy
+-- (`copy_in_is`, `copy_out_is`).
 use Rattle.std.proofs.Common.{◌≡◌, ◌≢◌, inl, inr, ◌⊎◌, ℕ, zero, suc, Bool, true, false, ◌&&◌, ◌==◌, ◌+◌, ◌-◌, ◌%◌, ◌<◌, ◌≤◌, refl, ap, ap₂, sym, subst, ◌∙◌, arith, List, [], ◌∷◌, ◌++◌, append_assoc, append-nil, length, take, drop, Option, None, Some, Result, Ok, Err}
-use Rattle.std.specs.Prelude.{IfErr, IfOk, zip}
+use Rattle.std.specs.Prelude.{IfErr, zip}
 use Rattle.std.proofs.lemmas.Bool.{and_from, and_left, and_right, cases_Bool, cases_lt, eq-eqb, false≢true, ne_eqb}
 use Rattle.std.proofs.lemmas.List.{length-append, length-drop, length-take-le, take-append-drop, take_all, take_at}
 use Rattle.std.proofs.lemmas.List.Sums.{fold-append}
 use Rattle.std.proofs.lemmas.Option.{same_Some}
-use Rattle.address_space.specs.Agreement.{IsSpace}
+use Rattle.address_space.specs.Agreement.{IsAlive, IsSpace}
+use Rattle.arrayvec.specs.ArrayVec.{ArrayVec}
 use Rattle.fault_rules.specs.MadeResident.{resident_reads}
+use Rattle.fault_rules.specs.PageService.{body_at, Moment, StoreModel}
+use Rattle.frame_store.specs.Laws.{KeepsSeats}
 use Rattle.process_model.specs.Bytes.{numbers_from}
 use Rattle.process_model.specs.Copies.{Copied, copied_in, copied_out, copy_begun, next_in, reached_in}
 use Rattle.process_model.specs.CopyRuns.{more_in, more_out, run_in, run_in_stops, run_out, run_out_stops, so_far}
@@ -20,7 +23,7 @@ use Rattle.process_model.specs.PageMoves.{files_after, PageMove}
 use Rattle.process_model.specs.Process.{Process, regions}
 use Rattle.process_model.specs.Regions.{copy_rule}
 use Rattle.process_model.specs.Residence.{is_resident}
-use Rattle.process_model.specs.declared.step.Refusal.{Refusal}
+use Rattle.process_model.specs.declared.reply.Refusal.{Refusal}
 use Rattle.sv39_entry.specs.Address.{page_of}
 use Rattle.sv39_entry.specs.declared.access.Access.{Access}
 use Rattle.sv39_entry.specs.declared.access.Access.TheVariants.{Load, Store}
@@ -28,10 +31,11 @@ use Rattle.sv39_entry.specs.declared.rule.Rule.{Rule}
 use Rattle.sv39_entry.specs.declared.rule.Rule.TheVariants.{NoFrame}
 use Rattle.sv39_entry.specs.declared.rule.Rule.TheVariants as rule
 use Rattle.table_walk.specs.Tables.{Tables}
-use Rattle.user_copy.specs.CopyModel.{asked, copy_environment, copy_progress, environment_with, is_dry_stop, IsModelCopy, stop_in}
-use Rattle.user_copy.specs.CopyOfProcess.{AreGranted, bytes_out, process_bytes, RanShort}
+use Rattle.user_copy.specs.CopyModel.{asked, copy_environment, copy_progress, environment_with, is_dry_stop, IsModelCopy, model_copy_in, model_copy_out, stop_in}
+use Rattle.user_copy.specs.CopyOfProcess.{AreGranted, bytes_in, bytes_out, HasPut, HasSameBytes, process_bytes, RanShort}
 use Rattle.user_copy.specs.FirstPageBytes.{is_near}
-use Rattle.user_copy.specs.ReachedPage.{body_at, Place, Reaches, StoreModel}
+use Rattle.user_copy.specs.KernelCopies.{count_or, IsKernelCopy, StopsCopy}
+use Rattle.user_copy.specs.ReachedPage.{Reaches, StillStands}
 use Rattle.user_copy.specs.Runs.{CopiesIn, CopiesOut, IsRead, near, Puts, runs, runs_of, some_bytes, some_run}
 use Rattle.user_copy.specs.declared.short.Short.{Short}
 use Rattle.user_copy.specs.declared.short.Stop.{Stop}
@@ -130,7 +134,7 @@ dry_is rule.NoExec is = absurd (cc)
 dry_is rule.NoFrame is = refl
 
 module _ {Seat Frames Cabinet : Type 0} (l : StoreModel Seat Frames Cabinet) (comes : (x y : Cabinet) (ms : List PageMove) → l.becomes x ms y → l.files y ≡ files_after (l.files x) ms)
-    (start : Place Seat Frames Cabinet) (p : Process) (address : ℕ) where
+    (start : Moment Seat Frames Cabinet) (p : Process) (address : ℕ) where
   abbrev files : List File
   files = l.files start.files
 
@@ -142,7 +146,7 @@ module _ {Seat Frames Cabinet : Type 0} (l : StoreModel Seat Frames Cabinet) (co
   IsCalm n dry = (k need : ℕ) → k < n → dry (page_of (address + k)) need ≡ false
 
   -- a copy of `all` bytes that was stopped by s after n bytes, of which these were put
-  pub record Stopped (access : Access) (all n : ℕ) (sent : List ℕ) (s : Stop) (c : Place Seat Frames Cabinet) (j : Progress) : Type 0 where
+  pub record Stopped (access : Access) (all n : ℕ) (sent : List ℕ) (s : Stop) (c : Moment Seat Frames Cabinet) (j : Progress) : Type 0 where
     pub fewer : n < all
     pub denied : (r : Rule) → s ≡ Denied r → r ≢ NoFrame → copy_rule p.scheme (regions p) access (address + n) ≡ Some r
     pub dry : s ≡ Denied NoFrame → (copy_rule p.scheme (regions p) access (address + n) ≡ None) × (is_resident p access (page_of (address + n)) ≡ false)
@@ -154,7 +158,7 @@ module _ {Seat Frames Cabinet : Type 0} (l : StoreModel Seat Frames Cabinet) (co
     pub short : s ≡ Denied NoFrame → RanShort (l.view start.space.seat) (l.view c.space.seat) left.progress.process access (page_of (address + n))
     pub free : s ≡ Denied NoFrame → l.alone → l.free c.store < resident_need true left.progress.process access (page_of (address + n))
 
-  stopped : (access : Access) (all n : ℕ) (sent : List ℕ) (a b : Place Seat Frames Cabinet) (so : SoFar l comes start p access address n sent a) (s : Stop) → n < all → StopsHere l comes start p access address n sent a so b s
+  stopped : (access : Access) (all n : ℕ) (sent : List ℕ) (a b : Moment Seat Frames Cabinet) (so : SoFar l comes start p access address n sent a) (s : Stop) → n < all → StopsHere l comes start p access address n sent a so b s
       → Stopped access all n sent s b so.progress
   stopped access all n sent a b so s less halt = record {
     fewer = less;
@@ -187,8 +191,8 @@ module _ {Seat Frames Cabinet : Type 0} (l : StoreModel Seat Frames Cabinet) (co
 
   -- from the process
 
-  -- a copy of `all` bytes from the process that ended at the place c after n bytes
-  pub record EndsIn (all n : ℕ) (bytes : List ℕ) (stop : Option Stop) (c : Place Seat Frames Cabinet) : Type 0 where
+  -- a copy of `all` bytes from the process that ended at the moment c, after n bytes
+  pub record EndsIn (all n : ℕ) (bytes : List ℕ) (stop : Option Stop) (c : Moment Seat Frames Cabinet) : Type 0 where
     pub bytes_are : bytes ≡ process_bytes files p address n
     pub granted : AreGranted p Load address n
     pub stands : Stands l comes start p Load address n [] c
@@ -200,17 +204,17 @@ module _ {Seat Frames Cabinet : Type 0} (l : StoreModel Seat Frames Cabinet) (co
   copied_so_far dry n = more_in (with_dry dry) (copy_begun (copy_progress p)) (numbers_from address n)
 
   module _ (all : ℕ) where
-    in_runs : (rs : List (ℕ × ℕ)) (a c : Place Seat Frames Cabinet) (n : ℕ) (done bytes : List ℕ) (stop : Option Stop) → RunsFrom address n rs → n + total rs ≡ all → n ≡ length done
+    in_runs : (rs : List (ℕ × ℕ)) (a c : Moment Seat Frames Cabinet) (n : ℕ) (done bytes : List ℕ) (stop : Option Stop) → RunsFrom address n rs → n + total rs ≡ all → n ≡ length done
         → (so : SoFar l comes start p Load address n [] a) → done ≡ process_bytes files p address n → ((dry : ℕ → ℕ → Bool) → IsCalm n dry → copied_so_far dry n ≡ so_far so.progress done None)
         → CopiesIn l rs a c done bytes stop → (k : ℕ) × (k ≡ length bytes) × EndsIn all k bytes stop c
     unfolding copied_in
     in_runs [] a c n done bytes stop from long is_n so are model (at, same, is) =
-        subst (λ (x : Place Seat Frames Cabinet). (k : ℕ) × (k ≡ length bytes) × EndsIn all k bytes stop x) (sym at)
+        subst (λ (x : Moment Seat Frames Cabinet). (k : ℕ) × (k ≡ length bytes) × EndsIn all k bytes stop x) (sym at)
         (subst (λ (xs : List ℕ). (k : ℕ) × (k ≡ length xs) × EndsIn all k xs stop a) (sym same)
         (n, is_n, record { bytes_are = are; granted = so.granted; stands = so.stands; model = model; whole = λ none. omega (arith, long); stops = λ s told. absurd (let both = sym is ∙ told in cc) }))
     in_runs (r ∷ rs) a c n done bytes stop (first, some, fits, edge, from) long is_n so are model (b, Err s, e, (at, same, is)) =
         let halt = stopped Load all n [] a b so s (omega (arith, some, long)) (stops_here l comes start p Load address n [] a so b s (subst (λ x. Reaches l a b Load x (Err s)) first e) edge) in
-        subst (λ (x : Place Seat Frames Cabinet). (k : ℕ) × (k ≡ length bytes) × EndsIn all k bytes stop x) (sym at)
+        subst (λ (x : Moment Seat Frames Cabinet). (k : ℕ) × (k ≡ length bytes) × EndsIn all k bytes stop x) (sym at)
         (subst (λ (xs : List ℕ). (k : ℕ) × (k ≡ length xs) × EndsIn all k xs stop b) (sym same)
         (subst (λ (o : Option Stop). (k : ℕ) × (k ≡ length done) × EndsIn all k done o b) (sym is) (
           n,
@@ -240,7 +244,7 @@ module _ {Seat Frames Cabinet : Type 0} (l : StoreModel Seat Frames Cabinet) (co
         ∙ run_in (with_dry dry) so.progress next.so_far.progress done (address + n) r.1 page.page some fits (next.is dry (λ need. calm n need (omega (arith, some)))) page.there page.whole
         ∙ ap (λ bs. so_far next.so_far.progress (done ++ bs) None) (sym page.is)) rest
 
-    pub ends_in : (t : Tables) → IsSpace (body_at l start) t p → all ≤ 256 → (c : Place Seat Frames Cabinet) (bytes : List ℕ) (stop : Option Stop) → CopiesIn l (runs address all) start c [] bytes stop → EndsIn all (length bytes) bytes stop c
+    pub ends_in : (t : Tables) → IsSpace (body_at l start) t p → all ≤ 256 → (c : Moment Seat Frames Cabinet) (bytes : List ℕ) (stop : Option Stop) → CopiesIn l (runs address all) start c [] bytes stop → EndsIn all (length bytes) bytes stop c
     ends_in t space small c bytes stop copies =
         let here = near address all in
         let few = (is_near address all).few in
@@ -249,7 +253,7 @@ module _ {Seat Frames Cabinet : Type 0} (l : StoreModel Seat Frames Cabinet) (co
         subst (λ (k : ℕ). EndsIn all k bytes stop c) ends.1 ends.2
 
     -- it is the model's copy
-    module _ (bytes : List ℕ) (c : Place Seat Frames Cabinet) where
+    module _ (bytes : List ℕ) (c : Moment Seat Frames Cabinet) where
       abbrev environment : Option Stop → Environment
       environment stop = copy_environment files stop (address + length bytes)
 
@@ -275,13 +279,22 @@ module _ {Seat Frames Cabinet : Type 0} (l : StoreModel Seat Frames Cabinet) (co
           ∙ run_in_stops around ends.stands.progress bytes (address + length bytes) r rest (omega (arith, less)) (halt.halts _ r refl (dry_at (length bytes) r)) in
           record { copied = ap (λ (x : Copied). x.bytes) is; stopped = ap (λ (x : Copied). x.stop) is; leaves = (ends.stands.tables, subst (λ (x : Copied). IsSpace (body_at l c) ends.stands.tables x.progress.process) (sym is) ends.stands.space) }
 
+  -- why it stopped
+  stopped_copy : (access : Access) (all n : ℕ) (sent : List ℕ) (s : Stop) (c : Moment Seat Frames Cabinet) (j : Progress) → Stopped access all n sent s c j → StopsCopy l start c p access address n s
+  stopped_copy access all n sent s c j halt = record {
+    first = halt.denied;
+    dry = halt.dry;
+    unpromised = halt.unpromised;
+    lacks = λ is. let left = halt.left in (left.tables, left.progress.process, left.space, left.after, halt.short is, halt.free is);
+  }
+
   -- to the process
 
   abbrev put_so_far : (ℕ → ℕ → Bool) → List ℕ → Copied
   put_so_far dry sent = copied_out (with_dry dry) (copy_progress p) address sent
 
-  -- a copy of these bytes to the process that ended at the place c after n bytes
-  pub record EndsOut (bytes : List ℕ) (n : ℕ) (stop : Option Stop) (c : Place Seat Frames Cabinet) : Type 0 where
+  -- a copy of these bytes to the process that ended at the moment c, after n bytes
+  pub record EndsOut (bytes : List ℕ) (n : ℕ) (stop : Option Stop) (c : Moment Seat Frames Cabinet) : Type 0 where
     pub granted : AreGranted p Store address n
     pub stands : Stands l comes start p Store address n (take n bytes) c
     pub model : (dry : ℕ → ℕ → Bool) → IsCalm n dry → put_so_far dry (take n bytes) ≡ so_far stands.progress (take n bytes) None
@@ -293,7 +306,7 @@ module _ {Seat Frames Cabinet : Type 0} (l : StoreModel Seat Frames Cabinet) (co
     front_sent : (n : ℕ) (sent rest : List ℕ) → n ≡ length sent → sent ++ rest ≡ bytes → sent ≡ take n bytes
     front_sent n sent rest long is = sym (take_at sent rest n (sym long)) ∙ ap (take n) is
 
-    ended : (n : ℕ) (sent : List ℕ) (stop : Option Stop) (c : Place Seat Frames Cabinet) → sent ≡ take n bytes → AreGranted p Store address n → (stands : Stands l comes start p Store address n sent c)
+    ended : (n : ℕ) (sent : List ℕ) (stop : Option Stop) (c : Moment Seat Frames Cabinet) → sent ≡ take n bytes → AreGranted p Store address n → (stands : Stands l comes start p Store address n sent c)
         → ((dry : ℕ → ℕ → Bool) → IsCalm n dry → put_so_far dry sent ≡ so_far stands.progress sent None) → (stop ≡ None → n ≡ length bytes) → ((s : Stop) → stop ≡ Some s → Stopped Store (length bytes) n sent s c stands.progress)
         → EndsOut bytes n stop c
     ended n sent stop c front granted stands model whole stops =
@@ -301,13 +314,13 @@ module _ {Seat Frames Cabinet : Type 0} (l : StoreModel Seat Frames Cabinet) (co
         → ((s : Stop) → stop ≡ Some s → Stopped Store (length bytes) n xs s c stands.progress) → EndsOut bytes n stop c) (sym front)
         (λ stands model stops. record { granted = granted; stands = stands; model = model; whole = whole; stops = stops })) stands model stops
 
-    out_runs : (rs : List (ℕ × List ℕ)) (a c : Place Seat Frames Cabinet) (n : ℕ) (sent : List ℕ) (count : ℕ) (stop : Option Stop) → GivenFrom address n rs → sent ++ all_given rs ≡ bytes → n ≡ length sent
+    out_runs : (rs : List (ℕ × List ℕ)) (a c : Moment Seat Frames Cabinet) (n : ℕ) (sent : List ℕ) (count : ℕ) (stop : Option Stop) → GivenFrom address n rs → sent ++ all_given rs ≡ bytes → n ≡ length sent
         → (so : SoFar l comes start p Store address n sent a) → ((dry : ℕ → ℕ → Bool) → IsCalm n dry → put_so_far dry sent ≡ so_far so.progress sent None) → CopiesOut l rs a c n count stop → EndsOut bytes count stop c
     unfolding copied_out
     out_runs [] a c n sent count stop from is long so model (at, same, told) =
         let all = length-append sent [] in
         let every = ap length is in
-        subst (λ (x : Place Seat Frames Cabinet). EndsOut bytes count stop x) (sym at)
+        subst (λ (x : Moment Seat Frames Cabinet). EndsOut bytes count stop x) (sym at)
         (subst (λ (k : ℕ). EndsOut bytes k stop a) (sym same)
         (ended n sent stop a (front_sent n sent [] long is) so.granted so.stands model (λ none. omega (arith, all, every, long)) (λ s is_s. absurd (let both = sym told ∙ is_s in cc))))
     out_runs (r ∷ rs) a c n sent count stop (first, some, fits, edge, from) is long so model (b, Err s, e, (at, same, told)) =
@@ -315,7 +328,7 @@ module _ {Seat Frames Cabinet : Type 0} (l : StoreModel Seat Frames Cabinet) (co
         let all = length-append sent (r.1 ++ all_given rs) in
         let every = ap length is in
         let halt = stopped Store (length bytes) n sent a b so s (omega (arith, some, rest, all, every, long)) (stops_here l comes start p Store address n sent a so b s (subst (λ x. Reaches l a b Store x (Err s)) first e) edge) in
-        subst (λ (x : Place Seat Frames Cabinet). EndsOut bytes count stop x) (sym at)
+        subst (λ (x : Moment Seat Frames Cabinet). EndsOut bytes count stop x) (sym at)
         (subst (λ (k : ℕ). EndsOut bytes k stop b) (sym same)
         (subst (λ (o : Option Stop). EndsOut bytes n o b) (sym told)
         (ended n sent (Some s) b (front_sent n sent (r.1 ++ all_given rs) long is) so.granted halt.left (λ dry calm. model dry calm ∙ ap (λ g. so_far g sent None) (sym halt.same)) (λ none. absurd (cc))
@@ -331,7 +344,7 @@ module _ {Seat Frames Cabinet : Type 0} (l : StoreModel Seat Frames Cabinet) (co
         ∙ run_out (with_dry dry) so.progress next.so_far.progress sent (address + n) put.page r.1 some fits (next.is dry (λ need. calm n need (omega (arith, some)))) put.there put.whole
         ∙ ap (λ g. so_far g (sent ++ r.1) None) (sym put.is)) rest
 
-    pub ends_out : (t : Tables) → IsSpace (body_at l start) t p → length bytes ≤ 256 → (c : Place Seat Frames Cabinet) (count : ℕ) (stop : Option Stop) → CopiesOut l (runs_of address bytes) start c 0 count stop → EndsOut bytes count stop c
+    pub ends_out : (t : Tables) → IsSpace (body_at l start) t p → length bytes ≤ 256 → (c : Moment Seat Frames Cabinet) (count : ℕ) (stop : Option Stop) → CopiesOut l (runs_of address bytes) start c 0 count stop → EndsOut bytes count stop c
     unfolding copied_out
     ends_out t space small c count stop copies =
         let here = near address (length bytes) in
@@ -345,7 +358,7 @@ module _ {Seat Frames Cabinet : Type 0} (l : StoreModel Seat Frames Cabinet) (co
         (begun l comes start p Store address t space) (λ dry calm. refl) copies
 
     -- it is the model's copy
-    module _ (c : Place Seat Frames Cabinet) where
+    module _ (c : Moment Seat Frames Cabinet) where
       abbrev around : Option Stop → ℕ → Environment
       around stop n = copy_environment files stop (address + n)
 
@@ -378,15 +391,15 @@ module _ {Seat Frames Cabinet : Type 0} (l : StoreModel Seat Frames Cabinet) (co
           record { copied = ap (λ (x : Copied). x.bytes) is; stopped = ap (λ (x : Copied). x.stop) is; leaves = (ends.stands.tables, subst (λ (x : Copied). IsSpace (body_at l c) ends.stands.tables x.progress.process) (sym is) ends.stands.space) }
 
     -- the same by the result of the call
-    pub record ResultOut (r : Result (Unit {0}) Short) (c : Place Seat Frames Cabinet) : Type 0 where
-      pub granted : AreGranted p Store address (length (bytes_out bytes r))
-      pub stands : Stands l comes start p Store address (length (bytes_out bytes r)) (bytes_out bytes r) c
-      pub model : IsModelCopy (body_at l c) (copied_out (copy_environment files (stop_in r) (address + length (bytes_out bytes r))) (copy_progress p) address (take (asked (length bytes) (length (bytes_out bytes r)) (stop_in r)) bytes)) (bytes_out bytes r) (stop_in r)
-      pub stops : IfErr r (λ short. EndsOut bytes short.done (Some short.rule) c)
+    record ResultOut (r : Result (Unit {0}) Short) (c : Moment Seat Frames Cabinet) : Type 0 where
+      granted : AreGranted p Store address (length (bytes_out bytes r))
+      stands : Stands l comes start p Store address (length (bytes_out bytes r)) (bytes_out bytes r) c
+      model : IsModelCopy (body_at l c) (copied_out (copy_environment files (stop_in r) (address + length (bytes_out bytes r))) (copy_progress p) address (take (asked (length bytes) (length (bytes_out bytes r)) (stop_in r)) bytes)) (bytes_out bytes r) (stop_in r)
+      stops : IfErr r (λ short. EndsOut bytes short.done (Some short.rule) c)
 
-    pub result_out : (t : Tables) → IsSpace (body_at l start) t p → length bytes ≤ 256 → (c : Place Seat Frames Cabinet) (r : Result (Unit {0}) Short) → IfOk r (λ u. CopiesOut l (runs_of address bytes) start c 0 (length bytes) None)
-        → IfErr r (λ short. CopiesOut l (runs_of address bytes) start c 0 short.done (Some short.rule)) → ResultOut r c
-    result_out t space small c (Ok u) copied stopped =
+    result_out : (t : Tables) → IsSpace (body_at l start) t p → length bytes ≤ 256 → (c : Moment Seat Frames Cabinet) (r : Result (Unit {0}) Short)
+        → CopiesOut l (runs_of address bytes) start c 0 (count_or (length bytes) r) (stop_in r) → ResultOut r c
+    result_out t space small c (Ok u) copied =
         let end = ends_out t space small c (length bytes) None copied in
         let all = take_all (length bytes) bytes (omega arith) in
         let around = copy_environment files None (address + length bytes) in
@@ -396,7 +409,7 @@ module _ {Seat Frames Cabinet : Type 0} (l : StoreModel Seat Frames Cabinet) (co
           model = subst (λ (xs : List ℕ). IsModelCopy (body_at l c) (copied_out around (copy_progress p) address (take (length bytes) bytes)) xs None) all (model_out c (length bytes) None end);
           stops = tt;
         }
-    result_out t space small c (Err short) copied stopped =
+    result_out t space small c (Err short) stopped =
         let end = ends_out t space small c short.done (Some short.rule) stopped in
         let less = (end.stops short.rule refl).fewer in
         let long = length-take-le short.done bytes (omega (arith, less)) in
@@ -408,7 +421,76 @@ module _ {Seat Frames Cabinet : Type 0} (l : StoreModel Seat Frames Cabinet) (co
           stops = end;
         }
 
-    -- what is told of an error of the call
-    pub told_out : (c : Place Seat Frames Cabinet) (r : Result (Unit {0}) Short) → ResultOut r c → (Q : Short → Type 0) → ((short : Short) → EndsOut bytes short.done (Some short.rule) c → Q short) → IfErr r Q
-    told_out c (Ok u) ends Q f = tt
-    told_out c (Err short) ends Q f = f short ends.stops
+-- the record of a copy by the runs of it, its result and what stays
+
+module _ {Seat Frames Cabinet : Type 0} (l : StoreModel Seat Frames Cabinet) (comes : (x y : Cabinet) (ms : List PageMove) → l.becomes x ms y → l.files y ≡ files_after (l.files x) ms)
+    (start c : Moment Seat Frames Cabinet) (address : ℕ) (alive : IsAlive (body_at l start)) (space : StillStands (body_at l start) (body_at l c))
+    (keeps : KeepsSeats l.rule start.store start.space.seat c.store c.space.seat) where
+  module _ (n : ℕ) (small : n ≤ 256) where
+    abbrev EndIn : Process → Result (ArrayVec ℕ) Short → Type 0
+    EndIn p r = EndsIn l comes start p address n (length (bytes_in r)) (bytes_in r) (stop_in r) c
+
+    end_in : (r : Result (ArrayVec ℕ) Short) → CopiesIn l (runs address n) start c [] (bytes_in r) (stop_in r) → (t : Tables) (p : Process) → IsSpace (body_at l start) t p → EndIn p r
+    end_in r copied t p is = ends_in l comes start p address n t is small c (bytes_in r) (stop_in r) copied
+
+    pub bytes_in_are : (r : Result (ArrayVec ℕ) Short) → CopiesIn l (runs address n) start c [] (bytes_in r) (stop_in r) → (t : Tables) (p : Process) → IsSpace (body_at l start) t p
+        → bytes_in r ≡ process_bytes (l.files start.files) p address (length (bytes_in r))
+    bytes_in_are r copied t p is = (end_in r copied t p is).bytes_are
+
+    pub whole_in : (bytes : ArrayVec ℕ) → CopiesIn l (runs address n) start c [] bytes.items None → length bytes.items ≡ n
+    whole_in bytes copied = (end_in (Ok bytes) copied alive.0 alive.1 alive.2).whole refl
+
+    stops_in : (p : Process) (r : Result (ArrayVec ℕ) Short) → IfErr r (λ short. short.done ≡ length short.bytes.items) → EndIn p r → IfErr r (λ short. StopsCopy l start c p Load address short.done short.rule)
+    stops_in p (Ok bytes) done end = tt
+    stops_in p (Err short) done end =
+        subst (λ (k : ℕ). StopsCopy l start c p Load address k short.rule) (sym done) (stopped_copy l comes start p address Load n (length short.bytes.items) [] short.rule c end.stands.progress (end.stops short.rule refl))
+
+    fewer_in : (p : Process) (r : Result (ArrayVec ℕ) Short) → IfErr r (λ short. short.done ≡ length short.bytes.items) → EndIn p r → IfErr r (λ short. short.done < n)
+    fewer_in p (Ok bytes) done end = tt
+    fewer_in p (Err short) done end = let less = (end.stops short.rule refl).fewer in omega (arith, less, done)
+
+    pub copy_in_is : (r : Result (ArrayVec ℕ) Short) → IfErr r (λ short. short.done ≡ length short.bytes.items) → CopiesIn l (runs address n) start c [] (bytes_in r) (stop_in r)
+        → IsKernelCopy l start c Load address n (bytes_in r) r (λ p. model_copy_in (l.files start.files) p address n (bytes_in r) (stop_in r)) (HasSameBytes (l.files start.files))
+    copy_in_is r done copied =
+        let first = end_in r copied alive.0 alive.1 alive.2 in
+        record {
+          model = λ t p is. model_in l comes start p address n (bytes_in r) c (stop_in r) (end_in r copied t p is);
+          granted = λ t p is. (end_in r copied t p is).granted;
+          after = λ t p is. let s = (end_in r copied t p is).stands in (s.tables, s.progress.process, s.space, s.after, λ x. s.bytes.others x (aside address x));
+          stops = λ t p is. stops_in p r done (end_in r copied t p is);
+          fewer = fewer_in alive.1 r done first;
+          same_files = first.stands.same_files;
+          space = space;
+          keeps = keeps;
+        }
+
+  module _ (bytes : List ℕ) (small : length bytes ≤ 256) where
+    abbrev EndOut : Process → Result (Unit {0}) Short → Type 0
+    EndOut p r = ResultOut l comes start p address bytes r c
+
+    stops_out : (p : Process) (r : Result (Unit {0}) Short) → EndOut p r → IfErr r (λ short. StopsCopy l start c p Store address short.done short.rule)
+    stops_out p (Ok u) end = tt
+    stops_out p (Err short) end =
+        let halts = end.stops in
+        stopped_copy l comes start p address Store (length bytes) short.done (take short.done bytes) short.rule c halts.stands.progress (halts.stops short.rule refl)
+
+    fewer_out : (p : Process) (r : Result (Unit {0}) Short) → EndOut p r → IfErr r (λ short. short.done < length bytes)
+    fewer_out p (Ok u) end = tt
+    fewer_out p (Err short) end = let halts = end.stops in (halts.stops short.rule refl).fewer
+
+    pub copy_out_is : (r : Result (Unit {0}) Short) → CopiesOut l (runs_of address bytes) start c 0 (count_or (length bytes) r) (stop_in r)
+        → IsKernelCopy l start c Store address (length bytes) (bytes_out bytes r) r (λ p. model_copy_out (l.files start.files) p address bytes (bytes_out bytes r) (stop_in r))
+        (HasPut (l.files start.files) address (bytes_out bytes r))
+    copy_out_is r copied =
+        let end = λ (t : Tables) (p : Process) (is : IsSpace (body_at l start) t p). result_out l comes start p address bytes t is small c r copied in
+        let first = end alive.0 alive.1 alive.2 in
+        record {
+          model = λ t p is. (end t p is).model;
+          granted = λ t p is. (end t p is).granted;
+          after = λ t p is. let s = (end t p is).stands in (s.tables, s.progress.process, s.space, s.after, s.bytes);
+          stops = λ t p is. stops_out p r (end t p is);
+          fewer = fewer_out alive.1 r first;
+          same_files = first.stands.same_files;
+          space = space;
+          keeps = keeps;
+        }

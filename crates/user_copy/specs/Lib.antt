@@ -3,3 +3,4 @@ pub mod Runs
 pub mod FirstPageBytes
 pub mod CopyOfProcess
 pub mod CopyModel
+pub mod KernelCopies

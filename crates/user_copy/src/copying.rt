@@ -1,27 +1,19 @@
-// `copy_in` and `copy_out`, the kernel copies copyin and copyout of at most 256 bytes, which lie in at most two pages: each
-// page is made resident (in memory and ready for the access), and then its bytes are copied.
+// `copy_in` and `copy_out`, the kernel copies copyin and copyout of at most `LONGEST_COPY` bytes, which lie in at most two
+// pages: each page is made resident, and then its bytes are copied.
 
-ghost use Rattle.std.specs.Prelude.{[], ◌≡◌, ◌≢◌, ◌++◌, ◌+◌, ◌%◌, ◌<◌, ◌≤◌, false, true, IfErr, IfOk, length, None, Some};
+ghost use Rattle.std.specs.Prelude.{[], ◌≡◌, ◌+◌, ◌%◌, ◌<◌, ◌≤◌, IfErr, IfOk, length};
 ghost use Rattle.address_space.specs.Agreement.{body_of, IsSpace, IsAlive};
-ghost use Rattle.fault_rules.specs.MadeResident.{resident_reads};
+ghost use Rattle.fault_rules.specs.PageService.{moment, store_model};
 ghost use Rattle.frame_store.specs.Laws.{IsSeatOf, KeepsSeats};
-ghost use Rattle.process_model.specs.Copies.{longest_copy};
-ghost use Rattle.process_model.specs.Frames.{resident_need};
-ghost use Rattle.process_model.specs.Process.{Process, regions};
-ghost use Rattle.process_model.specs.Regions.{copy_rule};
-ghost use Rattle.process_model.specs.Residence.{is_resident};
-ghost use Rattle.process_model.specs.declared.step.Refusal.{Refusal};
-ghost use Rattle.sv39_entry.specs.Address.{page_of};
+ghost use Rattle.process_model.specs.Process.{Process};
 ghost use Rattle.sv39_entry.specs.Schemes.{maxva};
 ghost use Rattle.sv39_entry.specs.declared.access.Access.TheVariants.{Load, Store};
-ghost use Rattle.sv39_entry.specs.declared.rule.Rule.{Rule};
-ghost use Rattle.sv39_entry.specs.declared.rule.Rule.TheVariants.{NoFrame};
 ghost use Rattle.table_walk.specs.Tables.{Tables};
-ghost use Rattle.user_copy.specs.CopyModel.{IsModelCopy, model_copy_in, model_copy_out, stop_in};
-ghost use Rattle.user_copy.specs.CopyOfProcess.{AreGranted, bytes_in, bytes_out, HasPut, HasSameBytes, IsAfterCopy, process_bytes, RanShort};
-ghost use Rattle.user_copy.specs.ReachedPage.{place, Reaches, served_of, StillStands, store_model};
+ghost use Rattle.user_copy.specs.CopyModel.{model_copy_in, model_copy_out, stop_in};
+ghost use Rattle.user_copy.specs.CopyOfProcess.{bytes_in, bytes_out, HasPut, HasSameBytes, process_bytes};
+ghost use Rattle.user_copy.specs.KernelCopies.{count_or, IsKernelCopy, stop_told};
+ghost use Rattle.user_copy.specs.ReachedPage.{Reaches, served_of, StillStands};
 ghost use Rattle.user_copy.specs.Runs.{CopiesIn, CopiesOut, near, runs, runs_of, some_bytes, some_run};
-ghost use Rattle.user_copy.specs.declared.short.Stop.TheVariants.{Denied, Unpromised};
 
 use crate::short::{Short, Stop};
 use address_space::Space;
@@ -32,8 +24,8 @@ use frame_store::{FrameSeat, FrameSupply};
 use process_model::LONGEST_COPY;
 use sv39_entry::{Access, PAGE_SIZE, Va};
 
-/// Copies `n` bytes, at most 256, from a process's memory at `va`, and returns them (copyin of xv6). Each page is made
-/// resident for a load by the rules of a fault, in ascending order. Alignment does not matter, and a copy of no bytes
+/// Copies `n` bytes, at most `LONGEST_COPY`, from a process's memory at `va`, and returns them (copyin of xv6). Each page is
+/// made resident for a load by the rules of a fault, in ascending order. Alignment does not matter, and a copy of no bytes
 /// succeeds at every address. Makes no fence: the caller must, if leaves changed.
 ///
 /// # Errors
@@ -50,42 +42,16 @@ pub fn copy_in<S: FrameSeat, F: FrameSupply<Seat = S>, C: Files>(
 ) -> Result<ArrayVec<u8, LONGEST_COPY>, Short>
     requires fits { IsSeatOf F.rule store.old space.old.seat }
     requires ready { IsAlive (body_of S.view space.old) }
-    requires few { n ≤ longest_copy }
-    ensures copied { IfOk result (λ bytes.
-        CopiesIn (store_model S.view F.rule F.alone F.free F.count C.files C.becomes C.can_refuse) (runs va.0 n)
-        (place space.old store.old files.old) (place space.new store.new files.new) [] bytes.items None) }
-    ensures stopped { IfErr result (λ short.
-        CopiesIn (store_model S.view F.rule F.alone F.free F.count C.files C.becomes C.can_refuse) (runs va.0 n)
-        (place space.old store.old files.old) (place space.new store.new files.new) [] short.bytes.items (Some short.rule)) }
-    ensures done { IfErr result (λ short. short.done ≡ length short.bytes.items) }
-    ensures model { (t : Tables) (p : Process) → IsSpace (body_of S.view space.old) t p
-        → IsModelCopy (body_of S.view space.new) (model_copy_in (C.files files.old) p va.0 n (bytes_in result) (stop_in result))
-        (bytes_in result) (stop_in result) }
-    ensures whole { IfOk result (λ bytes. length bytes.items ≡ n) }
-    ensures fewer { IfErr result (λ short. short.done < n) }
+    requires few { n ≤ LONGEST_COPY }
+    ensures copied { CopiesIn (store_model S.view F.rule F.alone F.free F.count C.files C.becomes C.can_refuse) (runs va.0 n)
+        (moment space.old store.old files.old) (moment space.new store.new files.new) [] (bytes_in result) (stop_in result) }
+    ensures copies { IsKernelCopy (store_model S.view F.rule F.alone F.free F.count C.files C.becomes C.can_refuse)
+        (moment space.old store.old files.old) (moment space.new store.new files.new) Load va.0 n (bytes_in result) result
+        (λ p. model_copy_in (C.files files.old) p va.0 n (bytes_in result) (stop_in result)) (HasSameBytes (C.files files.old)) }
     ensures bytes { (t : Tables) (p : Process) → IsSpace (body_of S.view space.old) t p
         → bytes_in result ≡ process_bytes (C.files files.old) p va.0 (length (bytes_in result)) }
-    ensures granted { (t : Tables) (p : Process) → IsSpace (body_of S.view space.old) t p → AreGranted p Load va.0 (length (bytes_in result)) }
-    ensures first { (t : Tables) (p : Process) → IsSpace (body_of S.view space.old) t p
-        → IfErr result (λ short. (rule : Rule) → short.rule ≡ Denied rule → rule ≢ NoFrame
-        → copy_rule p.scheme (regions p) Load (va.0 + short.done) ≡ Some rule) }
-    ensures dry { (t : Tables) (p : Process) → IsSpace (body_of S.view space.old) t p
-        → IfErr result (λ short. short.rule ≡ Denied NoFrame → (copy_rule p.scheme (regions p) Load (va.0 + short.done) ≡ None)
-        × (is_resident p Load (page_of (va.0 + short.done)) ≡ false)) }
-    ensures unpromised { (t : Tables) (p : Process) → IsSpace (body_of S.view space.old) t p
-        → IfErr result (λ short. (e : Refusal) → short.rule ≡ Unpromised e
-        → (copy_rule p.scheme (regions p) Load (va.0 + short.done) ≡ None)
-        × (0 < length (resident_reads (C.files files.old) p (page_of (va.0 + short.done))))) }
-    ensures after { (t : Tables) (p : Process) → IsSpace (body_of S.view space.old) t p → (u : Tables) × (q : Process)
-        × IsSpace (body_of S.view space.new) u q × IsAfterCopy Load va.0 (length (bytes_in result)) p q × HasSameBytes (C.files files.old) p q }
-    ensures lacks { (t : Tables) (p : Process) → IsSpace (body_of S.view space.old) t p
-        → IfErr result (λ short. short.rule ≡ Denied NoFrame → (u : Tables) × (q : Process) × IsSpace (body_of S.view space.new) u q
-        × IsAfterCopy Load va.0 short.done p q
-        × RanShort (S.view space.old.seat) (S.view space.new.seat) q Load (page_of (va.0 + short.done))
-        × (F.alone → F.free store.new < resident_need true q Load (page_of (va.0 + short.done)))) }
-    ensures same_files { C.files files.new ≡ C.files files.old }
-    ensures space { StillStands (body_of S.view space.old) (body_of S.view space.new) }
-    ensures keeps { KeepsSeats F.rule store.old space.old.seat store.new space.new.seat }
+    ensures all { IfOk result (λ bytes. length bytes.items ≡ n) }
+    ensures done { IfErr result (λ short. short.done ≡ length short.bytes.items) }
 {
     let mut bytes = ArrayVec::new();
     match read_pages(space, store, files, va, n, &mut bytes) {
@@ -97,8 +63,8 @@ pub fn copy_in<S: FrameSeat, F: FrameSupply<Seat = S>, C: Files>(
     }
 }
 
-/// Copies these bytes, at most 256, to a process's memory at `va` (copyout of xv6). Each page is made resident for a store
-/// by the rules of a fault, in ascending order. Alignment does not matter, and a copy of no bytes succeeds at every
+/// Copies these bytes, at most `LONGEST_COPY`, to a process's memory at `va` (copyout of xv6). Each page is made resident for
+/// a store by the rules of a fault, in ascending order. Alignment does not matter, and a copy of no bytes succeeds at every
 /// address. Makes no fence: the caller must, if leaves changed.
 ///
 /// # Errors
@@ -114,40 +80,14 @@ pub fn copy_out<S: FrameSeat, F: FrameSupply<Seat = S>, C: Files>(
 ) -> Result<(), Short>
     requires fits { IsSeatOf F.rule store.old space.old.seat }
     requires ready { IsAlive (body_of S.view space.old) }
-    requires few { length bytes.now ≤ longest_copy }
-    ensures copied { IfOk result (λ _.
-        CopiesOut (store_model S.view F.rule F.alone F.free F.count C.files C.becomes C.can_refuse) (runs_of va.0 bytes.now)
-        (place space.old store.old files.old) (place space.new store.new files.new) 0 (length bytes.now) None) }
-    ensures stopped { IfErr result (λ short.
-        CopiesOut (store_model S.view F.rule F.alone F.free F.count C.files C.becomes C.can_refuse) (runs_of va.0 bytes.now)
-        (place space.old store.old files.old) (place space.new store.new files.new) 0 short.done (Some short.rule)) }
+    requires few { length bytes.now ≤ LONGEST_COPY }
+    ensures copied { CopiesOut (store_model S.view F.rule F.alone F.free F.count C.files C.becomes C.can_refuse) (runs_of va.0 bytes.now)
+        (moment space.old store.old files.old) (moment space.new store.new files.new) 0 (count_or (length bytes.now) result) (stop_in result) }
+    ensures copies { IsKernelCopy (store_model S.view F.rule F.alone F.free F.count C.files C.becomes C.can_refuse)
+        (moment space.old store.old files.old) (moment space.new store.new files.new) Store va.0 (length bytes.now) (bytes_out bytes.now result) result
+        (λ p. model_copy_out (C.files files.old) p va.0 bytes.now (bytes_out bytes.now result) (stop_in result))
+        (HasPut (C.files files.old) va.0 (bytes_out bytes.now result)) }
     ensures none { IfErr result (λ short. short.bytes.items ≡ []) }
-    ensures model { (t : Tables) (p : Process) → IsSpace (body_of S.view space.old) t p
-        → IsModelCopy (body_of S.view space.new)
-        (model_copy_out (C.files files.old) p va.0 bytes.now (bytes_out bytes.now result) (stop_in result)) (bytes_out bytes.now result) (stop_in result) }
-    ensures fewer { IfErr result (λ short. short.done < length bytes.now) }
-    ensures granted { (t : Tables) (p : Process) → IsSpace (body_of S.view space.old) t p → AreGranted p Store va.0 (length (bytes_out bytes.now result)) }
-    ensures first { (t : Tables) (p : Process) → IsSpace (body_of S.view space.old) t p
-        → IfErr result (λ short. (rule : Rule) → short.rule ≡ Denied rule → rule ≢ NoFrame
-        → copy_rule p.scheme (regions p) Store (va.0 + short.done) ≡ Some rule) }
-    ensures dry { (t : Tables) (p : Process) → IsSpace (body_of S.view space.old) t p
-        → IfErr result (λ short. short.rule ≡ Denied NoFrame → (copy_rule p.scheme (regions p) Store (va.0 + short.done) ≡ None)
-        × (is_resident p Store (page_of (va.0 + short.done)) ≡ false)) }
-    ensures unpromised { (t : Tables) (p : Process) → IsSpace (body_of S.view space.old) t p
-        → IfErr result (λ short. (e : Refusal) → short.rule ≡ Unpromised e
-        → (copy_rule p.scheme (regions p) Store (va.0 + short.done) ≡ None)
-        × (0 < length (resident_reads (C.files files.old) p (page_of (va.0 + short.done))))) }
-    ensures after { (t : Tables) (p : Process) → IsSpace (body_of S.view space.old) t p → (u : Tables) × (q : Process)
-        × IsSpace (body_of S.view space.new) u q × IsAfterCopy Store va.0 (length (bytes_out bytes.now result)) p q
-        × HasPut (C.files files.old) va.0 (bytes_out bytes.now result) p q }
-    ensures lacks { (t : Tables) (p : Process) → IsSpace (body_of S.view space.old) t p
-        → IfErr result (λ short. short.rule ≡ Denied NoFrame → (u : Tables) × (q : Process) × IsSpace (body_of S.view space.new) u q
-        × IsAfterCopy Store va.0 short.done p q
-        × RanShort (S.view space.old.seat) (S.view space.new.seat) q Store (page_of (va.0 + short.done))
-        × (F.alone → F.free store.new < resident_need true q Store (page_of (va.0 + short.done)))) }
-    ensures same_files { C.files files.new ≡ C.files files.old }
-    ensures space { StillStands (body_of S.view space.old) (body_of S.view space.new) }
-    ensures keeps { KeepsSeats F.rule store.old space.old.seat store.new space.new.seat }
 {
     write_pages(space, store, files, va, bytes)
 }
@@ -159,8 +99,8 @@ fn in_page(va: Va, n: usize) -> usize
     n.min((PAGE_SIZE - va.offset()) as usize)
 }
 
-/// Copies `n` bytes, at most 256, from `va` on from a process, and appends them to `bytes`, which is empty. Returns what
-/// stopped the copy, if anything did; the bytes before the stop are appended then too.
+/// Copies `n` bytes, at most `LONGEST_COPY`, from `va` on from a process, and appends them to `bytes`, which is empty.
+/// Returns what stopped the copy, if anything did; the bytes before the stop are appended then too.
 fn read_pages<S: FrameSeat, F: FrameSupply<Seat = S>, C: Files>(
     space: &mut Space<S>,
     store: &mut F,
@@ -171,14 +111,10 @@ fn read_pages<S: FrameSeat, F: FrameSupply<Seat = S>, C: Files>(
 ) -> Result<(), Stop>
     requires fits { IsSeatOf F.rule store.old space.old.seat }
     requires ready { IsAlive (body_of S.view space.old) }
-    requires few { n ≤ longest_copy }
+    requires few { n ≤ LONGEST_COPY }
     requires empty { bytes.old.items ≡ [] }
-    ensures copied { IfOk result (λ _.
-        CopiesIn (store_model S.view F.rule F.alone F.free F.count C.files C.becomes C.can_refuse) (runs va.0 n)
-        (place space.old store.old files.old) (place space.new store.new files.new) [] bytes.new.items None) }
-    ensures stopped { IfErr result (λ stop.
-        CopiesIn (store_model S.view F.rule F.alone F.free F.count C.files C.becomes C.can_refuse) (runs va.0 n)
-        (place space.old store.old files.old) (place space.new store.new files.new) [] bytes.new.items (Some stop)) }
+    ensures copied { CopiesIn (store_model S.view F.rule F.alone F.free F.count C.files C.becomes C.can_refuse) (runs va.0 n)
+        (moment space.old store.old files.old) (moment space.new store.new files.new) [] bytes.new.items (stop_told result) }
     ensures space { StillStands (body_of S.view space.old) (body_of S.view space.new) }
     ensures keeps { KeepsSeats F.rule store.old space.old.seat store.new space.new.seat }
 {
@@ -204,13 +140,9 @@ fn read_page<S: FrameSeat, F: FrameSupply<Seat = S>, C: Files>(
     requires fits { IsSeatOf F.rule store.old space.old.seat }
     requires ready { IsAlive (body_of S.view space.old) }
     requires inside { va.0 % 4096 + n ≤ 4096 }
-    requires few { length bytes.old.items + n ≤ longest_copy }
-    ensures copied { IfOk result (λ _.
-        CopiesIn (store_model S.view F.rule F.alone F.free F.count C.files C.becomes C.can_refuse) (some_run va.0 n)
-        (place space.old store.old files.old) (place space.new store.new files.new) bytes.old.items bytes.new.items None) }
-    ensures stopped { IfErr result (λ stop.
-        CopiesIn (store_model S.view F.rule F.alone F.free F.count C.files C.becomes C.can_refuse) (some_run va.0 n)
-        (place space.old store.old files.old) (place space.new store.new files.new) bytes.old.items bytes.new.items (Some stop)) }
+    requires few { length bytes.old.items + n ≤ LONGEST_COPY }
+    ensures copied { CopiesIn (store_model S.view F.rule F.alone F.free F.count C.files C.becomes C.can_refuse) (some_run va.0 n)
+        (moment space.old store.old files.old) (moment space.new store.new files.new) bytes.old.items bytes.new.items (stop_told result) }
     ensures more { IfOk result (λ _. length bytes.new.items ≡ length bytes.old.items + n) }
     ensures low { IfOk result (λ _. 0 < n → va.0 < maxva space.old.layout.scheme) }
     ensures space { StillStands (body_of S.view space.old) (body_of S.view space.new) }
@@ -220,7 +152,7 @@ fn read_page<S: FrameSeat, F: FrameSupply<Seat = S>, C: Files>(
         return Ok(());
     }
     reach(space, store, files, va, Access::Load)?;
-    let mut page = [0; 256];
+    let mut page = [0; LONGEST_COPY];
     let run = &mut page[..n];
     space.read_run(store, va, run);
     let Ok(()) = bytes.try_extend_from_slice(run) else {
@@ -229,7 +161,7 @@ fn read_page<S: FrameSeat, F: FrameSupply<Seat = S>, C: Files>(
     Ok(())
 }
 
-/// Copies these bytes, at most 256, to a process, to `va` and on.
+/// Copies these bytes, at most `LONGEST_COPY`, to a process, to `va` and on.
 ///
 /// # Errors
 /// As for `copy_out`.
@@ -242,13 +174,9 @@ fn write_pages<S: FrameSeat, F: FrameSupply<Seat = S>, C: Files>(
 ) -> Result<(), Short>
     requires fits { IsSeatOf F.rule store.old space.old.seat }
     requires ready { IsAlive (body_of S.view space.old) }
-    requires few { length bytes.now ≤ longest_copy }
-    ensures copied { IfOk result (λ _.
-        CopiesOut (store_model S.view F.rule F.alone F.free F.count C.files C.becomes C.can_refuse) (runs_of va.0 bytes.now)
-        (place space.old store.old files.old) (place space.new store.new files.new) 0 (length bytes.now) None) }
-    ensures stopped { IfErr result (λ short.
-        CopiesOut (store_model S.view F.rule F.alone F.free F.count C.files C.becomes C.can_refuse) (runs_of va.0 bytes.now)
-        (place space.old store.old files.old) (place space.new store.new files.new) 0 short.done (Some short.rule)) }
+    requires few { length bytes.now ≤ LONGEST_COPY }
+    ensures copied { CopiesOut (store_model S.view F.rule F.alone F.free F.count C.files C.becomes C.can_refuse) (runs_of va.0 bytes.now)
+        (moment space.old store.old files.old) (moment space.new store.new files.new) 0 (count_or (length bytes.now) result) (stop_in result) }
     ensures none { IfErr result (λ short. short.bytes.items ≡ []) }
     ensures space { StillStands (body_of S.view space.old) (body_of S.view space.new) }
     ensures keeps { KeepsSeats F.rule store.old space.old.seat store.new space.new.seat }
@@ -275,12 +203,8 @@ fn write_page<S: FrameSeat, F: FrameSupply<Seat = S>, C: Files>(
     requires fits { IsSeatOf F.rule store.old space.old.seat }
     requires ready { IsAlive (body_of S.view space.old) }
     requires inside { va.0 % 4096 + length bytes.now ≤ 4096 }
-    ensures copied { IfOk result (λ _.
-        CopiesOut (store_model S.view F.rule F.alone F.free F.count C.files C.becomes C.can_refuse) (some_bytes va.0 bytes.now)
-        (place space.old store.old files.old) (place space.new store.new files.new) done (done + length bytes.now) None) }
-    ensures stopped { IfErr result (λ short.
-        CopiesOut (store_model S.view F.rule F.alone F.free F.count C.files C.becomes C.can_refuse) (some_bytes va.0 bytes.now)
-        (place space.old store.old files.old) (place space.new store.new files.new) done short.done (Some short.rule)) }
+    ensures copied { CopiesOut (store_model S.view F.rule F.alone F.free F.count C.files C.becomes C.can_refuse) (some_bytes va.0 bytes.now)
+        (moment space.old store.old files.old) (moment space.new store.new files.new) done (count_or (done + length bytes.now) result) (stop_in result) }
     ensures none { IfErr result (λ short. short.bytes.items ≡ []) }
     ensures low { IfOk result (λ _. 0 < length bytes.now → va.0 < maxva space.old.layout.scheme) }
     ensures space { StillStands (body_of S.view space.old) (body_of S.view space.new) }
@@ -308,8 +232,7 @@ fn reach<S: FrameSeat, F: FrameSupply<Seat = S>, C: Files>(
     requires fits { IsSeatOf F.rule store.old space.old.seat }
     requires ready { IsAlive (body_of S.view space.old) }
     ensures reaches { Reaches (store_model S.view F.rule F.alone F.free F.count C.files C.becomes C.can_refuse)
-        (place space.old store.old files.old) (place space.new store.new files.new) access va.0 result }
-    ensures keeps { KeepsSeats F.rule store.old space.old.seat store.new space.new.seat }
+        (moment space.old store.old files.old) (moment space.new store.new files.new) access va.0 result }
 {
     stop_of(serve(space, store, files, va, 1, access))
 }

@@ -1,6 +1,6 @@
 //! Kernel copies `copy_in` and `copy_out` (copyin and copyout of the xv6 book, "Code: exec" and "Real world"), of at most
-//! 256 bytes from or to the memory of a process, over any store of frames and any files; and their error, struct `Short`
-//! with enum `Stop`. They make pages resident (in memory and ready for the access) as the service of a fault does.
+//! `LONGEST_COPY` bytes from or to the memory of a process, over any store of frames and any files; and their error, struct
+//! `Short` with enum `Stop`. They make pages resident as the service of a fault does.
 #![tactic(auto)]
 
 mod copying;

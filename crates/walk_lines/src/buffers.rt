@@ -1,4 +1,4 @@
-// `LeafLine`: a leaf, and `BufferLine`: an entry of a hart's buffer (TLB), as text and as JSON.
+// `LeafLine`: a leaf, and `BufferLine`: an entry of a hart's TLB, as text and as JSON.
 
 ghost use Rattle.std.specs.Prelude.{◌≡◌};
 ghost use Rattle.walk_lines.specs.Buffers.{buffer_line, leaf_line};
@@ -35,7 +35,7 @@ impl LeafLine {
     }
 }
 
-/// An entry of a hart's buffer (TLB).
+/// An entry of a hart's TLB.
 #[derive(Clone, Copy, PartialEq, Eq, Debug, Serialize)]
 pub struct BufferLine {
     /// Its number: 0 is the oldest.

@@ -1,5 +1,5 @@
 use Rattle.std.proofs.Common.{ap, refl}
-use Rattle.process_model.specs.ScalarReplies.{reply_of_scalar}
+use Rattle.process_model.specs.declared.reply.Reply.TheVariants.{Scalar}
 use Rattle.audit_player.proofs.Fixing.{goes_back, in_world, no_ready, not_back, not_entered}
 use Rattle.audit_player.proofs.Runs.{no_refusal}
 use Rattle.audit_player.proofs.commands.fix.Goals as goal
@@ -13,12 +13,12 @@ three_next-requires c =
     record { world = in_world _ _ _ (c.step_scalar-served.ensures.made _ entered.1) }
 
 pub returns-in-Refused : goal.returns-in-Refused
-returns-in-Refused c = record { made = λ w here. not_entered w c.args.hart _ _ c.in-Refused.field-0 (ap reply_of_scalar c.in-Refused.is) (c.three_next-entered.ensures.made w here) }
+returns-in-Refused c = record { made = λ w here. not_entered w c.args.hart _ _ c.in-Refused.field-0 (ap Scalar c.in-Refused.is) (c.three_next-entered.ensures.made w here) }
 
 pub returns-in-Ready : goal.returns-in-Ready
 returns-in-Ready c = record {
   made = λ w here.
-      goes_back w c.args.hart _ _ _ _ _ _ (no_refusal c.three_next-entered.result c.in_default.not-Refused) (ap reply_of_scalar c.in-Ready.is) (c.three_next-entered.ensures.made w here) c.step_scalar-served.ensures.made c.three_next.ensures.made;
+      goes_back w c.args.hart _ _ _ _ _ _ (no_refusal c.three_next-entered.result c.in_default.not-Refused) (ap Scalar c.in-Ready.is) (c.three_next-entered.ensures.made w here) c.step_scalar-served.ensures.made c.three_next.ensures.made;
 }
 
 pub returns : goal.returns

@@ -1,9 +1,9 @@
 use Rattle.std.proofs.Common.{subst}
-use Rattle.process_model.specs.ScalarReplies.{reply_of_scalar}
+use Rattle.process_model.specs.declared.reply.Reply.TheVariants.{Scalar}
 use Rattle.audit_player.specs.LineOutcomes.{GivesOutcome}
 use Rattle.script_language.specs.Text.{lent}
 use Rattle.audit_player.proofs.Lending.{starts}
 use Rattle.audit_player.proofs.commands.start.Goals as goal
 
 pub returns : goal.returns
-returns c = record { made = λ w here. subst (GivesOutcome c.step_scalar.new.self (reply_of_scalar c.step_scalar.result)) (starts w c.lend.result (lent c.args.image.now) c.lend.ensures.loads) (c.step_scalar.ensures.made w here) }
+returns c = record { made = λ w here. subst (GivesOutcome c.step_scalar.new.self (Scalar c.step_scalar.result)) (starts w c.lend.result (lent c.args.image.now) c.lend.ensures.loads) (c.step_scalar.ensures.made w here) }

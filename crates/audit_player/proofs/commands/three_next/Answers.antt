@@ -1,5 +1,5 @@
 use Rattle.std.proofs.Common.{ap, refl}
-use Rattle.process_model.specs.ScalarReplies.{reply_of_scalar}
+use Rattle.process_model.specs.declared.reply.Reply.TheVariants.{Scalar}
 use Rattle.script_language.specs.Text.{three_next}
 use Rattle.audit_player.proofs.Runs.{ends, goes_on, is_next, no_refusal, stops}
 use Rattle.audit_player.proofs.commands.three_next.Goals as goal
@@ -12,14 +12,14 @@ step_scalar-said-requires c =
 pub returns-in-Refused : goal.returns-in-Refused
 returns-in-Refused c = record {
   made = λ w here.
-      stops _ _ (three_next c.args.hart) c.instructions.counter _ (reply_of_scalar c.step_scalar-said.result) (reply_of_scalar c.args.reply) _ (is_next c.args.hart c.instructions.counter c.instructions-test.true) c.instructions-test.true c.step_scalar-said.ensures.made
-      c.in-Refused.field-0 (ap reply_of_scalar c.in-Refused.is) (c.instructions.invariant w here);
+      stops _ _ (three_next c.args.hart) c.instructions.counter _ (Scalar c.step_scalar-said.result) (Scalar c.args.reply) _ (is_next c.args.hart c.instructions.counter c.instructions-test.true) c.instructions-test.true c.step_scalar-said.ensures.made
+      c.in-Refused.field-0 (ap Scalar c.in-Refused.is) (c.instructions.invariant w here);
 }
 
 pub instructions-preserved : goal.instructions-preserved
 instructions-preserved c = λ w here.
-    goes_on _ _ (three_next c.args.hart) c.instructions.counter _ (reply_of_scalar c.step_scalar-said.result) (reply_of_scalar c.args.reply) _ (is_next c.args.hart c.instructions.counter c.instructions-test.true) c.instructions-test.true c.step_scalar-said.ensures.made
+    goes_on _ _ (three_next c.args.hart) c.instructions.counter _ (Scalar c.step_scalar-said.result) (Scalar c.args.reply) _ (is_next c.args.hart c.instructions.counter c.instructions-test.true) c.instructions-test.true c.step_scalar-said.ensures.made
     (no_refusal c.step_scalar-said.result c.in_default.not-Refused) (c.instructions.invariant w here)
 
 pub returns : goal.returns
-returns c = record { made = λ w here. ends _ (three_next c.args.hart) c.instructions.counter (reply_of_scalar c.args.reply) _ c.instructions-test.false (c.instructions.invariant w here) }
+returns c = record { made = λ w here. ends _ (three_next c.args.hart) c.instructions.counter (Scalar c.args.reply) _ c.instructions-test.false (c.instructions.invariant w here) }

@@ -6,7 +6,7 @@ use Rattle.audit_player.proofs.run_script.run.Given as goal
 abbrev pub invariant-lines : goal.invariant-lines
 invariant-lines g l = record {
   fine : g.W.Sink.broken l.fn.writer ≡ false → g.W.Sink.broken l.writer ≡ false;
-  low : vec_len l.page < 65536;
-  room : 66237 ≤ vec_capacity l.page;
-  text : IsWriting (g.W.Sink.contents l.fn.writer) (g.W.Sink.contents l.writer) l.machine l.images (drop l.number l.commands) l.page.items (text_of l.script);
+  low : vec_len l.block < 65536;
+  room : 66237 ≤ vec_capacity l.block;
+  text : IsWriting (g.W.Sink.contents l.fn.writer) (g.W.Sink.contents l.writer) l.machine l.images (drop l.number l.commands) l.block.items (text_of l.script);
 }

@@ -1,7 +1,7 @@
 use Rattle.std.proofs.Common.{◌<◌, List, ap, get_or, refl, rules, subst, sym, ◌∙◌}
 use Rattle.std.specs.Prelude.{All}
 use Rattle.std.proofs.lemmas.List.Elements.{All-get_or, All-push, All-same}
-use Rattle.script_language.specs.ThreadScript.{most_lists}
+use Rattle.script_language.specs.declared.limits.TheConstants.{MOST_LISTS}
 use Rattle.process_model.specs.declared.call.Start.{Start}
 use Rattle.script_reader.specs.ThreadsPlayable.{IsStart}
 use Rattle.script_language.specs.declared.declarations.ListedStart.{ListedStart}
@@ -21,7 +21,7 @@ starts-preserved c =
     record {
       room = search rules;
       all = search rules;
-      there = All-same (λ (start : Start). start.list < most_lists) c.push_reserved.new.self.items _ c.push_reserved.ensures.items (All-push (λ (start : Start). start.list < most_lists) c.starts.starts.items _ c.starts.invariant.there below);
+      there = All-same (λ (start : Start). start.list < MOST_LISTS) c.push_reserved.new.self.items _ c.push_reserved.ensures.items (All-push (λ (start : Start). start.list < MOST_LISTS) c.starts.starts.items _ c.starts.invariant.there below);
       are = starts_more s.images items c.starts.start-index d c.starts.starts.items c.push_reserved.new.self.items _ c.starts-test.true c.push_reserved.ensures.items c.starts.invariant.are
           (refl, lent_of s.images (get_or items c.starts.start-index d).image c.index-images-start.result c.lend.result there named c.lend.ensures.loads);
     }

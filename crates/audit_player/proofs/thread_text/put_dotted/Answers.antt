@@ -1,7 +1,7 @@
 use Rattle.std.proofs.Common.{rules, drop, ◌+◌}
 use Rattle.std.proofs.lemmas.List.{at_drop_more, at_drop_all}
 use Rattle.script_language.specs.Threads.{dotted_text}
-use Rattle.audit_player.proofs.Paged.{putting_more, putting_fails, putting_ends}
+use Rattle.audit_player.proofs.Blocks.{putting_more, putting_fails, putting_ends}
 use Rattle.audit_player.proofs.thread_text.put_dotted.Goals as goal
 
 pub returns-then-not-put_dotted-clause-puts : goal.returns-then-not-put_dotted-clause-puts

@@ -1,6 +1,6 @@
 use Rattle.std.proofs.Common.{◌≡◌, ◌-◌, ◌+◌, false, ℕ, List}
 use Rattle.std.specs.Io.KnownBytes.{Consumes}
-use Rattle.script_language.specs.Script.{longest_script}
+use Rattle.script_language.specs.declared.limits.TheConstants.{LONGEST_SCRIPT}
 use Rattle.script_reader.specs.Reading.{HasRead}
 use Rattle.audit_player.proofs.transfer.read_all.Given as goal
 
@@ -13,4 +13,4 @@ invariant-reading g l = record {
 }
 
 abbrev pub decreases-reading : goal.decreases-reading
-decreases-reading g l = longest_script + 1 - (l.reading).length
+decreases-reading g l = LONGEST_SCRIPT + 1 - (l.reading).length

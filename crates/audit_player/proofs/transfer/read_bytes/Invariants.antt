@@ -1,6 +1,6 @@
 use Rattle.std.proofs.Common.{◌≡◌, ◌-◌, ◌+◌, false, vec_len}
 use Rattle.std.specs.Io.KnownBytes.{Consumes}
-use Rattle.script_language.specs.Script.{longest_script}
+use Rattle.script_language.specs.declared.limits.TheConstants.{LONGEST_SCRIPT}
 use Rattle.audit_player.proofs.transfer.read_bytes.Given as goal
 
 abbrev pub invariant-reading : goal.invariant-reading
@@ -10,4 +10,4 @@ invariant-reading g l = record {
 }
 
 abbrev pub decreases-reading : goal.decreases-reading
-decreases-reading g l = longest_script + 1 - vec_len l.bytes
+decreases-reading g l = LONGEST_SCRIPT + 1 - vec_len l.bytes

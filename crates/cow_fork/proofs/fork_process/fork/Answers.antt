@@ -11,7 +11,7 @@ returns-in-Ok-clause-forked g c t p space =
     let same : c.copied.result ≡ c.args.space.now.layout = c.copied.ensures ∙ c.fork_with.ensures.place.layout in (
       all.0,
       all.1,
-      subst (λ l. Forks (body_of g.S.FrameSeat.view c.args.space.now) (body_of g.S.FrameSeat.view c.fork_with.new.space) (body (g.S.FrameSeat.view child.seat) child.root.0 child.trapframe.0 l) t all.0 all.1 p) (sym same) all.2,
+      rw c.space.ensures (subst (λ l. Forks (body_of g.S.FrameSeat.view c.args.space.now) (body_of g.S.FrameSeat.view c.fork_with.new.space) (body (g.S.FrameSeat.view child.seat) child.root.0 child.trapframe.0 l) t all.0 all.1 p) (sym same) all.2),
     )
 
 pub returns-in-Ok-clause-short : goal.returns-in-Ok-clause-short
@@ -38,3 +38,6 @@ returns-in-Err-clause-sharers g c alone is = c.in-Err.ensures.sharers alone (sam
 
 pub returns-in-Err-clause-free : goal.returns-in-Err-clause-free
 returns-in-Err-clause-free g c alone t p space other = c.in-Err.ensures.free alone t p space (λ is. other (same_error _ _ is))
+
+pub returns-in-Ok-clause-keeps : goal.returns-in-Ok-clause-keeps
+returns-in-Ok-clause-keeps g c = rw c.space.ensures c.in-Ok.ensures.keeps

@@ -2,7 +2,7 @@ use Rattle.std.proofs.Common.{◌≡◌, ◌+◌, ◌++◌, ◌∷◌, [], ◌�
 use Rattle.process_model.specs.Images.{end_of_loads}
 use Rattle.process_model.specs.Frames.{start_need}
 use Rattle.process_model.specs.ImageProcess.{guard_at, process_of, stack_at}
-use Rattle.process_model.specs.Regions.{guard_pages}
+use Rattle.process_model.specs.declared.limits.TheConstants.{GUARD_PAGES}
 use Rattle.address_space.specs.Parts.{AreParts, build_need, process_of_parts, region_in}
 use Rattle.exec_segments.specs.Loads.{AreLoads, JudgedLoads, load_of}
 use Rattle.exec_segments.proofs.Begins.{all_end, all_parts, are_parts, ArePartsOf, begins, end_fits, end_forward, guard_is, load_fits, needs, part_forward, room, stack_is, two_behind}
@@ -70,8 +70,8 @@ behind c = two_behind _ _ _ _ _ c.push-2.ensures.items c.push-3.ensures.items
 guard : (c : After-push-3) → region_in c.zeros_part.result ≡ guard_at (end_of_loads 0 (map load_of c.as_slice-loads.result.now))
 guard c = let at = goal.at.returns-clause-parts c in guard_is c.zeros_part.result _ _ c.zeros_part.ensures.region (c.empty.ensures tt) ∙ ap guard_at (last at.After-zeros_part)
 
-stack : (c : After-push-3) → region_in c.zeros_part-2.result ≡ stack_at (end_of_loads 0 (map load_of c.as_slice-loads.result.now) + guard_pages)
-stack c = let at = goal.at.returns-clause-parts c in stack_is c.zeros_part-2.result c.loads.end _ c.zeros_part-2.ensures.region (c.insert.ensures tt) ∙ ap (λ n. stack_at (n + guard_pages)) (last at.After-zeros_part)
+stack : (c : After-push-3) → region_in c.zeros_part-2.result ≡ stack_at (end_of_loads 0 (map load_of c.as_slice-loads.result.now) + GUARD_PAGES)
+stack c = let at = goal.at.returns-clause-parts c in stack_is c.zeros_part-2.result c.loads.end _ c.zeros_part-2.ensures.region (c.insert.ensures tt) ∙ ap (λ n. stack_at (n + GUARD_PAGES)) (last at.After-zeros_part)
 
 pub returns-clause-parts : goal.returns-clause-parts
 returns-clause-parts c =

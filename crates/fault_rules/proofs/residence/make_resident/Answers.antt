@@ -1,18 +1,20 @@
-use Rattle.std.proofs.Common.{◌≡◌, ◌-◌, ◌<◌, ◌≤◌, ap, refl, rules, sym, subst, ◌∙◌, arith, ℕ, None}
+use Rattle.std.proofs.Common.{◌≡◌, ◌-◌, ◌<◌, ◌≤◌, ap, refl, rules, sym, subst, ◌∙◌, arith, Err, None}
 use denote.Enum.Bare.{same_true}
-use Rattle.std.specs.Prelude.{IfOk, IsOk}
 use Rattle.std.proofs.lemmas.Bool.{false≢true}
+use Rattle.std.proofs.lemmas.Result.{err_from_is_err_and}
 use Rattle.address_space.specs.Agreement.{body_of, IsSpace, same_body}
-use Rattle.fault_rules.specs.MadeResident.{CanMakeResident, HasMadeResident, IsNoFrameError, MakesResident, LacksFrames, taken_of, WhenMadeResident}
-use Rattle.fault_rules.proofs.Results.{carried, none_gone, too_few}
+use Rattle.fault_rules.specs.MadeResident.{CanMakeResident, HasMadeResident, MakesResident, LacksFrames, WhenMadeResident}
+use Rattle.fault_rules.proofs.Results.{carried, too_few}
+use Rattle.fault_rules.proofs.Services.{after_reading, made_ready, ran_dry}
 use Rattle.fault_rules.proofs.StillResident.{page_low, still_moves, still_need, still_resides}
 use Rattle.frame_store.specs.Laws.{fits_after}
 use Rattle.address_space.specs.SpacesInCalls.{space_in_call}
 use Rattle.process_model.specs.PageMap.{get}
+use Rattle.process_model.specs.Process.{Process}
 use Rattle.sv39_entry.specs.Schemes.{trapframe_page}
 use Rattle.sv39_entry.specs.contracts.access.Access.{the_type}
-use Rattle.sv39_entry.specs.declared.access.Access.{Access}
 use Rattle.sv39_entry.specs.declared.access.Access.TheVariants.{Store}
+use Rattle.table_walk.specs.Tables.{Tables}
 use Rattle.fault_rules.proofs.residence.make_resident.Goals as goal
 
 pub settled_page-requires-clause-ready : goal.settled_page-requires-clause-ready
@@ -42,62 +44,9 @@ settle_initial-requires-clause-unsettled g c t p space =
     let body = same_body g.S.FrameSeat.view c.settled_page.new.self c.args.space.now read.reads.view read.reads.root read.reads.trapframe read.reads.layout in
     c.in_default.ensures.page t p (space_in_call (subst (λ b. IsSpace b t p) body space))
 
-pub returns-in_default-clause-resident : goal.returns-in_default-clause-resident
-returns-in_default-clause-resident g c =
-    let read = c.settled_page.ensures in
-    let body = same_body g.S.FrameSeat.view c.settled_page.new.self c.args.space.now read.reads.view read.reads.root read.reads.trapframe read.reads.layout in
-    carried {C = Access} {D = ℕ} (λ b s a n. IfOk c.settle_initial.result (λ _. HasMadeResident b (body_of g.S.FrameSeat.view c.settle_initial.new.space) (g.C.Files.files c.args.files.now) a n (λ f k. g.F.FrameAccess.alone → k ≡ g.F.FrameAccess.count s f))) {a = c.args.access} {m = c.args.page} body read.reads.same refl refl
-    (c.settle_initial.ensures.resident)
-
-pub returns-in_default-clause-dry : goal.returns-in_default-clause-dry
-returns-in_default-clause-dry g c short =
-    let read = c.settled_page.ensures in
-    let body = same_body g.S.FrameSeat.view c.settled_page.new.self c.args.space.now read.reads.view read.reads.root read.reads.trapframe read.reads.layout in
-    carried {C = Access} {D = ℕ} (λ b s a n. LacksFrames b (body_of g.S.FrameSeat.view c.settle_initial.new.space) a n) {a = c.args.access} {m = c.args.page} body read.reads.same refl refl
-    (c.settle_initial.ensures.dry short)
-
-pub returns-in_default-clause-of_file : goal.returns-in_default-clause-of_file
-returns-in_default-clause-of_file g c e is t p can =
-    let read = c.settled_page.ensures in
-    let body = same_body g.S.FrameSeat.view c.settled_page.new.self c.args.space.now read.reads.view read.reads.root read.reads.trapframe read.reads.layout in
-    c.settle_initial.ensures.of_file e is t p (subst (λ b. CanMakeResident b t p c.args.access c.args.page) (sym body) can)
-
-pub returns-in_default-clause-stays : goal.returns-in_default-clause-stays
-returns-in_default-clause-stays g c e is =
-    let left = c.settle_initial.ensures.stays e is in
-    let read = c.settled_page.ensures.reads in
-    record { layout = left.layout ∙ read.layout; view = left.view ∙ read.view; store = left.store ∙ read.same }
-
-pub returns-in_default-clause-moves : goal.returns-in_default-clause-moves
-returns-in_default-clause-moves g c none t p can =
-    let read = c.settled_page.ensures in
-    let body = same_body g.S.FrameSeat.view c.settled_page.new.self c.args.space.now read.reads.view read.reads.root read.reads.trapframe read.reads.layout in
-    c.settle_initial.ensures.moves none t p (subst (λ b. CanMakeResident b t p c.args.access c.args.page) (sym body) can)
-
-pub returns-in_default-clause-enough : goal.returns-in_default-clause-enough
-returns-in_default-clause-enough g c alone =
-    let read = c.settled_page.ensures in
-    let body = same_body g.S.FrameSeat.view c.settled_page.new.self c.args.space.now read.reads.view read.reads.root read.reads.trapframe read.reads.layout in
-    carried {C = Access} {D = ℕ} (λ b s a n. WhenMadeResident b a n (g.F.FrameAccess.count s) (λ need. IsOk c.settle_initial.result → need ≤ g.F.FrameAccess.free s)) {a = c.args.access} {m = c.args.page} body read.reads.same refl refl
-    (c.settle_initial.ensures.enough alone)
-
-pub returns-in_default-clause-short : goal.returns-in_default-clause-short
-returns-in_default-clause-short g c alone =
-    let read = c.settled_page.ensures in
-    let body = same_body g.S.FrameSeat.view c.settled_page.new.self c.args.space.now read.reads.view read.reads.root read.reads.trapframe read.reads.layout in
-    carried {C = Access} {D = ℕ} (λ b s a n. WhenMadeResident b a n (g.F.FrameAccess.count s) (λ need. IsNoFrameError c.settle_initial.result → g.F.FrameAccess.free s < need)) {a = c.args.access} {m = c.args.page} body read.reads.same refl refl
-    (c.settle_initial.ensures.short alone)
-
-pub returns-in_default-clause-free : goal.returns-in_default-clause-free
-returns-in_default-clause-free g c alone =
-    let read = c.settled_page.ensures in
-    let body = same_body g.S.FrameSeat.view c.settled_page.new.self c.args.space.now read.reads.view read.reads.root read.reads.trapframe read.reads.layout in
-    carried {C = Access} {D = ℕ} (λ b s a n. WhenMadeResident b a n (g.F.FrameAccess.count s) (λ need. g.F.FrameAccess.free c.settle_initial.new.store ≡ g.F.FrameAccess.free s - taken_of c.settle_initial.result need)) {a = c.args.access} {m = c.args.page} body read.reads.same refl refl
-    (c.settle_initial.ensures.free alone)
-
-pub returns-in_default-clause-keeps : goal.returns-in_default-clause-keeps
-returns-in_default-clause-keeps g c others r =
-    c.settle_initial.ensures.keeps others (c.settled_page.ensures.keeps others r)
+pub returns-in_default : goal.returns-in_default
+returns-in_default g c =
+    record { served = after_reading _ _ _ _ _ _ _ _ _ _ _ _ _ c.settled_page.ensures.reads c.settled_page.ensures.keeps c.settle_initial.ensures.served }
 
 -- ---- a settled page, for a store
 
@@ -121,123 +70,70 @@ take_over-requires-clause-settled g c t p space =
     let body = same_body g.S.FrameSeat.view c.settled_page.new.self c.args.space.now read.reads.view read.reads.root read.reads.trapframe read.reads.layout in
     (c.in-Some.ensures.page t p (space_in_call (subst (λ b. IsSpace b t p) body space))).1
 
-pub returns-in_err-take_over-clause-dry : goal.returns-in_err-take_over-clause-dry
-returns-in_err-take_over-clause-dry g c short =
+pub returns-in_err-take_over : goal.returns-in_err-take_over
+returns-in_err-take_over g c =
     let read = c.settled_page.ensures in
     let body = same_body g.S.FrameSeat.view c.settled_page.new.self c.args.space.now read.reads.view read.reads.root read.reads.trapframe read.reads.layout in
     let is : c.args.access ≡ Store = same_true the_type (search rules) _ _ (sym c.eq.ensures ∙ c.if-eq.true) in
     let r = c.requires.ready in
     let page = (c.in-Some.ensures.page r.0 r.1 (space_in_call r.2.agrees)).0 in
-    carried (λ b s a n. LacksFrames b (body_of g.S.FrameSeat.view c.take_over.new.space) a n) body read.reads.same (sym is) page
-    (c.in_err-take_over.ensures.dry)
-
-pub returns-in_err-take_over-clause-whole : goal.returns-in_err-take_over-clause-whole
-returns-in_err-take_over-clause-whole g c short t p space =
-    let read = c.settled_page.ensures in
-    let body = same_body g.S.FrameSeat.view c.settled_page.new.self c.args.space.now read.reads.view read.reads.root read.reads.trapframe read.reads.layout in
-    c.in_err-take_over.ensures.whole t p (subst (λ b. IsSpace b t p) (sym body) space)
-
-pub returns-in_err-take_over-clause-moves : goal.returns-in_err-take_over-clause-moves
-returns-in_err-take_over-clause-moves g c given t p can =
+    let reads = λ (t : Tables) (p : Process) (can : CanMakeResident (body_of g.S.FrameSeat.view c.args.space.now) t p c.args.access c.args.page).
     let found = c.in-Some.ensures.page t p (space_in_call can.agrees) in
     let none = still_moves can found.1.page (ap (get p.settled) (sym found.0) ∙ found.1.settled) (g.C.Files.files c.args.files.now) in
-    subst (λ ms. g.C.Files.becomes c.args.files.now ms c.args.files.now) (sym none) (g.met.C.Files.stays c.args.files.now)
+    subst (λ ms. g.C.Files.becomes c.args.files.now ms c.args.files.now) (sym none) (g.met.C.Files.stays c.args.files.now) in
+    let told = err_from_is_err_and c.from_residual.result c.from_residual.ensures.1 in
+    let taken = c.in_err-take_over.ensures in
+    record {
+      served = ran_dry _ _ _ _ _ r _ (told.1 ∙ ap Err told.2)
+          (carried (λ b s a n. LacksFrames b (body_of g.S.FrameSeat.view c.take_over.new.space) a n) body read.reads.same (sym is) page taken.dry)
+          (λ t p space. taken.whole t p (subst (λ b. IsSpace b t p) (sym body) space)) reads
+          (λ alone. carried (λ b s a n. WhenMadeResident b a n (g.F.FrameAccess.count s) (λ need. g.F.FrameAccess.free s < need)) body read.reads.same (sym is) page
+          (λ u q sh ready by. too_few _ _ (taken.exact alone u q sh ready by).1))
+          (λ alone. carried (λ b s a n. WhenMadeResident b a n (g.F.FrameAccess.count s) (λ need. g.F.FrameAccess.free c.take_over.new.store ≡ g.F.FrameAccess.free s - 0)) body read.reads.same (sym is) page
+          (taken.free alone))
+          (record { root = taken.place.root ∙ read.reads.root; trapframe = taken.place.trapframe ∙ read.reads.trapframe; layout = taken.place.layout ∙ read.reads.layout }) (λ others rule. taken.keeps others (read.keeps others rule));
+    }
 
-pub returns-in_err-take_over-clause-short : goal.returns-in_err-take_over-clause-short
-returns-in_err-take_over-clause-short g c alone t p shared can told short =
+pub returns-in_ok-take_over : goal.returns-in_ok-take_over
+returns-in_ok-take_over g c =
     let read = c.settled_page.ensures in
     let body = same_body g.S.FrameSeat.view c.settled_page.new.self c.args.space.now read.reads.view read.reads.root read.reads.trapframe read.reads.layout in
     let is : c.args.access ≡ Store = same_true the_type (search rules) _ _ (sym c.eq.ensures ∙ c.if-eq.true) in
     let r = c.requires.ready in
     let page = (c.in-Some.ensures.page r.0 r.1 (space_in_call r.2.agrees)).0 in
-    carried (λ b s a n. WhenMadeResident b a n (g.F.FrameAccess.count s) (λ need. g.F.FrameAccess.free s < need)) body read.reads.same (sym is) page
-    (λ u q sh ready by. too_few _ _ (c.in_err-take_over.ensures.exact alone u q sh ready by).1) t p shared can told
-
-pub returns-in_err-take_over-clause-free : goal.returns-in_err-take_over-clause-free
-returns-in_err-take_over-clause-free g c alone =
-    let read = c.settled_page.ensures in
-    let body = same_body g.S.FrameSeat.view c.settled_page.new.self c.args.space.now read.reads.view read.reads.root read.reads.trapframe read.reads.layout in
-    let is : c.args.access ≡ Store = same_true the_type (search rules) _ _ (sym c.eq.ensures ∙ c.if-eq.true) in
-    let r = c.requires.ready in
-    let page = (c.in-Some.ensures.page r.0 r.1 (space_in_call r.2.agrees)).0 in
-    carried (λ b s a n. WhenMadeResident b a n (g.F.FrameAccess.count s) (λ need. g.F.FrameAccess.free c.take_over.new.store ≡ g.F.FrameAccess.free s - taken_of c.from_residual.result need)) body read.reads.same (sym is) page
-    (λ u q sh ready by. none_gone c.from_residual.result _ _ _ c.from_residual.ensures.0 (c.in_err-take_over.ensures.free alone u q sh ready by))
-
-pub returns-in_err-take_over-clause-keeps : goal.returns-in_err-take_over-clause-keeps
-returns-in_err-take_over-clause-keeps g c others r =
-    c.take_over.ensures.keeps others (c.settled_page.ensures.keeps others r)
-
-pub returns-in_ok-take_over-clause-resident : goal.returns-in_ok-take_over-clause-resident
-returns-in_ok-take_over-clause-resident g c =
-    let read = c.settled_page.ensures in
-    let body = same_body g.S.FrameSeat.view c.settled_page.new.self c.args.space.now read.reads.view read.reads.root read.reads.trapframe read.reads.layout in
-    let is : c.args.access ≡ Store = same_true the_type (search rules) _ _ (sym c.eq.ensures ∙ c.if-eq.true) in
-    let r = c.requires.ready in
-    let page = (c.in-Some.ensures.page r.0 r.1 (space_in_call r.2.agrees)).0 in
-    carried (λ b s a n. HasMadeResident b (body_of g.S.FrameSeat.view c.take_over.new.space) (g.C.Files.files c.args.files.now) a n (λ f k. g.F.FrameAccess.alone → k ≡ g.F.FrameAccess.count s f)) body read.reads.same (sym is) page
-    (c.in_ok-take_over.ensures.resident (g.C.Files.files c.args.files.now))
-
-pub returns-in_ok-take_over-clause-moves : goal.returns-in_ok-take_over-clause-moves
-returns-in_ok-take_over-clause-moves g c given t p can =
+    let reads = λ (t : Tables) (p : Process) (can : CanMakeResident (body_of g.S.FrameSeat.view c.args.space.now) t p c.args.access c.args.page).
     let found = c.in-Some.ensures.page t p (space_in_call can.agrees) in
     let none = still_moves can found.1.page (ap (get p.settled) (sym found.0) ∙ found.1.settled) (g.C.Files.files c.args.files.now) in
-    subst (λ ms. g.C.Files.becomes c.args.files.now ms c.args.files.now) (sym none) (g.met.C.Files.stays c.args.files.now)
-
-pub returns-in_ok-take_over-clause-enough : goal.returns-in_ok-take_over-clause-enough
-returns-in_ok-take_over-clause-enough g c alone t p shared can told ok =
-    let read = c.settled_page.ensures in
-    let body = same_body g.S.FrameSeat.view c.settled_page.new.self c.args.space.now read.reads.view read.reads.root read.reads.trapframe read.reads.layout in
-    let is : c.args.access ≡ Store = same_true the_type (search rules) _ _ (sym c.eq.ensures ∙ c.if-eq.true) in
-    let r = c.requires.ready in
-    let page = (c.in-Some.ensures.page r.0 r.1 (space_in_call r.2.agrees)).0 in
-    carried (λ b s a n. WhenMadeResident b a n (g.F.FrameAccess.count s) (λ need. need ≤ g.F.FrameAccess.free s)) body read.reads.same (sym is) page
-    (λ u q sh ready by. (c.in_ok-take_over.ensures.exact alone u q sh ready by).0 refl) t p shared can told
-
-pub returns-in_ok-take_over-clause-free : goal.returns-in_ok-take_over-clause-free
-returns-in_ok-take_over-clause-free g c alone =
-    let read = c.settled_page.ensures in
-    let body = same_body g.S.FrameSeat.view c.settled_page.new.self c.args.space.now read.reads.view read.reads.root read.reads.trapframe read.reads.layout in
-    let is : c.args.access ≡ Store = same_true the_type (search rules) _ _ (sym c.eq.ensures ∙ c.if-eq.true) in
-    let r = c.requires.ready in
-    let page = (c.in-Some.ensures.page r.0 r.1 (space_in_call r.2.agrees)).0 in
-    carried (λ b s a n. WhenMadeResident b a n (g.F.FrameAccess.count s) (λ need. g.F.FrameAccess.free c.take_over.new.store ≡ g.F.FrameAccess.free s - need)) body read.reads.same (sym is) page
-    (c.in_ok-take_over.ensures.free alone)
-
-pub returns-in_ok-take_over-clause-keeps : goal.returns-in_ok-take_over-clause-keeps
-returns-in_ok-take_over-clause-keeps g c others r =
-    c.take_over.ensures.keeps others (c.settled_page.ensures.keeps others r)
+    subst (λ ms. g.C.Files.becomes c.args.files.now ms c.args.files.now) (sym none) (g.met.C.Files.stays c.args.files.now) in
+    let taken = c.in_ok-take_over.ensures in
+    record {
+      served = made_ready _ _ _ _ _ r _ refl
+          (carried (λ b s a n. HasMadeResident b (body_of g.S.FrameSeat.view c.take_over.new.space) (g.C.Files.files c.args.files.now) a n (λ f k. g.F.FrameAccess.alone → k ≡ g.F.FrameAccess.count s f)) body read.reads.same (sym is) page
+          (taken.resident (g.C.Files.files c.args.files.now))) reads
+          (λ alone. carried (λ b s a n. WhenMadeResident b a n (g.F.FrameAccess.count s) (λ need. need ≤ g.F.FrameAccess.free s)) body read.reads.same (sym is) page
+          (λ u q sh ready by. (taken.exact alone u q sh ready by).0 refl))
+          (λ alone. carried (λ b s a n. WhenMadeResident b a n (g.F.FrameAccess.count s) (λ need. g.F.FrameAccess.free c.take_over.new.store ≡ g.F.FrameAccess.free s - need)) body read.reads.same (sym is) page
+          (taken.free alone))
+          (record { root = taken.place.root ∙ read.reads.root; trapframe = taken.place.trapframe ∙ read.reads.trapframe; layout = taken.place.layout ∙ read.reads.layout }) (λ others rule. taken.keeps others (read.keeps others rule));
+    }
 
 -- ---- a settled page, for any other access
 
-pub returns-else-eq-clause-resident : goal.returns-else-eq-clause-resident
-returns-else-eq-clause-resident g c t p can =
+pub returns-else-eq : goal.returns-else-eq
+returns-else-eq g c =
     let read = c.settled_page.ensures in
     let body = same_body g.S.FrameSeat.view c.settled_page.new.self c.args.space.now read.reads.view read.reads.root read.reads.trapframe read.reads.layout in
-    let found = c.in-Some.ensures.page t p (space_in_call can.agrees) in
-    let settled = ap (get p.settled) (sym found.0) ∙ found.1.settled in
-    let other = λ (is : c.args.access ≡ Store). false≢true (sym c.if-eq.false ∙ c.eq.ensures ∙ (rw is refl)) in
     let now = body_of g.S.FrameSeat.view c.args.space.now in
-    (t, None, subst (λ b. MakesResident now.view b t t p (g.C.Files.files c.args.files.now) c.args.access c.args.page None) (sym body) (still_resides can found.1.page settled other _), λ f k on same. absurd (cc))
-
-pub returns-else-eq-clause-moves : goal.returns-else-eq-clause-moves
-returns-else-eq-clause-moves g c given t p can =
-    let found = c.in-Some.ensures.page t p (space_in_call can.agrees) in
-    let none = still_moves can found.1.page (ap (get p.settled) (sym found.0) ∙ found.1.settled) (g.C.Files.files c.args.files.now) in
-    subst (λ ms. g.C.Files.becomes c.args.files.now ms c.args.files.now) (sym none) (g.met.C.Files.stays c.args.files.now)
-
-pub returns-else-eq-clause-enough : goal.returns-else-eq-clause-enough
-returns-else-eq-clause-enough g c alone t p shared can told ok =
-    let found = c.in-Some.ensures.page t p (space_in_call can.agrees) in
-    let settled = ap (get p.settled) (sym found.0) ∙ found.1.settled in
     let other = λ (is : c.args.access ≡ Store). false≢true (sym c.if-eq.false ∙ c.eq.ensures ∙ (rw is refl)) in
-    let none = still_need can found.1.page settled other shared in
-    omega (arith, none)
-
-pub returns-else-eq-clause-free : goal.returns-else-eq-clause-free
-returns-else-eq-clause-free g c alone t p shared can told =
+    let settled = λ (t : Tables) (p : Process) (can : CanMakeResident now t p c.args.access c.args.page).
     let found = c.in-Some.ensures.page t p (space_in_call can.agrees) in
-    let settled = ap (get p.settled) (sym found.0) ∙ found.1.settled in
-    let other = λ (is : c.args.access ≡ Store). false≢true (sym c.if-eq.false ∙ c.eq.ensures ∙ (rw is refl)) in
-    let none = still_need can found.1.page settled other shared in
-    let same = ap g.F.FrameAccess.free c.settled_page.ensures.reads.same in
-    omega (arith, none, same)
+    ap (get p.settled) (sym found.0) ∙ found.1.settled in
+    let page = λ (t : Tables) (p : Process) (can : CanMakeResident now t p c.args.access c.args.page). (c.in-Some.ensures.page t p (space_in_call can.agrees)).1.page in
+    record {
+      served = made_ready _ _ _ _ _ c.requires.ready _ refl
+          (λ t p can. (t, None, subst (λ b. MakesResident now.view b t t p (g.C.Files.files c.args.files.now) c.args.access c.args.page None) (sym body) (still_resides can (page t p can) (settled t p can) other _), λ f k on same. absurd (cc)))
+          (λ t p can. subst (λ ms. g.C.Files.becomes c.args.files.now ms c.args.files.now) (sym (still_moves can (page t p can) (settled t p can) (g.C.Files.files c.args.files.now))) (g.met.C.Files.stays c.args.files.now))
+          (λ alone t p shared can told. let none = still_need can (page t p can) (settled t p can) other shared in omega (arith, none))
+          (λ alone t p shared can told. let none = still_need can (page t p can) (settled t p can) other shared in let same = ap g.F.FrameAccess.free read.reads.same in omega (arith, none, same))
+          (record { root = read.reads.root; trapframe = read.reads.trapframe; layout = read.reads.layout }) read.keeps;
+    }

@@ -1,17 +1,18 @@
 use Rattle.std.proofs.Common.{◌≡◌, ◌∙◌, Err, ap, true}
 use Rattle.std.specs.Prelude.{slice_get, is_none, nat_le, length}
 use Rattle.script_language.specs.Lines.{fields_of}
-use Rattle.script_language.specs.ReadLines.{is_ascii, longest_line}
+use Rattle.script_language.specs.ReadLines.{is_ascii}
 use Rattle.script_language.specs.declared.script.Cause.TheVariants as cause
 use Rattle.fault_texts.specs.Unknown.{is_unknown}
 use Rattle.fault_texts.proofs.Found.{none_if, some_if}
 use Rattle.fault_texts.proofs.RefusedLines.{line_wrong, too_long, not_ascii, unknown_word, is_after, after_the_word}
 use Rattle.fault_texts.proofs.explaining.find_mistake.Goals as goal
+use Rattle.script_language.specs.declared.limits.TheConstants.{LONGEST_LINE}
 
 pub returns-in-TooLong-clause-found : goal.returns-in-TooLong-clause-found
 returns-in-TooLong-clause-found c = λ refused.
     let wrong = line_wrong c.args.draft.now c.args.line.now cause.TooLong (refused ∙ ap Err c.in-TooLong.is) in
-    none_if c.too_long.result (nat_le (length c.args.line.now) longest_line) c.too_long.ensures.found (too_long c.args.draft.now c.args.line.now wrong)
+    none_if c.too_long.result (nat_le (length c.args.line.now) LONGEST_LINE) c.too_long.ensures.found (too_long c.args.draft.now c.args.line.now wrong)
 
 pub returns-in-NotAscii-clause-found : goal.returns-in-NotAscii-clause-found
 returns-in-NotAscii-clause-found c = λ refused.

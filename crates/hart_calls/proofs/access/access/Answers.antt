@@ -19,7 +19,7 @@ use Rattle.hart_calls.proofs.access.access.Goals as goal
 
 pub returns-then-not-is_width-clause-call_result : goal.returns-then-not-is_width-clause-call_result
 returns-then-not-is_width-clause-call_result g c =
-    rw c.short.ensures (λ k is t p space. (tt, bad_width (g.C.Files.files c.args.files.now) p (request_of c.args.request) k is (let e = c.is_width.ensures in let f = c.if-not-is_width.true in cc) (body_of g.S.FrameSeat.view c.args.space.now) (body_of g.S.FrameSeat.view c.args.space.now) _ _ _ (t, space) (g.met.C.Files.stays c.args.files.now)))
+    rw c.scalar.ensures (λ k is t p space. (tt, bad_width (g.C.Files.files c.args.files.now) p (request_of c.args.request) k is (let e = c.is_width.ensures in let f = c.if-not-is_width.true in cc) (body_of g.S.FrameSeat.view c.args.space.now) (body_of g.S.FrameSeat.view c.args.space.now) _ _ _ (t, space) (g.met.C.Files.stays c.args.files.now)))
 
 pub accessed-requires-clause-fits : goal.accessed-requires-clause-fits
 accessed-requires-clause-fits g c = fits_after g.F.FrameAccess.rule c.translate-walk.ensures.keeps c.requires.fits
@@ -54,12 +54,12 @@ returns-in-Ready-clause-call_result g c = λ k is t p space.
     let here = still_space g.S.FrameSeat.view _ _ n.reads.view n.reads.root n.reads.trapframe n.reads.layout t p space in
     let law = c.walks_grant_what_is_resident.ensures x t p c.args.request.access c.args.request.va.0 space in
     let wide : is_width c.args.request.width ≡ true = (let e = c.is_width.ensures in let f = c.if-not-is_width.false in cc) in
-    let none = ready_none files p a (c.in-Ready.ensures.ended t p here) in
+    let none = ready_none files p a (c.in-Ready.ensures.served.ended t p here) in
     let not = not_granted files p a (gives_leaf c.translate-walk.result) (sym c.is_permitted.ensures ∙ c.if-is_permitted.false) (rw (n.walk t p space) law) none in
-    let r = c.in-Ready.ensures.ready refl t p (can_reside (body_of g.S.FrameSeat.view c.translate-walk.new.self) t p c.args.request.access c.args.request.va.0 c.args.request.width here none) in
+    let r = c.in-Ready.ensures.served.ready refl t p (can_reside (body_of g.S.FrameSeat.view c.translate-walk.new.self) t p c.args.request.access c.args.request.va.0 c.args.request.width here none) in
     let there = as_told files p a (body_of g.S.FrameSeat.view c.serve.new.space) r.0 (is_shared_by r.1) (r.2.agrees 0) in
     made_later files p a k is wide x (body_of g.S.FrameSeat.view c.without_service.new.space) _ _ _ none not c.without_service.result (c.without_service.ensures.reply r.0 (q files p a) there) (r.0, c.without_service.ensures.after r.0 (q files p a) there)
-    (c.in-Ready.ensures.moves ready_served t p here)
+    (c.in-Ready.ensures.served.moves ready_served t p here)
 
 pub returns-in-Ended-clause-call_result : goal.returns-in-Ended-clause-call_result
 returns-in-Ended-clause-call_result g c = λ k is t p space.
@@ -68,7 +68,7 @@ returns-in-Ended-clause-call_result g c = λ k is t p space.
     let files = g.C.Files.files c.args.files.now in
     let x = body_of g.S.FrameSeat.view c.args.space.now in
     let y = body_of g.S.FrameSeat.view c.serve.new.space in
-    let e = c.in-Ended.ensures in
+    let e = c.in-Ended.ensures.served in
     let here = still_space g.S.FrameSeat.view _ _ n.reads.view n.reads.root n.reads.trapframe n.reads.layout t p space in
     let law = c.walks_grant_what_is_resident.ensures x t p c.args.request.access c.args.request.va.0 space in
     let wide : is_width c.args.request.width ≡ true = (let e = c.is_width.ensures in let f = c.if-not-is_width.false in cc) in
@@ -94,7 +94,7 @@ returns-in-Ended-clause-call_result g c = λ k is t p space.
 pub returns-in-Unserved-clause-call_result : goal.returns-in-Unserved-clause-call_result
 returns-in-Unserved-clause-call_result g c = λ k is t p space.
     let n = c.translate-walk.ensures in
-    let e = c.in-Unserved.ensures in
+    let e = c.in-Unserved.ensures.served in
     let here = still_space g.S.FrameSeat.view _ _ n.reads.view n.reads.root n.reads.trapframe n.reads.layout t p space in
     let x = e.unpromised c.in-Unserved.refusal refl in (
       is_access_call k (request_of c.args.request) is,
@@ -120,22 +120,22 @@ serve-requires-clause-ready g c =
     (r.0, r.1, still_space g.S.FrameSeat.view _ _ n.reads.view n.reads.root n.reads.trapframe n.reads.layout r.0 r.1 r.2)
 
 pub without_service-requires-clause-fits : goal.without_service-requires-clause-fits
-without_service-requires-clause-fits g c = fits_after g.F.FrameAccess.rule c.serve.ensures.keeps (fits_after g.F.FrameAccess.rule c.translate-walk.ensures.keeps c.requires.fits)
+without_service-requires-clause-fits g c = fits_after g.F.FrameAccess.rule c.serve.ensures.served.keeps (fits_after g.F.FrameAccess.rule c.translate-walk.ensures.keeps c.requires.fits)
 
 pub without_service-requires-clause-ready : goal.without_service-requires-clause-ready
 without_service-requires-clause-ready g c =
     let n = c.translate-walk.ensures in
     let p = c.requires.ready in
     let here = still_space g.S.FrameSeat.view _ _ n.reads.view n.reads.root n.reads.trapframe n.reads.layout p.0 p.1 p.2 in
-    let none = ready_none (g.C.Files.files c.args.files.now) p.1 (request_of c.args.request) (c.in-Ready.ensures.ended p.0 p.1 here) in
-    let r = c.in-Ready.ensures.ready refl p.0 p.1 (can_reside (body_of g.S.FrameSeat.view c.translate-walk.new.self) p.0 p.1 c.args.request.access c.args.request.va.0 c.args.request.width here none) in
+    let none = ready_none (g.C.Files.files c.args.files.now) p.1 (request_of c.args.request) (c.in-Ready.ensures.served.ended p.0 p.1 here) in
+    let r = c.in-Ready.ensures.served.ready refl p.0 p.1 (can_reside (body_of g.S.FrameSeat.view c.translate-walk.new.self) p.0 p.1 c.args.request.access c.args.request.va.0 c.args.request.width here none) in
     (r.0, made_resident (g.C.Files.files c.args.files.now) 0 (is_shared_by r.1) p.1 c.args.request.access (page_of c.args.request.va.0), r.2.agrees 0)
 
 pub returns-in-Ready-clause-keeps : goal.returns-in-Ready-clause-keeps
-returns-in-Ready-clause-keeps g c = λ others r. c.without_service.ensures.keeps others (c.serve.ensures.keeps others (c.translate-walk.ensures.keeps others r))
+returns-in-Ready-clause-keeps g c = λ others r. c.without_service.ensures.keeps others (c.serve.ensures.served.keeps others (c.translate-walk.ensures.keeps others r))
 
 pub returns-in-Ended-clause-keeps : goal.returns-in-Ended-clause-keeps
-returns-in-Ended-clause-keeps g c = λ others r. c.serve.ensures.keeps others (c.translate-walk.ensures.keeps others r)
+returns-in-Ended-clause-keeps g c = λ others r. c.serve.ensures.served.keeps others (c.translate-walk.ensures.keeps others r)
 
 pub returns-in-Unserved-clause-keeps : goal.returns-in-Unserved-clause-keeps
-returns-in-Unserved-clause-keeps g c = λ others r. c.serve.ensures.keeps others (c.translate-walk.ensures.keeps others r)
+returns-in-Unserved-clause-keeps g c = λ others r. c.serve.ensures.served.keeps others (c.translate-walk.ensures.keeps others r)

@@ -24,13 +24,13 @@ pub returns-in-Store-clause-call_result : goal.returns-in-Store-clause-call_resu
 returns-in-Store-clause-call_result g c = rw c.in-Store.is (c.access-in-Store.ensures.call_result (call.Store c.in-Store.address c.in-Store.width c.in-Store.value) (ap request_of c.new-in-Store.ensures))
 
 pub returns-in-Exec-clause-call_result : goal.returns-in-Exec-clause-call_result
-returns-in-Exec-clause-call_result g c = rw c.in-Exec.is c.replace.ensures.call_result
+returns-in-Exec-clause-call_result g c = rw c.in-Exec.is c.exec.ensures.call_result
 
 pub returns-in-Some-clause-call_result : goal.returns-in-Some-clause-call_result
-returns-in-Some-clause-call_result g c = rw c.in-CopyIn.is c.copy_from.ensures.call_result
+returns-in-Some-clause-call_result g c = rw c.in-CopyIn.is c.copy_in.ensures.call_result
 
 pub returns-in-CopyOut-clause-call_result : goal.returns-in-CopyOut-clause-call_result
-returns-in-CopyOut-clause-call_result g c = rw c.in-CopyOut.is c.copy_to.ensures.call_result
+returns-in-CopyOut-clause-call_result g c = rw c.in-CopyOut.is c.copy_out.ensures.call_result
 
 pub returns-in-Sbrk-clause-call_result : goal.returns-in-Sbrk-clause-call_result
 returns-in-Sbrk-clause-call_result g c =
@@ -61,7 +61,7 @@ unreachable-requires g c =
     no_room c.args.room c.in_default.is (subst (λ (k : Call). HasRoomFor k c.args.room) c.in-CopyIn.is c.requires.room)
 
 pub unreachable-requires-in-Exit : goal.unreachable-requires-in-Exit
-unreachable-requires-in-Exit g c = subst IsPlainCall c.in-Exit.is c.requires.stays
+unreachable-requires-in-Exit g c = subst IsPlainCall c.in-Exit.is c.requires.plain
 
 pub unreachable-requires-in-Fork : goal.unreachable-requires-in-Fork
-unreachable-requires-in-Fork g c = subst IsPlainCall c.in-Fork.is c.requires.stays
+unreachable-requires-in-Fork g c = subst IsPlainCall c.in-Fork.is c.requires.plain

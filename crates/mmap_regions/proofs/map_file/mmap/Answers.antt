@@ -1,7 +1,7 @@
 use Rattle.std.proofs.Common.{◌≡◌, sym, ap, ◌∙◌, Err, Ok, arith}
 use Rattle.process_model.specs.Mappings.{mapped, mapping_of}
 use Rattle.process_model.specs.Process.{Process}
-use Rattle.process_model.specs.declared.step.Refusal.TheVariants.{BadArgument, FileNotWritable, MappingsFull, NoRoom}
+use Rattle.process_model.specs.declared.reply.Refusal.TheVariants.{BadArgument, FileNotWritable, MappingsFull, NoRoom}
 use Rattle.address_space.specs.Agreement.{body_of, IsSpace}
 use Rattle.address_space.specs.Layouts.{LaysOut}
 use Rattle.address_space.specs.Steps.{CanReplaceLayout, mapped_with}

@@ -12,7 +12,7 @@ returns-in-Err-clause-alive g c =
 
 pub returns-in-Serve-clause-alive : goal.returns-in-Serve-clause-alive
 returns-in-Serve-clause-alive g c =
-    let asked = c.serve.ensures in
+    let asked = c.serve.ensures.served in
     alive_served _ _ _ _ _ _ _ _ _ _ _ _ _ c.serve.result asked.ended asked.ready asked.whole (λ nothing. (asked.stays nothing).view) asked.place.root asked.place.trapframe asked.place.layout c.requires.alive
 
 pub returns-in-Ok-mmap-clause-alive : goal.returns-in-Ok-mmap-clause-alive
@@ -27,13 +27,13 @@ returns-in-Unmap-clause-alive g c =
     alive_unmapped _ _ _ _ _ _ _ _ _ _ _ _ c.munmap.result asked.unmapped (IfErr-weaker c.munmap.result _ _ (λ e stays. stays.view) asked.stays) asked.root asked.trapframe (IfErr-weaker c.munmap.result _ _ (λ e stays. stays.layout) asked.stays) c.requires.alive
 
 pub returns-in-Ok-copy_in-clause-alive : goal.returns-in-Ok-copy_in-clause-alive
-returns-in-Ok-copy_in-clause-alive g c = alive_copied _ _ c.copy_in.ensures.space c.requires.alive
+returns-in-Ok-copy_in-clause-alive g c = alive_copied _ _ c.copy_in.ensures.copies.space c.requires.alive
 
 pub returns-in-Err-copy_in-clause-alive : goal.returns-in-Err-copy_in-clause-alive
-returns-in-Err-copy_in-clause-alive g c = alive_copied _ _ c.copy_in.ensures.space c.requires.alive
+returns-in-Err-copy_in-clause-alive g c = alive_copied _ _ c.copy_in.ensures.copies.space c.requires.alive
 
 pub returns-in-Ok-copy_out-clause-alive : goal.returns-in-Ok-copy_out-clause-alive
-returns-in-Ok-copy_out-clause-alive g c = alive_copied _ _ c.copy_out.ensures.space c.requires.alive
+returns-in-Ok-copy_out-clause-alive g c = alive_copied _ _ c.copy_out.ensures.copies.space c.requires.alive
 
 pub returns-in-Err-copy_out-clause-alive : goal.returns-in-Err-copy_out-clause-alive
-returns-in-Err-copy_out-clause-alive g c = alive_copied _ _ c.copy_out.ensures.space c.requires.alive
+returns-in-Err-copy_out-clause-alive g c = alive_copied _ _ c.copy_out.ensures.copies.space c.requires.alive

@@ -4,7 +4,7 @@ use Rattle.frame_store.specs.Laws.{fits_after}
 use Rattle.sv39_entry.specs.Schemes.{of_scheme}
 use Rattle.user_copy.specs.FirstPageBytes.{is_near}
 use Rattle.user_copy.specs.Runs.{near}
-use Rattle.user_copy.proofs.Nearby.{all_in, both_in, if_err, if_ok, stops_here_in}
+use Rattle.user_copy.proofs.Nearby.{all_in, both_in, stops_here_in}
 use Rattle.user_copy.proofs.copying.read_pages.Goals as goal
 
 pub read_page-requires-clause-inside : goal.read_page-requires-clause-inside
@@ -15,10 +15,10 @@ read_page-requires-clause-few g c =
     let few = (is_near c.args.va.0 c.args.n).few in
     rw (c.requires.empty, c.in_page-here.ensures) (omega (arith, few, c.requires.few))
 
-pub returns-in_err-read_page-clause-stopped : goal.returns-in_err-read_page-clause-stopped
-returns-in_err-read_page-clause-stopped g c =
+pub returns-in_err-read_page-clause-copied : goal.returns-in_err-read_page-clause-copied
+returns-in_err-read_page-clause-copied g c =
     let told = err_from_is_err_and c.from_residual.result c.from_residual.ensures.1 in
-    rw (told.1, told.2) (stops_here_in _ c.args.va.0 c.args.n _ c.in_page-here.ensures _ _ _ _ (rw c.requires.empty at c.in_err-read_page.ensures.stopped))
+    rw (told.1, told.2) (stops_here_in _ c.args.va.0 c.args.n _ c.in_page-here.ensures _ _ _ _ (rw c.requires.empty at c.in_err-read_page.ensures.copied))
 
 pub returns-then-here-n-clause-copied : goal.returns-then-here-n-clause-copied
 returns-then-here-n-clause-copied g c = all_in _ c.args.va.0 c.args.n _ c.in_page-here.ensures _ _ _ c.if-here-n.true (rw c.requires.empty at c.in_ok-read_page.ensures.copied)
@@ -59,12 +59,7 @@ pub read_page-requires-2-clause-ready : goal.read_page-requires-2-clause-ready
 read_page-requires-2-clause-ready g c = let r = c.requires.ready in c.read_page.ensures.space r.0 r.1 r.2
 
 pub returns-clause-copied : goal.returns-clause-copied
-returns-clause-copied g c =
-    if_ok c.read_page-2.result _ _ (λ all behind. both_in _ c.args.va.0 c.args.n _ c.in_page-here.ensures _ _ _ _ _ _ (rw c.requires.empty at c.in_ok-read_page.ensures.copied) behind) c.read_page-2.ensures.copied
-
-pub returns-clause-stopped : goal.returns-clause-stopped
-returns-clause-stopped g c =
-    if_err c.read_page-2.result _ _ (λ short behind. both_in _ c.args.va.0 c.args.n _ c.in_page-here.ensures _ _ _ _ _ _ (rw c.requires.empty at c.in_ok-read_page.ensures.copied) behind) c.read_page-2.ensures.stopped
+returns-clause-copied g c = both_in _ c.args.va.0 c.args.n _ c.in_page-here.ensures _ _ _ _ _ _ (rw c.requires.empty at c.in_ok-read_page.ensures.copied) c.read_page-2.ensures.copied
 
 pub returns-clause-space : goal.returns-clause-space
 returns-clause-space g c t p space = let first = c.read_page.ensures.space t p space in c.read_page-2.ensures.space first.0 first.1 first.2

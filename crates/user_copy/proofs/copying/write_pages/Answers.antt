@@ -4,7 +4,7 @@ use Rattle.frame_store.specs.Laws.{fits_after}
 use Rattle.sv39_entry.specs.Schemes.{of_scheme}
 use Rattle.user_copy.proofs.Chains.{is_none, is_some}
 use Rattle.user_copy.specs.FirstPageBytes.{is_near}
-use Rattle.user_copy.proofs.Nearby.{all_out, both_out, if_err, if_ok, stops_here_out}
+use Rattle.user_copy.proofs.Nearby.{all_out, both_out, stops_here_out}
 use Rattle.user_copy.proofs.copying.write_pages.Goals as goal
 
 pub split_at-requires : goal.split_at-requires
@@ -13,10 +13,10 @@ split_at-requires g c = rw c.in_page-here.ensures (is_near c.args.va.0 (length c
 pub write_page-requires-clause-inside : goal.write_page-requires-clause-inside
 write_page-requires-clause-inside g c = rw (c.split_at.ensures.front_len, c.in_page-here.ensures) (is_near c.args.va.0 (length c.args.bytes.now)).inside
 
-pub returns-in_err-write_page-clause-stopped : goal.returns-in_err-write_page-clause-stopped
-returns-in_err-write_page-clause-stopped g c =
+pub returns-in_err-write_page-clause-copied : goal.returns-in_err-write_page-clause-copied
+returns-in_err-write_page-clause-copied g c =
     let told = err_from_is_err_and c.from_residual.result c.from_residual.ensures.1 in
-    rw (told.1, told.2) (stops_here_out _ c.args.va.0 c.args.bytes.now _ c.in_page-here.ensures _ _ _ _ (rw c.split_at.ensures.front at c.in_err-write_page.ensures.stopped))
+    rw (told.1, told.2) (stops_here_out _ c.args.va.0 c.args.bytes.now _ c.in_page-here.ensures _ _ _ _ (rw c.split_at.ensures.front at c.in_err-write_page.ensures.copied))
 
 pub returns-then-is_empty-clause-copied : goal.returns-then-is_empty-clause-copied
 returns-then-is_empty-clause-copied g c =
@@ -47,14 +47,7 @@ returns-clause-copied g c =
     let few : c.in_page-here.result ≤ length c.args.bytes.now = rw c.in_page-here.ensures (is_near c.args.va.0 (length c.args.bytes.now)).few in
     let first : 0 + length c.split_at.result.0.now ≡ c.in_page-here.result = omega (arith, c.split_at.ensures.front_len) in
     let all : c.in_page-here.result + length c.split_at.result.1.now ≡ length c.args.bytes.now = omega (arith, few, c.split_at.ensures.back_len) in
-    if_ok c.write_page-2.result _ _ (λ u behind.
-    both_out _ c.args.va.0 c.args.bytes.now _ c.in_page-here.ensures _ _ _ _ _ _ (rw (first, c.split_at.ensures.front) at c.in_ok-write_page.ensures.copied) behind) (rw (all, c.split_at.ensures.back) at c.write_page-2.ensures.copied)
-
-pub returns-clause-stopped : goal.returns-clause-stopped
-returns-clause-stopped g c =
-    let first : 0 + length c.split_at.result.0.now ≡ c.in_page-here.result = omega (arith, c.split_at.ensures.front_len) in
-    if_err c.write_page-2.result _ _ (λ short behind.
-    both_out _ c.args.va.0 c.args.bytes.now _ c.in_page-here.ensures _ _ _ _ _ _ (rw (first, c.split_at.ensures.front) at c.in_ok-write_page.ensures.copied) behind) (rw c.split_at.ensures.back at c.write_page-2.ensures.stopped)
+    both_out _ c.args.va.0 c.args.bytes.now _ c.in_page-here.ensures _ _ _ _ _ _ (rw (first, c.split_at.ensures.front) at c.in_ok-write_page.ensures.copied) (rw (all, c.split_at.ensures.back) at c.write_page-2.ensures.copied)
 
 pub returns-clause-space : goal.returns-clause-space
 returns-clause-space g c t p space = let first = c.write_page.ensures.space t p space in c.write_page-2.ensures.space first.0 first.1 first.2

@@ -5,7 +5,7 @@ use Rattle.address_space.specs.Accesses.{request_of}
 use Rattle.address_space.specs.Agreement.{Body, body_of, IsSpace}
 use Rattle.hart_calls.specs.Replay.{call_of, forked}
 use Rattle.hart_calls.specs.Track.{next_of, Track}
-use Rattle.hart_calls.specs.TurnCases.{most_entries}
+use Rattle.process_model.specs.declared.limits.TheConstants.{MOST_ENTRIES}
 use Rattle.hart_calls.proofs.AtOnce.{filed_at_once, goes_at_once, leads_at_once, no_shelf, space_at_once}
 use Rattle.hart_calls.proofs.Journals.{forks_more, one_longer, plain_forks}
 use Rattle.shared_frames.specs.SeatsOfTable.{fits_still, may_step, view_of}
@@ -56,7 +56,7 @@ invariant_of-self-2 g c =
     let next : call_of e ≡ next_of t = subst (λ (z : Track). call_of e ≡ next_of z) (sym c.self.view_is) (n.call ∙ c.listed-listed.ensures) in
     let pages = n.pages ∙ c.none.ensures in
     let none : forked e.reply ≡ 0 = ap forked n.reply ∙ plain_forks _ m.plain in
-    let few : length c.self.inside.parts.journal.items < most_entries = (let made = c.len-made.ensures in let not = c.if-made-eq-MOST_ENTRIES.false in let most = i.5 in omega (arith, made, not, most)) in
+    let few : length c.self.inside.parts.journal.items < MOST_ENTRIES = (let made = c.len-made.ensures in let not = c.if-made-eq-MOST_ENTRIES.false in let most = i.5 in omega (arith, made, not, most)) in
     let many = i.6 in
     rw c.push_reserved.ensures.items (
       (fits_still _ _ _ c.self.inside.parts.space.value.seat c.permitted_there.new.space.value.seat c.requires.store c.permitted_there.ensures.keeps i.0).1,

@@ -9,7 +9,7 @@ use Rattle.hart_calls.specs.CallResults.{address_of, at_stop, by_reply}
 use Rattle.hart_calls.specs.Replay.{call_of, forked}
 use Rattle.hart_calls.specs.Shortages.{Shortage}
 use Rattle.hart_calls.specs.Track.{next_of, Track}
-use Rattle.hart_calls.specs.TurnCases.{HasMapping, most_entries}
+use Rattle.hart_calls.specs.TurnCases.{HasMapping}
 use Rattle.hart_calls.proofs.Filing.{ended_files}
 use Rattle.hart_calls.proofs.Journals.{forks_more, one_longer, plain_forks}
 use Rattle.hart_calls.proofs.Served.{is_plain_access, maps_none, needs_none, never_stops, reads_none, roomless}
@@ -17,12 +17,13 @@ use Rattle.hart_calls.proofs.Turning.{goes, IsEntryOf, leads}
 use Rattle.process_model.specs.Process.{Process}
 use Rattle.shared_frames.specs.SeatsOfTable.{fits_still, may_step, view_of}
 use Rattle.hart_calls.proofs.tracked.Tracked.access_served.Goals as goal
+use Rattle.process_model.specs.declared.limits.TheConstants.{MOST_ENTRIES}
 
 pub make_there-call_result-requires-clause-fits : goal.make_there-call_result-requires-clause-fits
 make_there-call_result-requires-clause-fits g c = may_step _ _ c.self.inside.parts.space.value.seat c.requires.store c.self.invariant.0
 
-pub make_there-call_result-requires-clause-stays : goal.make_there-call_result-requires-clause-stays
-make_there-call_result-requires-clause-stays g c = is_plain_access c.next-call.result (c.if-not-is_access.ensures refl)
+pub make_there-call_result-requires-clause-plain : goal.make_there-call_result-requires-clause-plain
+make_there-call_result-requires-clause-plain g c = is_plain_access c.next-call.result (c.if-not-is_access.ensures refl)
 
 pub make_there-call_result-requires-clause-room : goal.make_there-call_result-requires-clause-room
 make_there-call_result-requires-clause-room g c = roomless c.next-call.result _ (c.if-not-is_access.ensures refl)
@@ -66,7 +67,7 @@ invariant_of-self-in-Answered g c =
     let moved : c.state_after-present.result.state ≡ (call_outcome a.files w 0 state k).process = c.state_after-present.ensures ∙ ap (λ (s : ShelfState). (call_outcome s.files w 0 state k).process) c.of-before.ensures in
     let next : call_of e ≡ next_of t = subst (λ (z : Track). call_of e ≡ next_of z) (sym c.self.view_is) (n.call ∙ c.listed-listed.ensures) in
     let none : forked e.reply ≡ 0 = ap forked n.reply ∙ plain_forks _ h.0 in
-    let few : length c.self.inside.parts.journal.items < most_entries = (let made : c.made.result ≡ length t.journal = subst (λ (z : Track). c.made.result ≡ length z.journal) (sym c.self.view_is) c.made.ensures in let not = c.if-made-eq-MOST_ENTRIES.false in let most = i.5 in omega (arith, made, not, most)) in
+    let few : length c.self.inside.parts.journal.items < MOST_ENTRIES = (let made : c.made.result ≡ length t.journal = subst (λ (z : Track). c.made.result ≡ length z.journal) (sym c.self.view_is) c.made.ensures in let not = c.if-made-eq-MOST_ENTRIES.false in let most = i.5 in omega (arith, made, not, most)) in
     let many = i.6 in
     rw (c.push_reserved.ensures.items ∙ ap (λ es. es ++ c.new-entry.result ∷ []) c.reserve.ensures.items) (
       (fits_still _ _ _ c.self.inside.parts.space.value.seat c.make_there-call_result.new.space.value.seat c.requires.store c.make_there-call_result.ensures.keeps i.0).1,
@@ -144,8 +145,8 @@ invariant_of-self g c = rw c.reserve.ensures.items c.self.invariant
 pub unreachable-requires : goal.unreachable-requires
 unreachable-requires g c =
     let i = c.self.invariant in
-    let comes = c.in-Stopped.ensures.call_result i.1.0 c.self.inside.parts.present.state i.1.1 in
-    never_stops (c.new-shelf.result).files c.self.inside.parts.present.state c.next-call.result c.in-Stopped.field-1 c.in-Stopped.field-0 (c.if-not-is_access.ensures refl) comes.possible
+    let comes = c.in-Unpromised.ensures.call_result i.1.0 c.self.inside.parts.present.state i.1.1 in
+    never_stops (c.new-shelf.result).files c.self.inside.parts.present.state c.next-call.result c.in-Unpromised.field-1 c.in-Unpromised.field-0 (c.if-not-is_access.ensures refl) comes.possible
 
 pub invariant_of-self-in-Ended : goal.invariant_of-self-in-Ended
 invariant_of-self-in-Ended g c =
@@ -169,10 +170,10 @@ invariant_of-self-in-Ended g c =
 pub returns-in-Ended-clause-store : goal.returns-in-Ended-clause-store
 returns-in-Ended-clause-store g c = (fits_still _ _ _ c.self.inside.parts.space.value.seat c.make_there-call_result.new.space.value.seat c.requires.store c.make_there-call_result.ensures.keeps c.self.invariant.0).0
 
-pub invariant_of-self-in-Cut : goal.invariant_of-self-in-Cut
-invariant_of-self-in-Cut g c =
+pub invariant_of-self-in-Unserved : goal.invariant_of-self-in-Unserved
+invariant_of-self-in-Unserved g c =
     let i = c.self.invariant in
-    let cut = c.in-Cut.ensures.call_result i.1.0 c.self.inside.parts.present.state i.1.1 in
+    let cut = c.in-Unserved.ensures.call_result i.1.0 c.self.inside.parts.present.state i.1.1 in
     rw c.reserve.ensures.items (
       (fits_still _ _ _ c.self.inside.parts.space.value.seat c.make_there-call_result.new.space.value.seat c.requires.store c.make_there-call_result.ensures.keeps i.0).1,
       cut.1.space,

@@ -1,7 +1,7 @@
 use Rattle.std.proofs.Common.{◌∙◌, arith, refl, subst, sym}
-use Rattle.process_model.specs.ScalarReplies.{reply_of_scalar}
-use Rattle.process_model.specs.World.{Outcome}
-use Rattle.process_model.specs.declared.step.Refusal.TheVariants.{BadArgument}
+use Rattle.process_model.specs.declared.reply.Reply.TheVariants.{Scalar}
+use Rattle.process_model.specs.World.{StepOutcome}
+use Rattle.process_model.specs.declared.reply.Refusal.TheVariants.{BadArgument}
 use Rattle.hart_machine.specs.Marks.{AreMarked}
 use Rattle.hart_machine.specs.Worlds.{KeepsTables, IsModelOutcome}
 use Rattle.hart_machine.proofs.CopySteps.{long_out, proper_out, step_out, too_long_out}
@@ -33,23 +33,23 @@ returns-in-Err-clause-changed c w is =
 pub returns-in-Err-clause-tables : goal.returns-in-Err-clause-tables
 returns-in-Err-clause-tables c w is = same_places c.args.self.now c.args.self.now _ _ (refl, refl)
 
-pub copy_to-requires-clause-world : goal.copy_to-requires-clause-world
-copy_to-requires-clause-world c = let r = c.requires.world in (r.0, c.args.hart, r.1, c.in-Ok.ensures.there r.0 r.1)
+pub copy_out_slot-requires-clause-world : goal.copy_out_slot-requires-clause-world
+copy_out_slot-requires-clause-world c = let r = c.requires.world in (r.0, c.args.hart, r.1, c.in-Ok.ensures.there r.0 r.1)
 
 pub returns-clause-made : goal.returns-clause-made
 returns-clause-made c w is =
     let k = c.in-Ok.ensures.there w is in
-    subst (λ (o : Outcome). IsModelOutcome c.copy_to.new.self (reply_of_scalar c.copy_to.result.reply) o) (sym (step_out c.args.self.now w is c.args.hart c.in-Ok.slot k c.args.address c.args.bytes (omega (arith, c.if-bytes-gt-LONGEST_COPY.false))))
-    (c.copy_to.ensures.made w c.args.hart is k)
+    subst (λ (o : StepOutcome). IsModelOutcome c.copy_out_slot.new.self (Scalar c.copy_out_slot.result.reply) o) (sym (step_out c.args.self.now w is c.args.hart c.in-Ok.slot k c.args.address c.args.bytes (omega (arith, c.if-bytes-gt-LONGEST_COPY.false))))
+    (c.copy_out_slot.ensures.made w c.args.hart is k)
 
 pub returns-clause-changed : goal.returns-clause-changed
 returns-clause-changed c w is =
     let k = c.in-Ok.ensures.there w is in
-    subst (λ (o : Outcome). AreMarked w o c.copy_to.result.changed c.copy_to.result.born) (sym (step_out c.args.self.now w is c.args.hart c.in-Ok.slot k c.args.address c.args.bytes (omega (arith, c.if-bytes-gt-LONGEST_COPY.false))))
-    (c.copy_to.ensures.changed w c.args.hart is k)
+    subst (λ (o : StepOutcome). AreMarked w o c.copy_out_slot.result.changed c.copy_out_slot.result.born) (sym (step_out c.args.self.now w is c.args.hart c.in-Ok.slot k c.args.address c.args.bytes (omega (arith, c.if-bytes-gt-LONGEST_COPY.false))))
+    (c.copy_out_slot.ensures.changed w c.args.hart is k)
 
 pub returns-clause-tables : goal.returns-clause-tables
 returns-clause-tables c w is =
     let k = c.in-Ok.ensures.there w is in
-    subst (λ (o : Outcome). KeepsTables c.args.self.now c.copy_to.new.self w.slots (o.world).slots) (sym (step_out c.args.self.now w is c.args.hart c.in-Ok.slot k c.args.address c.args.bytes (omega (arith, c.if-bytes-gt-LONGEST_COPY.false))))
-    (c.copy_to.ensures.tables w c.args.hart is k)
+    subst (λ (o : StepOutcome). KeepsTables c.args.self.now c.copy_out_slot.new.self w.slots (o.world).slots) (sym (step_out c.args.self.now w is c.args.hart c.in-Ok.slot k c.args.address c.args.bytes (omega (arith, c.if-bytes-gt-LONGEST_COPY.false))))
+    (c.copy_out_slot.ensures.tables w c.args.hart is k)

@@ -39,13 +39,13 @@ returns-then-not-in_trampoline-clause-made c w buffered =
     elsewhere c.args.self.now w is c.args.hart c.args.offset c.args.via c.if-offset-ne0.false (omega (arith, c.if-offset-ge-PAGE_SIZE.false)) c.in-Some.phase has
     (sym c.in_trampoline.ensures ∙ c.if-not-in_trampoline.true)
 
-pub returns-in_default-translate_access-clause-made : goal.returns-in_default-translate_access-clause-made
-returns-in_default-translate_access-clause-made c w buffered =
+pub returns-in_default-translate_kernel-clause-made : goal.returns-in_default-translate_kernel-clause-made
+returns-in_default-translate_kernel-clause-made c w buffered =
     let is = buffered.world in
     let has = has_hart c.args.self.now w is c.args.hart c.in-Some.phase (sym c.in-Some.is ∙ c.phase_of.ensures) in
     no_entry c.args.self.now w is c.args.hart c.args.offset c.args.via c.if-offset-ne0.false (omega (arith, c.if-offset-ge-PAGE_SIZE.false)) c.in-Some.phase has
-    (sym c.in_trampoline.ensures ∙ c.if-not-in_trampoline.false) c.translate_access.new.self ((c.translate_access.ensures.world w is).0)
-    (ap (λ a. entry_serves c.args.self.now.policy (hart_of has.hart) a c.args.via) (sym (at_world _ w.scheme _ c.args.offset is.scheme c.trampoline-trampoline.ensures)) ∙ sym (c.translate_access.ensures.serves w has.hart is has.there) ∙ ap is_ok c.in_default-translate_access.is)
+    (sym c.in_trampoline.ensures ∙ c.if-not-in_trampoline.false) c.translate_kernel.new.self ((c.translate_kernel.ensures.world w is).0)
+    (ap (λ a. entry_serves c.args.self.now.policy (hart_of has.hart) a c.args.via) (sym (at_world _ w.scheme _ c.args.offset is.scheme c.trampoline-trampoline.ensures)) ∙ sym (c.translate_kernel.ensures.serves w has.hart is has.there) ∙ ap is_ok c.in_default-translate_kernel.is)
 
 pub unreachable-requires : goal.unreachable-requires
 unreachable-requires c =
@@ -70,5 +70,5 @@ returns-clause-made c w buffered =
     let code = finds_code c.args.self.now.kernel.scheme c.args.offset (omega (arith, c.if-offset-ge-PAGE_SIZE.false)) c.args.self.now w is refl c.args.hart has.hart has.there c.in-Ok.walk
     (subst (λ a. IsTranslated c.args.self.now.kernel.scheme has.hart is.tables is.kernel a Fetch Supervisor c.in-Ok.walk) (at_machine _ _ c.args.offset c.trampoline-trampoline.ensures) (c.in-Ok.ensures.walk w buffered has.hart has.there (inr (omega (arith, c.if-offset-ge-PAGE_SIZE.false, c.trampoline-trampoline.ensures))))) c.in-Leaf.word c.in-Leaf.level c.in-Leaf.address c.in-Leaf.is in
     rw c.from.ensures (fetches_code c.args.self.now w is c.args.hart c.args.offset c.args.via c.if-offset-ne0.false (omega (arith, c.if-offset-ge-PAGE_SIZE.false)) c.in-Some.phase has
-    (sym c.in_trampoline.ensures ∙ c.if-not-in_trampoline.false) c.translate_access.new.self ((c.translate_access.ensures.world w is).0)
-    (ap (λ a. entry_serves c.args.self.now.policy (hart_of has.hart) a c.args.via) (sym (at_world _ w.scheme _ c.args.offset is.scheme c.trampoline-trampoline.ensures)) ∙ sym (c.translate_access.ensures.serves w has.hart is has.there) ∙ ap is_ok c.in-Ok.is) c.in-Some-from_ppn.frame (sym c.in-Some-from_ppn.is ∙ c.from_ppn.ensures ∙ code))
+    (sym c.in_trampoline.ensures ∙ c.if-not-in_trampoline.false) c.translate_kernel.new.self ((c.translate_kernel.ensures.world w is).0)
+    (ap (λ a. entry_serves c.args.self.now.policy (hart_of has.hart) a c.args.via) (sym (at_world _ w.scheme _ c.args.offset is.scheme c.trampoline-trampoline.ensures)) ∙ sym (c.translate_kernel.ensures.serves w has.hart is has.there) ∙ ap is_ok c.in-Ok.is) c.in-Some-from_ppn.frame (sym c.in-Some-from_ppn.is ∙ c.from_ppn.ensures ∙ code))

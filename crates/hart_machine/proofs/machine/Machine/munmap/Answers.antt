@@ -2,10 +2,10 @@ use Rattle.hart_machine.proofs.BufferSteps.{same_harts}
 use Rattle.hart_machine.proofs.machine.Machine.munmap.Goals as goal
 
 pub returns-in-Ok-clause-buffers : goal.returns-in-Ok-clause-buffers
-returns-in-Ok-clause-buffers c = same_harts c.args.self.now c.unmap.new.self c.in-Ok.ensures.harts
+returns-in-Ok-clause-buffers c = same_harts c.args.self.now c.try_munmap.new.self c.in-Ok.ensures.harts
 
 pub returns-in-Err-clause-buffers : goal.returns-in-Err-clause-buffers
-returns-in-Err-clause-buffers c = same_harts c.args.self.now c.unmap.new.self c.in-Err.ensures.harts
+returns-in-Err-clause-buffers c = same_harts c.args.self.now c.try_munmap.new.self c.in-Err.ensures.harts
 
 pub returns-in-Ok-clause-made : goal.returns-in-Ok-clause-made
 returns-in-Ok-clause-made c w is = rw c.with_change.ensures (c.in-Ok.ensures.made w is)

@@ -4,7 +4,7 @@ use Rattle.table_walk.specs.Tables.{AreTables}
 use Rattle.hart_machine.specs.SeenTables.{word_at}
 use Rattle.hart_machine.specs.Tables.{tables_of}
 use Rattle.hart_machine.specs.Worlds.{seats_of}
-use Rattle.hart_machine.specs.declared.tables.SatpTable.{SatpTable}
+use Rattle.hart_machine.specs.declared.translation.SatpTable.{SatpTable}
 use Rattle.hart_machine.proofs.AccessingWorlds.{seat_fits}
 use Rattle.hart_machine.proofs.HartSteps.{process_at}
 use Rattle.hart_machine.proofs.PresentTables.{tenant_is}

@@ -3,7 +3,7 @@ use Rattle.process_laws.proofs.HeadlineProof.{headline_holds}
 use Rattle.process_laws.specs.Headline.{Headline}
 use Rattle.process_model.specs.Steps.{run}
 use Rattle.process_model.specs.World.{booted}
-use Rattle.process_model.specs.declared.step.Reply.{Reply}
+use Rattle.process_model.specs.declared.reply.Reply.{Reply}
 use Rattle.hart_machine.proofs.ListedSteps.{HasRun, all_run, next_left, none_left, one_more, run_buffers, run_true}
 use Rattle.hart_machine.proofs.machine.Machine.run.Goals as goal
 

@@ -11,7 +11,7 @@ use Rattle.hart_machine.specs.Harts.{hart_of}
 use Rattle.hart_machine.specs.SeenTables.{word_at}
 use Rattle.hart_machine.specs.Tables.{present_table, tables_of}
 use Rattle.hart_machine.specs.declared.hart.Hart.{Hart}
-use Rattle.hart_machine.specs.declared.tables.SatpTable.{SatpTable}
+use Rattle.hart_machine.specs.declared.translation.SatpTable.{SatpTable}
 use Rattle.hart_machine.proofs.FillWorlds.{table_there}
 use Rattle.hart_machine.proofs.HartSteps.{slot_low}
 use Rattle.hart_machine.proofs.SeenWords.{hart_seen}

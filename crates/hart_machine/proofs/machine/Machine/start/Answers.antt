@@ -7,7 +7,7 @@ use Rattle.process_model.specs.Calls.{started, started_as}
 use Rattle.process_model.specs.Images.{image_loads}
 use Rattle.process_model.specs.ImageProcess.{process_of}
 use Rattle.process_model.specs.Steps.{plain_step}
-use Rattle.process_model.specs.declared.step.Refusal.TheVariants.{BadImage, NoFrame, NoSlot}
+use Rattle.process_model.specs.declared.reply.Refusal.TheVariants.{BadImage, NoFrame, NoSlot}
 use Rattle.process_model.specs.declared.step.Step.TheVariants as step
 use Rattle.std.specs.Vec.{with_item}
 use Rattle.address_space.specs.Agreement.{HoldsTrampoline, IsSpace}

@@ -11,12 +11,6 @@ use Rattle.hart_machine.proofs.machine.Machine.step.Goals as goal
 pub step_scalar-requires-clause-scalar : goal.step_scalar-requires-clause-scalar
 step_scalar-requires-clause-scalar c = is_scalar_step c.args.step c.in_default.not-CopyIn
 
-pub returns-in_default-clause-made : goal.returns-in_default-clause-made
-returns-in_default-clause-made c w inn = rw c.reply.ensures (c.step_scalar.ensures.made w inn)
-
-pub returns-in_default-clause-each_buffer : goal.returns-in_default-clause-each_buffer
-returns-in_default-clause-each_buffer c w inn = rw c.reply.ensures (c.step_scalar.ensures.each_buffer w inn)
-
 pub mark-requires : goal.mark-requires
 mark-requires c s is =
     let r = c.requires.world in

@@ -1,4 +1,4 @@
-use Rattle.process_model.specs.ScalarReplies.{reply_of_scalar}
+use Rattle.process_model.specs.declared.reply.Reply.TheVariants.{Scalar}
 use Rattle.process_model.specs.Steps.{plain_step}
 use Rattle.hart_machine.proofs.MarkedSteps.{are_after, fills_alone, keeps_made, made_after, true_after}
 use Rattle.hart_machine.proofs.MarkedWorlds.{born_low, changed_low}
@@ -17,24 +17,24 @@ mark-requires-2 c s is =
 pub returns-clause-made : goal.returns-clause-made
 returns-clause-made c w inn =
     let y = c.make-reply.ensures in
-    made_after c.args.self.now c.make-reply.new.self c.mark.new.self c.mark-2.new.self w c.args.step inn (reply_of_scalar c.make-reply.result.reply) c.make-reply.result.changed c.make-reply.result.born (y.made w inn) (y.changed w inn) (y.tables w inn) (y.each_buffer w inn) c.mark.ensures.harts c.mark.ensures.buffers c.mark.ensures.others c.mark-2.ensures.harts c.mark-2.ensures.buffers c.mark-2.ensures.others
+    made_after c.args.self.now c.make-reply.new.self c.mark.new.self c.mark-2.new.self w c.args.step inn (Scalar c.make-reply.result.reply) c.make-reply.result.changed c.make-reply.result.born (y.made w inn) (y.changed w inn) (y.tables w inn) (y.each_buffer w inn) c.mark.ensures.harts c.mark.ensures.buffers c.mark.ensures.others c.mark-2.ensures.harts c.mark-2.ensures.buffers c.mark-2.ensures.others
 
 pub returns-clause-buffers : goal.returns-clause-buffers
 returns-clause-buffers c w inn =
     let y = c.make-reply.ensures in
-    fills_alone c.args.self.now c.make-reply.new.self c.mark.new.self c.mark-2.new.self w c.args.step inn (reply_of_scalar c.make-reply.result.reply) c.make-reply.result.changed c.make-reply.result.born (y.made w inn) (y.changed w inn) (y.tables w inn) (y.each_buffer w inn) c.mark.ensures.harts c.mark.ensures.buffers c.mark.ensures.others c.mark-2.ensures.harts c.mark-2.ensures.buffers c.mark-2.ensures.others
+    fills_alone c.args.self.now c.make-reply.new.self c.mark.new.self c.mark-2.new.self w c.args.step inn (Scalar c.make-reply.result.reply) c.make-reply.result.changed c.make-reply.result.born (y.made w inn) (y.changed w inn) (y.tables w inn) (y.each_buffer w inn) c.mark.ensures.harts c.mark.ensures.buffers c.mark.ensures.others c.mark-2.ensures.harts c.mark-2.ensures.buffers c.mark-2.ensures.others
 
 pub returns-clause-each_buffer : goal.returns-clause-each_buffer
 returns-clause-each_buffer c w inn =
     let y = c.make-reply.ensures in
-    are_after c.args.self.now c.make-reply.new.self c.mark.new.self c.mark-2.new.self w c.args.step inn (reply_of_scalar c.make-reply.result.reply) c.make-reply.result.changed c.make-reply.result.born (y.made w inn) (y.changed w inn) (y.tables w inn) (y.each_buffer w inn) c.mark.ensures.harts c.mark.ensures.buffers c.mark.ensures.others c.mark-2.ensures.harts c.mark-2.ensures.buffers c.mark-2.ensures.others
+    are_after c.args.self.now c.make-reply.new.self c.mark.new.self c.mark-2.new.self w c.args.step inn (Scalar c.make-reply.result.reply) c.make-reply.result.changed c.make-reply.result.born (y.made w inn) (y.changed w inn) (y.tables w inn) (y.each_buffer w inn) c.mark.ensures.harts c.mark.ensures.buffers c.mark.ensures.others c.mark-2.ensures.harts c.mark-2.ensures.buffers c.mark-2.ensures.others
 
 pub returns-clause-tables : goal.returns-clause-tables
 returns-clause-tables c w inn =
     let y = c.make-reply.ensures in
-    keeps_made c.args.self.now c.make-reply.new.self c.mark.new.self c.mark-2.new.self w c.args.step inn (reply_of_scalar c.make-reply.result.reply) c.make-reply.result.changed c.make-reply.result.born (y.made w inn) (y.changed w inn) (y.tables w inn) (y.each_buffer w inn) c.mark.ensures.harts c.mark.ensures.buffers c.mark.ensures.others c.mark-2.ensures.harts c.mark-2.ensures.buffers c.mark-2.ensures.others
+    keeps_made c.args.self.now c.make-reply.new.self c.mark.new.self c.mark-2.new.self w c.args.step inn (Scalar c.make-reply.result.reply) c.make-reply.result.changed c.make-reply.result.born (y.made w inn) (y.changed w inn) (y.tables w inn) (y.each_buffer w inn) c.mark.ensures.harts c.mark.ensures.buffers c.mark.ensures.others c.mark-2.ensures.harts c.mark-2.ensures.buffers c.mark-2.ensures.others
 
 pub returns-clause-identifiers : goal.returns-clause-identifiers
 returns-clause-identifiers c w inn asid =
     let y = c.make-reply.ensures in
-    true_after c.args.self.now c.make-reply.new.self c.mark.new.self c.mark-2.new.self w c.args.step inn (reply_of_scalar c.make-reply.result.reply) c.make-reply.result.changed c.make-reply.result.born (y.made w inn) (y.changed w inn) (y.tables w inn) (y.each_buffer w inn) c.mark.ensures.harts c.mark.ensures.buffers c.mark.ensures.others c.mark-2.ensures.harts c.mark-2.ensures.buffers c.mark-2.ensures.others asid
+    true_after c.args.self.now c.make-reply.new.self c.mark.new.self c.mark-2.new.self w c.args.step inn (Scalar c.make-reply.result.reply) c.make-reply.result.changed c.make-reply.result.born (y.made w inn) (y.changed w inn) (y.tables w inn) (y.each_buffer w inn) c.mark.ensures.harts c.mark.ensures.buffers c.mark.ensures.others c.mark-2.ensures.harts c.mark-2.ensures.buffers c.mark-2.ensures.others asid

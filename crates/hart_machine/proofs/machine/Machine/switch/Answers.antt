@@ -1,5 +1,5 @@
 use Rattle.std.proofs.Common.{◌∙◌, ap, inl, inr, sym}
-use Rattle.process_model.specs.declared.step.Refusal.TheVariants.{BadArgument}
+use Rattle.process_model.specs.declared.reply.Refusal.TheVariants.{BadArgument}
 use Rattle.hart_machine.specs.declared.hart.Hart.{Hart}
 use Rattle.hart_machine.proofs.BufferSteps.{same_buffers}
 use Rattle.hart_machine.proofs.HartSteps.{has_hart, no_hart, refused, switch_refused, switches, without_hart}

@@ -2,7 +2,7 @@ use Rattle.std.proofs.Common.{◌∙◌, Some, ap, refl, sym}
 use Rattle.frame_store.specs.Seats.{place_set_back}
 use Rattle.hart_machine.specs.Tables.{tables_of}
 use Rattle.table_walk.specs.Leaves.{walk_answer}
-use Rattle.hart_machine.specs.declared.tables.SatpTable.{SatpTable}
+use Rattle.hart_machine.specs.declared.translation.SatpTable.{SatpTable}
 use Rattle.hart_machine.proofs.AccessingWorlds.{seat_fits}
 use Rattle.hart_machine.proofs.FillWorlds.{put_back}
 use Rattle.hart_machine.proofs.HartSteps.{process_at}

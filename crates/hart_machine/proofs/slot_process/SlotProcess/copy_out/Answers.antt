@@ -8,20 +8,20 @@ use Rattle.hart_machine.specs.declared.slot_process.SlotProcess.{SlotProcess}
 use Rattle.hart_machine.proofs.Watched.{alike, none_gained, tells_residence, unlike}
 use Rattle.hart_machine.proofs.slot_process.SlotProcess.copy_out.Goals as goal
 
-pub receive-reply-requires-clause-ready : goal.receive-reply-requires-clause-ready
-receive-reply-requires-clause-ready c = rw c.residence-before.ensures.same c.requires.ready
+pub copy_bytes_out-reply-requires-clause-ready : goal.copy_bytes_out-reply-requires-clause-ready
+copy_bytes_out-reply-requires-clause-ready c = rw c.residence-before.ensures.same c.requires.ready
 
 pub residence-after-requires-clause-fits : goal.residence-after-requires-clause-fits
-residence-after-requires-clause-fits c = let b = c.residence-before.ensures in fits_after PlainStateRule c.receive-reply.ensures.keeps (rw (b.frames, b.same) c.requires.fits)
+residence-after-requires-clause-fits c = let b = c.residence-before.ensures in fits_after PlainStateRule c.copy_bytes_out-reply.ensures.keeps (rw (b.frames, b.same) c.requires.fits)
 
 pub residence-after-requires-clause-ready : goal.residence-after-requires-clause-ready
-residence-after-requires-clause-ready c = let r = c.requires.ready in c.receive-reply.ensures.still r.0 r.1 (rw c.residence-before.ensures.same r.2)
+residence-after-requires-clause-ready c = let r = c.requires.ready in c.copy_bytes_out-reply.ensures.still r.0 r.1 (rw c.residence-before.ensures.same r.2)
 
 pub returns-then-before-after-clause-changed : goal.returns-then-before-after-clause-changed
 returns-then-before-after-clause-changed c t u p q slot_process after =
     let b = c.residence-before in
     let a = c.residence-after in
-    let left : IsSlotProcess c.receive-reply.new.self u q = subst (λ (w : SlotProcess). IsSlotProcess w u q) a.ensures.same after in
+    let left : IsSlotProcess c.copy_bytes_out-reply.new.self u q = subst (λ (w : SlotProcess). IsSlotProcess w u q) a.ensures.same after in
     tells_residence p q Store c.args.va.0 b.result.0 b.result.1 a.result.0 a.result.1 (b.ensures.first t p slot_process) (b.ensures.next t p slot_process) (a.ensures.first u q left) (a.ensures.next u q left) _
     (λ is. absurd (true≢false (sym c.if-before-after.true ∙ is))) (λ is. inl (unlike _ _ c.if-before-after.true))
 
@@ -29,13 +29,13 @@ pub returns-then-before-after-clause-keeps : goal.returns-then-before-after-clau
 returns-then-before-after-clause-keeps c others r =
     let b = c.residence-before.ensures in
     let a = c.residence-after.ensures in
-    rw (a.same, a.frames) (c.receive-reply.ensures.keeps others (rw (b.frames, b.same) r))
+    rw (a.same, a.frames) (c.copy_bytes_out-reply.ensures.keeps others (rw (b.frames, b.same) r))
 
 pub returns-else-before-after-clause-changed : goal.returns-else-before-after-clause-changed
 returns-else-before-after-clause-changed c t u p q slot_process after =
     let b = c.residence-before in
     let a = c.residence-after in
-    let left : IsSlotProcess c.receive-reply.new.self u q = subst (λ (w : SlotProcess). IsSlotProcess w u q) a.ensures.same after in
+    let left : IsSlotProcess c.copy_bytes_out-reply.new.self u q = subst (λ (w : SlotProcess). IsSlotProcess w u q) a.ensures.same after in
     tells_residence p q Store c.args.va.0 b.result.0 b.result.1 a.result.0 a.result.1 (b.ensures.first t p slot_process) (b.ensures.next t p slot_process) (a.ensures.first u q left) (a.ensures.next u q left) _
     (λ is. (alike _ _ c.if-before-after.false, alike _ _ is)) (λ is. inr (unlike _ _ is))
 
@@ -43,7 +43,7 @@ pub returns-else-before-after-clause-keeps : goal.returns-else-before-after-clau
 returns-else-before-after-clause-keeps c others r =
     let b = c.residence-before.ensures in
     let a = c.residence-after.ensures in
-    rw (a.same, a.frames) (c.receive-reply.ensures.keeps others (rw (b.frames, b.same) r))
+    rw (a.same, a.frames) (c.copy_bytes_out-reply.ensures.keeps others (rw (b.frames, b.same) r))
 
 pub returns-then-before-2-clause-changed : goal.returns-then-before-2-clause-changed
 returns-then-before-2-clause-changed c t u p q slot_process after =
@@ -51,4 +51,4 @@ returns-then-before-2-clause-changed c t u p q slot_process after =
     none_gained p q Store c.args.va.0 ((b.first t p slot_process).0 c.if-before.true) ((b.next t p slot_process).0 c.if-before-2.true)
 
 pub returns-then-before-2-clause-keeps : goal.returns-then-before-2-clause-keeps
-returns-then-before-2-clause-keeps c others r = let b = c.residence-before.ensures in c.receive-reply.ensures.keeps others (rw (b.frames, b.same) r)
+returns-then-before-2-clause-keeps c others r = let b = c.residence-before.ensures in c.copy_bytes_out-reply.ensures.keeps others (rw (b.frames, b.same) r)

@@ -4,7 +4,7 @@ use Rattle.std.proofs.lemmas.Result.{err_from_is_err_and}
 use Rattle.address_space.specs.PendingAccess.{agrees_pending}
 use Rattle.mmap_regions.specs.MmapEffect.{process_mapped}
 use Rattle.process_model.specs.Mappings.{mapped}
-use Rattle.process_model.specs.declared.step.Refusal.{Refusal}
+use Rattle.process_model.specs.declared.reply.Refusal.{Refusal}
 use Rattle.address_space.specs.declared.space.Space.{Space}
 use Rattle.frame_store.specs.View.{View}
 use Rattle.hart_machine.specs.declared.slot_process.SlotProcess.{SlotProcess}

@@ -7,7 +7,7 @@ use Rattle.lazy_growth.specs.SbrkResults.{answer_of, size_before}
 use Rattle.lazy_growth.specs.SbrkEffect.{Resizes}
 use Rattle.process_model.specs.Heap.{sbrk_result}
 use Rattle.address_space.specs.Agreement.{body_of}
-use Rattle.process_model.specs.declared.step.Refusal.{Refusal}
+use Rattle.process_model.specs.declared.reply.Refusal.{Refusal}
 use Rattle.hart_machine.specs.Calls.{size_of}
 use Rattle.hart_machine.proofs.Watched.{same_tenant}
 use Rattle.hart_machine.proofs.slot_process.SlotProcess.sbrk.Goals as goal
