@@ -44,7 +44,7 @@ impl<S: FrameSeat> Space<S> {
         scheme: Scheme,
         parts: &[Part],
     ) -> Result<Space<S>, (NoFrame, S)>
-        requires fits { IsSeatOf F.rule store.old seat }
+        requires fits { IsSeatOf F.invariant store.old seat }
         requires parts { AreParts scheme parts.now }
         requires seat { HoldsTrampoline (S.view seat) }
         ensures built { IfOk result (λ s. (t : Tables)
@@ -53,8 +53,8 @@ impl<S: FrameSeat> Space<S> {
         ensures refused { IfErr result (λ e. IsDry (build_need scheme parts.now) (S.view seat) (S.view e.1)) }
         ensures exact { F.alone → IsOk result ↔ (build_need scheme parts.now ≤ F.free store.old) }
         ensures free { F.alone → F.free store.new ≡ F.free store.old - (if is_ok result then build_need scheme parts.now else 0) }
-        ensures keeps { IfOk result (λ s. KeepsSeats F.rule store.old seat store.new s.seat) }
-        ensures keeps_refused { IfErr result (λ e. KeepsSeats F.rule store.old seat store.new e.1) }
+        ensures keeps { IfOk result (λ s. KeepsSeats F.invariant store.old seat store.new s.seat) }
+        ensures keeps_refused { IfErr result (λ e. KeepsSeats F.invariant store.old seat store.new e.1) }
     {
         if let Err(none) = store.reserve(&mut seat, frames_needed(scheme, parts)) {
             return Err((none, seat));
@@ -73,7 +73,7 @@ impl<S: FrameSeat> Space<S> {
         trapframe: FrameNo,
         parts: &[Part],
     ) -> Space<S>
-        requires fits { IsSeatOf F.rule store.old seat }
+        requires fits { IsSeatOf F.invariant store.old seat }
         requires parts { AreParts scheme parts.now }
         requires seat { HoldsTrapframe (S.view seat) trapframe.0 }
         requires credits { (S.view seat).credits ≡ tree_need scheme parts.now }
@@ -83,7 +83,7 @@ impl<S: FrameSeat> Space<S> {
         ensures saved { hold_of (S.view result.seat) trapframe.0 ≡ hold_of (S.view seat) trapframe.0 }
         ensures takes { TakesFrames (S.view seat) (S.view result.seat) (tree_need scheme parts.now) [] }
         ensures free { F.alone → F.free store.new ≡ F.free store.old }
-        ensures keeps { KeepsSeats F.rule store.old seat store.new result.seat }
+        ensures keeps { KeepsSeats F.invariant store.old seat store.new result.seat }
     {
         let root = open_tables(store, &mut seat, scheme, trapframe);
         fill_parts(store, &mut seat, scheme, root, parts);
@@ -100,7 +100,7 @@ impl<S: FrameSeat> Space<S> {
     /// table (`frames_needed` less 1). The parts are such as `build` takes. TRAPFRAME keeps its frame; what the seat has
     /// and knows of that frame stays. Cannot fail. Makes no fence: the caller must.
     pub fn rebuild<F: FrameSupply<Seat = S>>(&mut self, store: &mut F, parts: &[Part])
-        requires fits { IsSeatOf F.rule store.old self.old.seat }
+        requires fits { IsSeatOf F.invariant store.old self.old.seat }
         requires parts { AreParts self.old.layout.scheme parts.now }
         requires ready { (t : Tables) × (p : Process) × CanEnd (body_of S.view self.old) t p }
         requires credits { (S.view self.old.seat).credits ≡ tree_need self.old.layout.scheme parts.now }
@@ -111,7 +111,7 @@ impl<S: FrameSeat> Space<S> {
         ensures saved { hold_of (S.view self.new.seat) self.old.trapframe.0 ≡ hold_of (S.view self.old.seat) self.old.trapframe.0 }
         ensures takes { TakesFrames (S.view self.old.seat) (S.view self.new.seat) (tree_need self.old.layout.scheme parts.now) [] }
         ensures free { F.alone → F.free store.old ≤ F.free store.new }
-        ensures keeps { KeepsSeats F.rule store.old self.old.seat store.new self.new.seat }
+        ensures keeps { KeepsSeats F.invariant store.old self.old.seat store.new self.new.seat }
     {
         let scheme = self.layout.scheme();
         drop_run(
@@ -137,10 +137,10 @@ fn open_tables<F: FrameSupply>(
     scheme: Scheme,
     trapframe: FrameNo,
 ) -> FrameNo
-    requires fits { IsSeatOf F.rule store.old seat.old }
+    requires fits { IsSeatOf F.invariant store.old seat.old }
     requires ready { CanOpen scheme (F.Seat.view seat.old) trapframe.0 }
     ensures opened { (t : Tables) × OpensSpace scheme (F.Seat.view seat.old) (F.Seat.view seat.new) result.0 trapframe.0 t }
-    ensures keeps { KeepsSeats F.rule store.old seat.old store.new seat.new }
+    ensures keeps { KeepsSeats F.invariant store.old seat.old store.new seat.new }
     ensures free { F.alone → F.free store.new ≡ F.free store.old }
 {
     missing_is_growth();
@@ -167,13 +167,13 @@ fn fill_parts<F: FrameSupply>(
     root: FrameNo,
     parts: &[Part],
 )
-    requires fits { IsSeatOf F.rule store.old seat.old }
+    requires fits { IsSeatOf F.invariant store.old seat.old }
     requires parts { AreParts scheme parts.now }
     requires ready { (trapframe : ℕ) × (t : Tables) × StandsAlone (F.Seat.view seat.old) root.0 trapframe t (bare_process scheme parts.now) }
     requires credits { pages_need (bare_process scheme parts.now) (pages_of parts.now) ≤ (F.Seat.view seat.old).credits }
     ensures filled { (trapframe : ℕ) (t : Tables) → StandsAlone (F.Seat.view seat.old) root.0 trapframe t (bare_process scheme parts.now) →
         (u : Tables) × FillsPages (F.Seat.view seat.old) (F.Seat.view seat.new) root.0 trapframe u (bare_process scheme parts.now) (pages_of parts.now) }
-    ensures keeps { KeepsSeats F.rule store.old seat.old store.new seat.new }
+    ensures keeps { KeepsSeats F.invariant store.old seat.old store.new seat.new }
     ensures free { F.alone → F.free store.new ≡ F.free store.old }
 {
     'parts: for part in parts {
@@ -189,12 +189,12 @@ fn fill_part<F: FrameSupply>(
     root: FrameNo,
     part: &Part,
 )
-    requires fits { IsSeatOf F.rule store.old seat.old }
+    requires fits { IsSeatOf F.invariant store.old seat.old }
     requires ready { (trapframe : ℕ) × (t : Tables) × (p : Process) × (p.scheme ≡ scheme)
         × CanFill (F.Seat.view seat.old) root.0 trapframe t p part.now × (pages_need p (part_pages part.now) ≤ (F.Seat.view seat.old).credits) }
     ensures filled { (trapframe : ℕ) (t : Tables) (p : Process) → p.scheme ≡ scheme → CanFill (F.Seat.view seat.old) root.0 trapframe t p part.now →
         (u : Tables) × FillsPages (F.Seat.view seat.old) (F.Seat.view seat.new) root.0 trapframe u p (part_pages part.now) }
-    ensures keeps { KeepsSeats F.rule store.old seat.old store.new seat.new }
+    ensures keeps { KeepsSeats F.invariant store.old seat.old store.new seat.new }
     ensures free { F.alone → F.free store.new ≡ F.free store.old }
 {
     missing_is_growth();

@@ -21,13 +21,13 @@ impl<S: FrameSeat> Space<S> {
     /// Copies as many bytes as the slice has, from `va` on, into the slice. All must lie in one page, which is settled.
     /// Rights are not checked.
     pub fn read_run<F: FrameAccess<Seat = S>>(&mut self, store: &mut F, va: Va, bytes: &mut [u8])
-        requires fits { IsSeatOf F.rule store.old self.old.seat }
+        requires fits { IsSeatOf F.invariant store.old self.old.seat }
         requires ready { (t : Tables) × (p : Process) × (s : Page) × CanRead (body_of S.view self.old) t p (page_of va.0) s }
         requires inside { va.0 % 4096 + length bytes.old ≤ 4096 }
         ensures bytes { (t : Tables) (p : Process) (s : Page) → CanRead (body_of S.view self.old) t p (page_of va.0) s →
             bytes.new ≡ take (length bytes.new) (drop (va.0 % 4096) s.bytes) }
         ensures reads { OnlyReads S.view self.old self.new store.old store.new }
-        ensures keeps { KeepsSeats F.rule store.old self.old.seat store.new self.new.seat }
+        ensures keeps { KeepsSeats F.invariant store.old self.old.seat store.new self.new.seat }
     {
         let frame = self.page_frame(store, va.page());
         read_run(store, &mut self.seat, frame, va.offset() as usize, bytes);
@@ -36,7 +36,7 @@ impl<S: FrameSeat> Space<S> {
     /// Stores these bytes from `va` on. All must lie in one page, which is settled, without copy-on-write mark, and in a region
     /// that grants writing. Sets no mark.
     pub fn write_run<F: FrameAccess<Seat = S>>(&mut self, store: &mut F, va: Va, bytes: &[u8])
-        requires fits { IsSeatOf F.rule store.old self.old.seat }
+        requires fits { IsSeatOf F.invariant store.old self.old.seat }
         requires ready { (t : Tables) × (p : Process) × (s : Page) × CanWrite (body_of S.view self.old) t p (page_of va.0) s }
         requires inside { va.0 % 4096 + length bytes.now ≤ 4096 }
         ensures agrees { (t : Tables) (p : Process) (s : Page) → CanWrite (body_of S.view self.old) t p (page_of va.0) s →
@@ -44,7 +44,7 @@ impl<S: FrameSeat> Space<S> {
         ensures soles { (f : ℕ) → IsSole (S.view self.old.seat) f → IsSole (S.view self.new.seat) f }
         ensures place { KeepsPlace self.old self.new }
         ensures tallies { TakesFrames (S.view self.old.seat) (S.view self.new.seat) 0 [] }
-        ensures keeps { KeepsSeats F.rule store.old self.old.seat store.new self.new.seat }
+        ensures keeps { KeepsSeats F.invariant store.old self.old.seat store.new self.new.seat }
         ensures free { F.alone → F.free store.new ≡ F.free store.old }
         ensures counts { F.alone → (f : ℕ) → F.count store.new f ≡ F.count store.old f }
     {

@@ -47,7 +47,7 @@ impl<S: FrameSeat> KernelTable<S> {
         frames: u16,
         slots: u16,
     ) -> Result<KernelTable<S>, (NoFrame, S)>
-        requires fits { IsSeatOf F.rule store.old seat }
+        requires fits { IsSeatOf F.invariant store.old seat }
         requires opening { HoldsTrampoline (S.view seat) }
         requires some_frames { FEWEST_FRAMES ≤ frames }
         requires few_frames { frames ≤ MOST_FRAMES }
@@ -59,8 +59,8 @@ impl<S: FrameSeat> KernelTable<S> {
         ensures dry { IfErr result (λ e. IsDry (model.kernel_frames scheme frames slots - 1) (S.view seat) (S.view e.1)) }
         ensures exact { F.alone → IsOk result ↔ (model.kernel_frames scheme frames slots - 1 ≤ F.free store.old) }
         ensures free { F.alone → F.free store.new ≡ F.free store.old - (if is_ok result then model.kernel_frames scheme frames slots - 1 else 0) }
-        ensures keeps { IfOk result (λ k. KeepsSeats F.rule store.old seat store.new k.seat) }
-        ensures keeps_dry { IfErr result (λ e. KeepsSeats F.rule store.old seat store.new e.1) }
+        ensures keeps { IfOk result (λ k. KeepsSeats F.invariant store.old seat store.new k.seat) }
+        ensures keeps_dry { IfErr result (λ e. KeepsSeats F.invariant store.old seat store.new e.1) }
     {
         let mut seat = seat;
         if let Err(refusal) = store.reserve(&mut seat, need(scheme, frames, slots)) {
@@ -80,7 +80,7 @@ impl<S: FrameSeat> KernelTable<S> {
         va: Va,
         access: Access,
     ) -> Walk
-        requires fits { IsSeatOf F.rule store.old self.old.seat }
+        requires fits { IsSeatOf F.invariant store.old self.old.seat }
         requires built { (frames slots : ℕ) × (stacks : List ℕ) × (t : Tables)
             × IsKernelTable self.old.scheme (S.view self.old.seat) self.old.root.0 frames slots stacks t }
         ensures walk { (frames slots : ℕ) (stacks : List ℕ) (t : Tables)
@@ -90,7 +90,7 @@ impl<S: FrameSeat> KernelTable<S> {
         ensures root { self.new.root ≡ self.old.root }
         ensures scheme { self.new.scheme ≡ self.old.scheme }
         ensures same { store.new ≡ store.old }
-        ensures keeps { KeepsSeats F.rule store.old self.old.seat store.new self.new.seat }
+        ensures keeps { KeepsSeats F.invariant store.old self.old.seat store.new self.new.seat }
     {
         walks_of_tables();
         one_outcome();
@@ -138,13 +138,13 @@ pub fn leaf_for_kernel(frame: FrameNo) -> Entry
 
 /// Makes a root table that maps the trampoline, by one credit for each level.
 fn new_root<F: FrameSupply>(store: &mut F, seat: &mut F::Seat, scheme: Scheme) -> FrameNo
-    requires fits { IsSeatOf F.rule store.old seat.old }
+    requires fits { IsSeatOf F.invariant store.old seat.old }
     requires once { references (F.Seat.view seat.old) 0 ≡ 1 }
     requires bare { (f : ℕ) → (f ≡ 0 → ⊥) → references (F.Seat.view seat.old) f ≡ 0 }
     requires credits { 1 + top_level scheme ≤ (F.Seat.view seat.old).credits }
     ensures mapped { (t : Tables) × MapsKernel scheme (F.Seat.view seat.new) result.0 0 [] t }
     ensures spends { SpendsCredits (F.Seat.view seat.old) (F.Seat.view seat.new) (1 + top_level scheme) }
-    ensures keeps { KeepsSeats F.rule store.old seat.old store.new seat.new }
+    ensures keeps { KeepsSeats F.invariant store.old seat.old store.new seat.new }
     ensures free { F.alone → F.free store.new ≡ F.free store.old }
 {
     let root = new_table(store, seat);
@@ -167,13 +167,13 @@ fn map_stacks<F: FrameSupply>(
     root: FrameNo,
     slots: u16,
 )
-    requires fits { IsSeatOf F.rule store.old seat.old }
+    requires fits { IsSeatOf F.invariant store.old seat.old }
     requires few { slots ≤ MOST_SLOTS }
     requires ready { (t : Tables) × MapsKernel scheme (F.Seat.view seat.old) root.0 0 [] t × (slots ≤ (F.Seat.view seat.old).credits) }
     ensures mapped { (t : Tables) → MapsKernel scheme (F.Seat.view seat.old) root.0 0 [] t → (stacks : List ℕ) × (u : Tables)
         × MapsKernel scheme (F.Seat.view seat.new) root.0 0 stacks u × (length stacks ≡ slots) }
     ensures spends { SpendsCredits (F.Seat.view seat.old) (F.Seat.view seat.new) slots }
-    ensures keeps { KeepsSeats F.rule store.old seat.old store.new seat.new }
+    ensures keeps { KeepsSeats F.invariant store.old seat.old store.new seat.new }
     ensures free { F.alone → F.free store.new ≡ F.free store.old }
 {
     for slot in 0..slots {
@@ -197,14 +197,14 @@ fn map_frames<F: FrameSupply>(
     root: FrameNo,
     frames: u16,
 )
-    requires fits { IsSeatOf F.rule store.old seat.old }
+    requires fits { IsSeatOf F.invariant store.old seat.old }
     requires few { frames ≤ MOST_FRAMES }
     requires ready { (stacks : List ℕ) × (t : Tables) × MapsKernel scheme (F.Seat.view seat.old) root.0 0 stacks t
         × (direct_tables scheme frames ≤ (F.Seat.view seat.old).credits) }
     ensures mapped { (stacks : List ℕ) (t : Tables) → MapsKernel scheme (F.Seat.view seat.old) root.0 0 stacks t → (u : Tables)
         × MapsKernel scheme (F.Seat.view seat.new) root.0 frames stacks u }
     ensures spends { SpendsCredits (F.Seat.view seat.old) (F.Seat.view seat.new) (direct_tables scheme frames) }
-    ensures keeps { KeepsSeats F.rule store.old seat.old store.new seat.new }
+    ensures keeps { KeepsSeats F.invariant store.old seat.old store.new seat.new }
     ensures free { F.alone → F.free store.new ≡ F.free store.old }
 {
     for number in 0..frames {

@@ -88,7 +88,7 @@ impl Layout {
         self.size = size;
     }
 
-    /// Adds a mapping, in its place by address, to fewer than 16.
+    /// Adds a mapping, in its place by address, to fewer than `MOST_MAPPINGS`.
     pub(crate) fn add_mapping(&mut self, mapping: Region)
         requires few { length self.old.mappings < MOST_MAPPINGS }
         ensures scheme { self.new.scheme ≡ self.old.scheme }

@@ -29,4 +29,4 @@ pub use part::Part;
 pub use region::{Region, RegionKind, Source};
 pub use settled_pages::SettledPage;
 pub use space::Space;
-pub use user_access::AccessRequest;
+pub use user_access::{AccessRequest, misalignment};

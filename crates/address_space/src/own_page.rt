@@ -30,7 +30,7 @@ impl<S: FrameSeat> Space<S> {
     /// frame was claimed. If nobody else changes the store (`alone`): exactly when the count is not 1 and no frame is free.
     /// Over shared frames: only after the free count was read as 0.
     pub fn own<F: FrameSupply<Seat = S>>(&mut self, store: &mut F, page: Vpn) -> Result<(), NoFrame>
-        requires fits { IsSeatOf F.rule store.old self.old.seat }
+        requires fits { IsSeatOf F.invariant store.old self.old.seat }
         requires ready { (t : Tables) × (p : Process) × (s : Page) × (f : ℕ) × CanOwn (body_of S.view self.old) t p page s f }
         ensures owned { IfOk result (λ _. HasOwned (body_of S.view self.old) (body_of S.view self.new) page (λ f c. F.alone → c ≡ F.count store.old f)) }
         ensures dry { IfErr result (λ _. (c : ℕ) × (c ≢ 1) × RunsDry (S.view self.old.seat) (S.view self.new.seat) 1 (c ∷ [])) }
@@ -41,7 +41,7 @@ impl<S: FrameSeat> Space<S> {
         ensures free { F.alone → WhenOwnable (body_of S.view self.old) page (λ f.
             F.free store.new ≡ F.free store.old - (if is_ok result then own_need (F.count store.old f) else 0)) }
         ensures place { KeepsPlace self.old self.new }
-        ensures keeps { KeepsSeats F.rule store.old self.old.seat store.new self.new.seat }
+        ensures keeps { KeepsSeats F.invariant store.old self.old.seat store.new self.new.seat }
     {
         let scheme = self.layout.scheme();
         let Some(region) = self.layout.region_at(page.number()) else {
@@ -90,14 +90,14 @@ fn separate<F: FrameSupply>(
     shared: FrameNo,
     dirty: bool,
 )
-    requires fits { IsSeatOf F.rule store.old seat.old }
+    requires fits { IsSeatOf F.invariant store.old seat.old }
     requires ready { (trapframe : ℕ) × (t : Tables) × (p : Process) × (s : Page) × (p.scheme ≡ scheme)
         × CanSeparate (F.Seat.view seat.old) root.0 trapframe t p page s (region_of region.now) shared.0 dirty }
     requires credit { 0 < (F.Seat.view seat.old).credits }
     ensures separated { (trapframe : ℕ) (t : Tables) (p : Process) (s : Page) → p.scheme ≡ scheme →
         CanSeparate (F.Seat.view seat.old) root.0 trapframe t p page s (region_of region.now) shared.0 dirty →
         (u : Tables) × (g : ℕ) × Separates (F.Seat.view seat.old) (F.Seat.view seat.new) root.0 trapframe t u p page s g }
-    ensures keeps { KeepsSeats F.rule store.old seat.old store.new seat.new }
+    ensures keeps { KeepsSeats F.invariant store.old seat.old store.new seat.new }
     ensures free { F.alone → F.free store.new ≡ F.free store.old + cond (F.count store.old shared.0 == 1) 1 0 }
 {
     let own = store.claim(seat);

@@ -25,12 +25,12 @@ impl<S: FrameSeat> Space<S> {
     /// grants writing; in a region of any other kind it has D already, and keeps its leaf. The page keeps its frame. Makes no
     /// fence: the caller must.
     pub fn mark_stored<F: FrameAccess<Seat = S>>(&mut self, store: &mut F, page: Vpn)
-        requires fits { IsSeatOf F.rule store.old self.old.seat }
+        requires fits { IsSeatOf F.invariant store.old self.old.seat }
         requires ready { (t : Tables) × (p : Process) × (s : Page) × CanWrite (body_of S.view self.old) t p page s }
         ensures marked { (t : Tables) (p : Process) (s : Page) → CanWrite (body_of S.view self.old) t p page s →
             (u : Tables) × MarksStored (S.view self.old.seat) (body_of S.view self.new) t u p page s }
         ensures place { KeepsPlace self.old self.new }
-        ensures keeps { KeepsSeats F.rule store.old self.old.seat store.new self.new.seat }
+        ensures keeps { KeepsSeats F.invariant store.old self.old.seat store.new self.new.seat }
         ensures free { F.alone → F.free store.new ≡ F.free store.old }
         ensures counts { F.alone → (f : ℕ) → F.count store.new f ≡ F.count store.old f }
     {
@@ -50,11 +50,11 @@ impl<S: FrameSeat> Space<S> {
     /// region stays as it is. `settled` is the page as it is now, with its frame and D, so its leaf is not read again. The seat
     /// may have credits and further references. Makes no fence: the caller must.
     pub fn mark_forked<F: FrameAccess<Seat = S>>(&mut self, store: &mut F, settled: &SettledPage)
-        requires fits { IsSeatOf F.rule store.old self.old.seat }
+        requires fits { IsSeatOf F.invariant store.old self.old.seat }
         requires ready { (t : Tables) × (p : Process) × (extra : ℕ → ℕ) × IsSpaceInCall (body_of S.view self.old) t p extra × IsSettledPage t p settled.now }
         ensures marked { HasMarkedForked (body_of S.view self.old) (body_of S.view self.new) settled.now }
         ensures place { KeepsPlace self.old self.new }
-        ensures keeps { KeepsSeats F.rule store.old self.old.seat store.new self.new.seat }
+        ensures keeps { KeepsSeats F.invariant store.old self.old.seat store.new self.new.seat }
         ensures free { F.alone → F.free store.new ≡ F.free store.old }
         ensures counts { F.alone → (f : ℕ) → F.count store.new f ≡ F.count store.old f }
     {

@@ -34,13 +34,13 @@ pub(crate) fn frame_of<F: FrameAccess>(
     root: FrameNo,
     page: Vpn,
 ) -> Option<(FrameNo, bool)>
-    requires fits { IsSeatOf F.rule store.old seat.old }
+    requires fits { IsSeatOf F.invariant store.old seat.old }
     requires held { (t : Tables) × HasTables scheme (F.Seat.view seat.old) root.0 t }
     ensures frame { (t : Tables) → HasTables scheme (F.Seat.view seat.old) root.0 t →
         result ≡ option_and_then (λ w. option_map (λ f. (f, word.has_flag w 128)) (frame_at (word.ppn w))) (get t.leaves (walk_leaf scheme page)) }
     ensures view { F.Seat.view seat.new ≡ F.Seat.view seat.old }
     ensures same { store.new ≡ store.old }
-    ensures keeps { KeepsSeats F.rule store.old seat.old store.new seat.new }
+    ensures keeps { KeepsSeats F.invariant store.old seat.old store.new seat.new }
 {
     let leaf = leaf_of(store, seat, scheme, root, page)?;
     let frame = FrameNo::from_ppn(leaf.ppn())?;
@@ -58,7 +58,7 @@ pub(crate) fn add_page<F: FrameSupply>(
     region: &Region,
     bytes: &[u8],
 )
-    requires fits { IsSeatOf F.rule store.old seat.old }
+    requires fits { IsSeatOf F.invariant store.old seat.old }
     requires ready { (trapframe : ℕ) × (t : Tables) × (p : Process) × (p.scheme ≡ scheme)
         × CanAdd (F.Seat.view seat.old) root.0 trapframe t p page (region_of region.now) × (1 + missing scheme t page ≤ (F.Seat.view seat.old).credits) }
     requires inside { length bytes.now ≤ 4096 }
@@ -66,7 +66,7 @@ pub(crate) fn add_page<F: FrameSupply>(
         → CanAdd (F.Seat.view seat.old) root.0 trapframe t p page (region_of region.now) →
         (u : Tables) × (f : ℕ) × AddsPage (F.Seat.view seat.old) (F.Seat.view seat.new) root.0 trapframe t u p page bytes.now f }
     ensures soles { (f : ℕ) → IsSole (F.Seat.view seat.old) f → IsSole (F.Seat.view seat.new) f }
-    ensures keeps { KeepsSeats F.rule store.old seat.old store.new seat.new }
+    ensures keeps { KeepsSeats F.invariant store.old seat.old store.new seat.new }
     ensures free { F.alone → F.free store.new ≡ F.free store.old }
 {
     let frame = store.claim(seat);
@@ -98,7 +98,7 @@ impl<S: FrameSeat> Space<S> {
         page: Vpn,
         bytes: &[u8],
     ) -> Result<(), NoFrame>
-        requires fits { IsSeatOf F.rule store.old self.old.seat }
+        requires fits { IsSeatOf F.invariant store.old self.old.seat }
         requires ready { (t : Tables) × (p : Process) × CanSettle (body_of S.view self.old) t p page }
         requires inside { length bytes.now ≤ 4096 }
         ensures settled { IfOk result (λ _. HasSettled (body_of S.view self.old) (body_of S.view self.new) page bytes.now) }
@@ -115,7 +115,7 @@ impl<S: FrameSeat> Space<S> {
             CanSettle (body_of S.view self.old) t p page →
             F.free store.new ≡ F.free store.old - (if is_ok result then settle_need p page else 0) }
         ensures place { KeepsPlace self.old self.new }
-        ensures keeps { KeepsSeats F.rule store.old self.old.seat store.new self.new.seat }
+        ensures keeps { KeepsSeats F.invariant store.old self.old.seat store.new self.new.seat }
     {
         let scheme = self.layout.scheme();
         let Some(region) = self.layout.region_at(page.number()) else {

@@ -57,12 +57,12 @@ impl<S: FrameSeat> Space<S> {
         store: &mut F,
         page: Vpn,
     ) -> Option<SettledPage>
-        requires fits { IsSeatOf F.rule store.old self.old.seat }
+        requires fits { IsSeatOf F.invariant store.old self.old.seat }
         requires ready { (t : Tables) × (p : Process) × IsSpaceInCall (body_of S.view self.old) t p no_extra }
         requires low { page < trapframe_page self.old.layout.scheme }
         ensures page { (t : Tables) (p : Process) → IsSpaceInCall (body_of S.view self.old) t p no_extra → IsSettled t p page result }
         ensures reads { OnlyReads S.view self.old self.new store.old store.new }
-        ensures keeps { KeepsSeats F.rule store.old self.old.seat store.new self.new.seat }
+        ensures keeps { KeepsSeats F.invariant store.old self.old.seat store.new self.new.seat }
     {
         let scheme = self.layout.scheme();
         let leaf = leaf_of(store, &mut self.seat, scheme, self.root, page)?;
@@ -78,12 +78,12 @@ impl<S: FrameSeat> Space<S> {
         first: u64,
         end: Vpn,
     ) -> Option<SettledPage>
-        requires fits { IsSeatOf F.rule store.old self.old.seat }
+        requires fits { IsSeatOf F.invariant store.old self.old.seat }
         requires ready { (t : Tables) × (p : Process) × IsSpaceInCall (body_of S.view self.old) t p no_extra }
         requires low { end ≤ trapframe_page self.old.layout.scheme }
         ensures page { (t : Tables) (p : Process) → IsSpaceInCall (body_of S.view self.old) t p no_extra → IsNextSettled t p first end result }
         ensures reads { OnlyReads S.view self.old self.new store.old store.new }
-        ensures keeps { KeepsSeats F.rule store.old self.old.seat store.new self.new.seat }
+        ensures keeps { KeepsSeats F.invariant store.old self.old.seat store.new self.new.seat }
     {
         let mut last = None;
         self.next_settled_with_last(store, first, end, &mut last)
@@ -100,7 +100,7 @@ impl<S: FrameSeat> Space<S> {
         end: Vpn,
         last: &mut Option<LastTable>,
     ) -> Option<SettledPage>
-        requires fits { IsSeatOf F.rule store.old self.old.seat }
+        requires fits { IsSeatOf F.invariant store.old self.old.seat }
         requires ready { (t : Tables) × (p : Process) × IsSpaceInCall (body_of S.view self.old) t p no_extra × IsLastTable p.scheme t last.old }
         requires low { end ≤ trapframe_page self.old.layout.scheme }
         ensures page { (t : Tables) (p : Process) → IsSpaceInCall (body_of S.view self.old) t p no_extra → IsLastTable p.scheme t last.old
@@ -108,7 +108,7 @@ impl<S: FrameSeat> Space<S> {
         ensures kept { (t : Tables) (p : Process) → IsSpaceInCall (body_of S.view self.old) t p no_extra → IsLastTable p.scheme t last.old
             → IsLastTable p.scheme t last.new }
         ensures reads { OnlyReads S.view self.old self.new store.old store.new }
-        ensures keeps { KeepsSeats F.rule store.old self.old.seat store.new self.new.seat }
+        ensures keeps { KeepsSeats F.invariant store.old self.old.seat store.new self.new.seat }
     {
         let from = Vpn::new(first)?;
         let (page, leaf) = self.next_leaf(store, from, end, last)?;
@@ -126,7 +126,7 @@ impl<S: FrameSeat> Space<S> {
         end: Vpn,
         last: &mut Option<LastTable>,
     ) -> Option<(Vpn, Entry)>
-        requires fits { IsSeatOf F.rule store.old self.old.seat }
+        requires fits { IsSeatOf F.invariant store.old self.old.seat }
         requires ready { (t : Tables) × (p : Process) × IsSpaceInCall (body_of S.view self.old) t p no_extra × IsLastTable p.scheme t last.old }
         requires low { end ≤ trapframe_page self.old.layout.scheme }
         ensures leaf { (t : Tables) (p : Process) → IsSpaceInCall (body_of S.view self.old) t p no_extra → IsLastTable p.scheme t last.old
@@ -134,7 +134,7 @@ impl<S: FrameSeat> Space<S> {
         ensures kept { (t : Tables) (p : Process) → IsSpaceInCall (body_of S.view self.old) t p no_extra → IsLastTable p.scheme t last.old
             → IsLastTable p.scheme t last.new }
         ensures reads { OnlyReads S.view self.old self.new store.old store.new }
-        ensures keeps { KeepsSeats F.rule store.old self.old.seat store.new self.new.seat }
+        ensures keeps { KeepsSeats F.invariant store.old self.old.seat store.new self.new.seat }
     {
         let scheme = self.layout.scheme();
         if let Some(leaf) = leaf_before(
@@ -159,12 +159,12 @@ impl<S: FrameSeat> Space<S> {
         first: Vpn,
         end: Vpn,
     ) -> Option<(Vpn, Entry)>
-        requires fits { IsSeatOf F.rule store.old self.old.seat }
+        requires fits { IsSeatOf F.invariant store.old self.old.seat }
         requires ready { (t : Tables) × (p : Process) × IsSpaceInCall (body_of S.view self.old) t p no_extra }
         requires low { end ≤ trapframe_page self.old.layout.scheme }
         ensures leaf { (t : Tables) (p : Process) → IsSpaceInCall (body_of S.view self.old) t p no_extra → IsFirstLeaf t p first end result }
         ensures reads { OnlyReads S.view self.old self.new store.old store.new }
-        ensures keeps { KeepsSeats F.rule store.old self.old.seat store.new self.new.seat }
+        ensures keeps { KeepsSeats F.invariant store.old self.old.seat store.new self.new.seat }
     {
         let scheme = self.layout.scheme();
         let end = end.number().min(self.layout.end());
@@ -183,14 +183,14 @@ fn leaf_before<F: FrameAccess>(
     end: u64,
     last: &mut Option<LastTable>,
 ) -> Option<Entry>
-    requires fits { IsSeatOf F.rule store.old seat.old }
+    requires fits { IsSeatOf F.invariant store.old seat.old }
     requires held { (t : Tables) × HasTables scheme (F.Seat.view seat.old) root.0 t × IsLastTable scheme t last.old }
     ensures leaf { (t : Tables) → HasTables scheme (F.Seat.view seat.old) root.0 t → IsLastTable scheme t last.old
         → IfSome result (λ leaf. (page < end) × (get t.leaves (walk_leaf scheme page) ≡ Some leaf)) }
     ensures kept { (t : Tables) → HasTables scheme (F.Seat.view seat.old) root.0 t → IsLastTable scheme t last.old → IsLastTable scheme t last.new }
     ensures view { F.Seat.view seat.new ≡ F.Seat.view seat.old }
     ensures same { store.new ≡ store.old }
-    ensures keeps { KeepsSeats F.rule store.old seat.old store.new seat.new }
+    ensures keeps { KeepsSeats F.invariant store.old seat.old store.new seat.new }
 {
     if page.number() < end {
         leaf_with_last(store, seat, scheme, root, page, last)

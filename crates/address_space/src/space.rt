@@ -54,13 +54,13 @@ impl<S: FrameSeat> Space<S> {
     /// Returns the `width` bytes at `va` as a little-endian number without sign. The page must be settled; `width` is 1, 2,
     /// 4 or 8, and `va` a multiple of it. Rights are not checked.
     pub fn read<F: FrameAccess<Seat = S>>(&mut self, store: &mut F, va: Va, width: u64) -> u64
-        requires fits { IsSeatOf F.rule store.old self.old.seat }
+        requires fits { IsSeatOf F.invariant store.old self.old.seat }
         requires ready { (t : Tables) × (p : Process) × (s : Page) × CanRead (body_of S.view self.old) t p (page_of va.0) s }
         requires width { IsTrue (is_width width) }
         requires aligned { va.0 % width ≡ 0 }
         ensures value { (t : Tables) (p : Process) (s : Page) → CanRead (body_of S.view self.old) t p (page_of va.0) s → result ≡ loaded s (va.0 % 4096) width }
         ensures reads { OnlyReads S.view self.old self.new store.old store.new }
-        ensures keeps { KeepsSeats F.rule store.old self.old.seat store.new self.new.seat }
+        ensures keeps { KeepsSeats F.invariant store.old self.old.seat store.new self.new.seat }
     {
         let frame = self.page_frame(store, va.page());
         self.read_at(store, frame, va, width)
@@ -75,7 +75,7 @@ impl<S: FrameSeat> Space<S> {
         va: Va,
         width: u64,
     ) -> u64
-        requires fits { IsSeatOf F.rule store.old self.old.seat }
+        requires fits { IsSeatOf F.invariant store.old self.old.seat }
         requires ready { (t : Tables) × (p : Process) × (s : Page) × CanRead (body_of S.view self.old) t p (page_of va.0) s
             × IsFrameOfPage t (page_of va.0) frame.0 }
         requires width { IsTrue (is_width width) }
@@ -83,7 +83,7 @@ impl<S: FrameSeat> Space<S> {
         ensures value { (t : Tables) (p : Process) (s : Page) → CanRead (body_of S.view self.old) t p (page_of va.0) s
             → IsFrameOfPage t (page_of va.0) frame.0 → result ≡ loaded s (va.0 % 4096) width }
         ensures reads { OnlyReads S.view self.old self.new store.old store.new }
-        ensures keeps { KeepsSeats F.rule store.old self.old.seat store.new self.new.seat }
+        ensures keeps { KeepsSeats F.invariant store.old self.old.seat store.new self.new.seat }
     {
         load_bytes(
             store,
@@ -101,11 +101,11 @@ impl<S: FrameSeat> Space<S> {
         page: Vpn,
         bytes: &mut [u8; 4096],
     )
-        requires fits { IsSeatOf F.rule store.old self.old.seat }
+        requires fits { IsSeatOf F.invariant store.old self.old.seat }
         requires ready { (t : Tables) × (p : Process) × (s : Page) × HasSettledPage (body_of S.view self.old) t p page s }
         ensures bytes { (t : Tables) (p : Process) (s : Page) → HasSettledPage (body_of S.view self.old) t p page s → bytes.new ≡ s.bytes }
         ensures reads { OnlyReads S.view self.old self.new store.old store.new }
-        ensures keeps { KeepsSeats F.rule store.old self.old.seat store.new self.new.seat }
+        ensures keeps { KeepsSeats F.invariant store.old self.old.seat store.new self.new.seat }
     {
         let frame = self.page_frame(store, page);
         read_frame(store, &mut self.seat, frame, bytes);
@@ -114,7 +114,7 @@ impl<S: FrameSeat> Space<S> {
     /// Stores the `width` lowest bytes of `value`, the lowest first, at `va`. The page must be settled, without copy-on-write
     /// mark, and in a region that grants writing; `width` is 1, 2, 4 or 8, and `va` a multiple of it. Sets no mark.
     pub fn write<F: FrameAccess<Seat = S>>(&mut self, store: &mut F, va: Va, width: u64, value: u64)
-        requires fits { IsSeatOf F.rule store.old self.old.seat }
+        requires fits { IsSeatOf F.invariant store.old self.old.seat }
         requires ready { (t : Tables) × (p : Process) × (s : Page) × CanWrite (body_of S.view self.old) t p (page_of va.0) s }
         requires width { IsTrue (is_width width) }
         requires aligned { va.0 % width ≡ 0 }
@@ -122,7 +122,7 @@ impl<S: FrameSeat> Space<S> {
             IsSpace (body_of S.view self.new) t (stored_at p s va.0 width value) }
         ensures place { KeepsPlace self.old self.new }
         ensures tallies { TakesFrames (S.view self.old.seat) (S.view self.new.seat) 0 [] }
-        ensures keeps { KeepsSeats F.rule store.old self.old.seat store.new self.new.seat }
+        ensures keeps { KeepsSeats F.invariant store.old self.old.seat store.new self.new.seat }
         ensures free { F.alone → F.free store.new ≡ F.free store.old }
         ensures counts { F.alone → (f : ℕ) → F.count store.new f ≡ F.count store.old f }
     {
@@ -141,7 +141,7 @@ impl<S: FrameSeat> Space<S> {
         width: u64,
         value: u64,
     )
-        requires fits { IsSeatOf F.rule store.old self.old.seat }
+        requires fits { IsSeatOf F.invariant store.old self.old.seat }
         requires ready { (t : Tables) × (p : Process) × (s : Page) × CanWrite (body_of S.view self.old) t p (page_of va.0) s
             × IsFrameOfPage t (page_of va.0) frame.0 }
         requires width { IsTrue (is_width width) }
@@ -149,7 +149,7 @@ impl<S: FrameSeat> Space<S> {
         ensures agrees { HasStored (body_of S.view self.old) (body_of S.view self.new) va.0 width value (λ t. IsFrameOfPage t (page_of va.0) frame.0) }
         ensures place { KeepsPlace self.old self.new }
         ensures tallies { TakesFrames (S.view self.old.seat) (S.view self.new.seat) 0 [] }
-        ensures keeps { KeepsSeats F.rule store.old self.old.seat store.new self.new.seat }
+        ensures keeps { KeepsSeats F.invariant store.old self.old.seat store.new self.new.seat }
         ensures free { F.alone → F.free store.new ≡ F.free store.old }
         ensures counts { F.alone → (f : ℕ) → F.count store.new f ≡ F.count store.old f }
     {
@@ -207,11 +207,11 @@ impl<S: FrameSeat> Space<S> {
         store: &mut F,
         page: Vpn,
     ) -> FrameNo
-        requires fits { IsSeatOf F.rule store.old self.old.seat }
+        requires fits { IsSeatOf F.invariant store.old self.old.seat }
         requires ready { (t : Tables) × (p : Process) × (s : Page) × HasSettledPage (body_of S.view self.old) t p page s }
         ensures frame { (t : Tables) (p : Process) (s : Page) → HasSettledPage (body_of S.view self.old) t p page s → IsFrameOfPage t page result.0 }
         ensures reads { OnlyReads S.view self.old self.new store.old store.new }
-        ensures keeps { KeepsSeats F.rule store.old self.old.seat store.new self.new.seat }
+        ensures keeps { KeepsSeats F.invariant store.old self.old.seat store.new self.new.seat }
     {
         let scheme = self.layout.scheme();
         let Some((frame, _)) = frame_of(store, &mut self.seat, scheme, self.root, page) else {

@@ -33,7 +33,7 @@ fn drop_leaf<F: FrameAccess>(
     end: u64,
     last: &mut Option<LastTable>,
 ) -> bool
-    requires fits { IsSeatOf F.rule store.old seat.old }
+    requires fits { IsSeatOf F.invariant store.old seat.old }
     requires ready { (t : Tables) × HasTables scheme (F.Seat.view seat.old) root.0 t
         × MayDrop scheme (F.Seat.view seat.old) root.0 t page end × IsLastTable scheme t last.old }
     requires low { end ≤ page_limit scheme }
@@ -41,7 +41,7 @@ fn drop_leaf<F: FrameAccess>(
         → MayDrop scheme (F.Seat.view seat.old) root.0 t page end → IsLastTable scheme t last.old →
         DropsIf scheme result (F.Seat.view seat.old) (F.Seat.view seat.new) root.0 t page end }
     ensures kept { (t : Tables) → HasTables scheme (F.Seat.view seat.old) root.0 t → IsLastTable scheme t last.old → IsLastTable scheme t last.new }
-    ensures keeps { KeepsSeats F.rule store.old seat.old store.new seat.new }
+    ensures keeps { KeepsSeats F.invariant store.old seat.old store.new seat.new }
     ensures free { F.alone → F.free store.old ≤ F.free store.new }
 {
     if end <= page.number() {
@@ -70,7 +70,7 @@ fn drop_first<F: FrameAccess>(
     end: u64,
     last: &mut Option<LastTable>,
 ) -> Option<u64>
-    requires fits { IsSeatOf F.rule store.old seat.old }
+    requires fits { IsSeatOf F.invariant store.old seat.old }
     requires ready { (t : Tables) × HasTables scheme (F.Seat.view seat.old) root.0 t
         × ((page : ℕ) → MayDrop scheme (F.Seat.view seat.old) root.0 t page end) × IsLastTable scheme t last.old }
     requires low { end ≤ page_limit scheme }
@@ -80,7 +80,7 @@ fn drop_first<F: FrameAccess>(
     ensures kept { (t : Tables) → HasTables scheme (F.Seat.view seat.old) root.0 t
         → ((page : ℕ) → MayDrop scheme (F.Seat.view seat.old) root.0 t page end) → IsLastTable scheme t last.old →
         IsLastTable scheme t last.new }
-    ensures keeps { KeepsSeats F.rule store.old seat.old store.new seat.new }
+    ensures keeps { KeepsSeats F.invariant store.old seat.old store.new seat.new }
     ensures free { F.alone → F.free store.old ≤ F.free store.new }
 {
     let page = Vpn::new(first)?;
@@ -104,12 +104,12 @@ pub(crate) fn drop_run<F: FrameAccess>(
     first: Vpn,
     end: u64,
 )
-    requires fits { IsSeatOf F.rule store.old seat.old }
+    requires fits { IsSeatOf F.invariant store.old seat.old }
     requires ready { (trapframe : ℕ) × (t : Tables) × (p : Process) × (p.scheme ≡ scheme) × IsInMemory (F.Seat.view seat.old) root.0 trapframe no_extra t p }
     requires low { end ≤ trapframe_page scheme }
     ensures dropped { (trapframe : ℕ) (t : Tables) (p : Process) → p.scheme ≡ scheme → IsInMemory (F.Seat.view seat.old) root.0 trapframe no_extra t p →
         (u : Tables) × DropsRun (F.Seat.view seat.old) (F.Seat.view seat.new) root.0 trapframe t u p first end }
-    ensures keeps { KeepsSeats F.rule store.old seat.old store.new seat.new }
+    ensures keeps { KeepsSeats F.invariant store.old seat.old store.new seat.new }
     ensures free { F.alone → F.free store.old ≤ F.free store.new }
 {
     let mut from = first.number();
@@ -127,11 +127,11 @@ pub(crate) fn release_emptied<F: FrameAccess>(
     scheme: Scheme,
     root: FrameNo,
 )
-    requires fits { IsSeatOf F.rule store.old seat.old }
+    requires fits { IsSeatOf F.invariant store.old seat.old }
     requires emptied { (trapframe : ℕ) × (t : Tables) × IsEmptied scheme (F.Seat.view seat.old) root.0 trapframe t }
     ensures strips { (trapframe : ℕ) (t : Tables) → IsEmptied scheme (F.Seat.view seat.old) root.0 trapframe t →
         IsStripped (F.Seat.view seat.old) (F.Seat.view seat.new) trapframe }
-    ensures keeps { KeepsSeats F.rule store.old seat.old store.new seat.new }
+    ensures keeps { KeepsSeats F.invariant store.old seat.old store.new seat.new }
     ensures free { F.alone → F.free store.old ≤ F.free store.new }
 {
     unmap(store, seat, scheme, root, scheme.trapframe().page());
@@ -143,7 +143,7 @@ impl<S: FrameSeat> Space<S> {
     /// Unmaps the settled pages from `first` up to, and without, `end`, which is TRAPFRAME or below, and drops the
     /// references to their frames. Page tables stay, even empty. Makes no fence: the caller must.
     pub fn drop_pages<F: FrameAccess<Seat = S>>(&mut self, store: &mut F, first: Vpn, end: Vpn)
-        requires fits { IsSeatOf F.rule store.old self.old.seat }
+        requires fits { IsSeatOf F.invariant store.old self.old.seat }
         requires ready { IsAlive (body_of S.view self.old) }
         requires low { end ≤ trapframe_page self.old.layout.scheme }
         ensures dropped { (t : Tables) (p : Process) →
@@ -151,7 +151,7 @@ impl<S: FrameSeat> Space<S> {
             (u : Tables) × IsSpace (body_of S.view self.new) u (without_pages p first end) × Drops t u first end }
         ensures tallies { TakesFrames (S.view self.old.seat) (S.view self.new.seat) 0 [] }
         ensures place { KeepsPlace self.old self.new }
-        ensures keeps { KeepsSeats F.rule store.old self.old.seat store.new self.new.seat }
+        ensures keeps { KeepsSeats F.invariant store.old self.old.seat store.new self.new.seat }
         ensures free { F.alone → F.free store.old ≤ F.free store.new }
     {
         let scheme = self.layout.scheme();
@@ -168,14 +168,14 @@ impl<S: FrameSeat> Space<S> {
     /// Takes the space apart: releases its pages and then its tables. Returns the seat and the trapframe's frame. The seat
     /// keeps its credits, frame 0, and the trapframe's frame with what it has and knows of it.
     fn strip<F: FrameAccess<Seat = S>>(self, store: &mut F) -> (S, FrameNo)
-        requires fits { IsSeatOf F.rule store.old self.seat }
+        requires fits { IsSeatOf F.invariant store.old self.seat }
         requires ready { (t : Tables) × (p : Process) × IsSpaceInCall (body_of S.view self) t p no_extra }
         ensures trapframe { result.1 ≡ self.trapframe }
         ensures holds { HoldsTrapframe (S.view result.0) self.trapframe.0 }
         ensures saved { hold_of (S.view result.0) self.trapframe.0 ≡ hold_of (S.view self.seat) self.trapframe.0 }
         ensures credits { (S.view result.0).credits ≡ (S.view self.seat).credits }
         ensures tallies { TakesFrames (S.view self.seat) (S.view result.0) 0 [] }
-        ensures keeps { KeepsSeats F.rule store.old self.seat store.new result.0 }
+        ensures keeps { KeepsSeats F.invariant store.old self.seat store.new result.0 }
         ensures free { F.alone → F.free store.old ≤ F.free store.new }
     {
         let scheme = self.layout.scheme();
@@ -194,11 +194,11 @@ impl<S: FrameSeat> Space<S> {
     /// Ends the space: releases its pages, its tables, the trapframe's frame and last frame 0. Returns the seat, which holds
     /// no frame and no credit.
     pub fn destroy<F: FrameAccess<Seat = S>>(self, store: &mut F) -> S
-        requires fits { IsSeatOf F.rule store.old self.seat }
+        requires fits { IsSeatOf F.invariant store.old self.seat }
         requires ready { IsAlive (body_of S.view self) }
         ensures bare { IsBare (S.view result) }
         ensures tallies { TakesFrames (S.view self.seat) (S.view result) 0 [] }
-        ensures keeps { KeepsSeats F.rule store.old self.seat store.new result }
+        ensures keeps { KeepsSeats F.invariant store.old self.seat store.new result }
         ensures free { F.alone → F.free store.old ≤ F.free store.new }
     {
         let (mut seat, trapframe) = self.strip(store);

@@ -46,8 +46,9 @@ impl AccessRequest {
     }
 }
 
-/// Returns `address` modulo `width`. Each width is a constant here, so no division is made.
-fn remainder(address: u64, width: u64) -> u64
+/// Returns `address` modulo `width`, which is 1, 2, 4 or 8: 0 if an access of `width` bytes at `address` is aligned. Each width
+/// is a constant here, so no division is made.
+pub fn misalignment(address: u64, width: u64) -> u64
     requires { IsTrue (is_width width) }
     ensures { result ≡ address % width }
 {
@@ -69,11 +70,11 @@ impl<S: FrameSeat> Space<S> {
         access: Access,
         mode: Mode,
     ) -> Walk
-        requires fits { IsSeatOf F.rule store.old self.old.seat }
+        requires fits { IsSeatOf F.invariant store.old self.old.seat }
         requires ready { IsAlive (body_of S.view self.old) }
         ensures walk { (t : Tables) (p : Process) → IsSpace (body_of S.view self.old) t p → result ≡ walk_answer p.scheme t va.0 access mode }
         ensures reads { OnlyReads S.view self.old self.new store.old store.new }
-        ensures keeps { KeepsSeats F.rule store.old self.old.seat store.new self.new.seat }
+        ensures keeps { KeepsSeats F.invariant store.old self.old.seat store.new self.new.seat }
     {
         let scheme = self.layout.scheme();
         translate_held(store, &mut self.seat, scheme, self.root, va, access, mode)
@@ -91,7 +92,7 @@ impl<S: FrameSeat> Space<S> {
         walk: Walk,
         request: AccessRequest,
     ) -> ScalarReply
-        requires fits { IsSeatOf F.rule store.old self.old.seat }
+        requires fits { IsSeatOf F.invariant store.old self.old.seat }
         requires ready { (t : Tables) × (p : Process) × IsSpace (body_of S.view self.old) t p × IsWalkOf p.scheme t request walk }
         requires width { IsTrue (is_width request.width) }
         ensures reply { (t : Tables) (p : Process) → IsSpace (body_of S.view self.old) t p → IsWalkOf p.scheme t request walk →
@@ -102,11 +103,11 @@ impl<S: FrameSeat> Space<S> {
         ensures view { result ≢ ScalarReply.Stored → S.view self.new.seat ≡ S.view self.old.seat }
         ensures same { result ≢ ScalarReply.Stored → store.new ≡ store.old }
         ensures tallies { TakesFrames (S.view self.old.seat) (S.view self.new.seat) 0 [] }
-        ensures keeps { KeepsSeats F.rule store.old self.old.seat store.new self.new.seat }
+        ensures keeps { KeepsSeats F.invariant store.old self.old.seat store.new self.new.seat }
         ensures free { F.alone → F.free store.new ≡ F.free store.old }
         ensures counts { F.alone → (f : ℕ) → F.count store.new f ≡ F.count store.old f }
     {
-        if remainder(request.va.0, request.width) != 0 {
+        if misalignment(request.va.0, request.width) != 0 {
             return ScalarReply::Fault(request.access.misaligned_cause());
         }
         let address = match walk {

@@ -7,7 +7,7 @@ use Rattle.std.proofs.lemmas.List.{append-nil, at_drop_more, length-drop}
 use Rattle.std.proofs.Math.Seq.{take-length}
 use Rattle.script_language.specs.Text.{line_text}
 use Rattle.script_language.specs.Threads.{dotted_text, end_text, name_text}
-use Rattle.process_model.specs.declared.call.Outcome.{Outcome}
+use Rattle.process_model.specs.declared.call.ProcessEnd.{ProcessEnd}
 use Rattle.audit_player.specs.ThreadText.{ended_line, ended_lines}
 use Rattle.hart_calls.specs.declared.finished.Finished.{Finished}
 use Rattle.audit_player.proofs.Parts.{appends_more, appends_nothing, wrote_all}
@@ -83,7 +83,7 @@ pub name_same : (b : Bool) (old new : Option (List ℕ)) (block after name other
 name_same b old new block after name other same puts = subst (λ (l : List ℕ). AppendsPiece b old new block after (name_text l)) same puts
 
 -- and so many calls
-pub calls_same : (b : Bool) (old new : Option (List ℕ)) (block after : List ℕ) (n m : ℕ) (o : Outcome) → n ≡ m → AppendsPiece b old new block after (line_text (end_text n o)) → AppendsPiece b old new block after (line_text (end_text m o))
+pub calls_same : (b : Bool) (old new : Option (List ℕ)) (block after : List ℕ) (n m : ℕ) (o : ProcessEnd) → n ≡ m → AppendsPiece b old new block after (line_text (end_text n o)) → AppendsPiece b old new block after (line_text (end_text m o))
 calls_same b old new block after n m o same puts = subst (λ (k : ℕ). AppendsPiece b old new block after (line_text (end_text k o))) same puts
 
 -- of nothing nothing is left

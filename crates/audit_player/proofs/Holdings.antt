@@ -8,7 +8,7 @@ use Rattle.frame_store.specs.Holds.{hold_of-with_hold_same, hold_of-with_hold_ot
 use Rattle.shared_frames.specs.SeatsOfTable.{FitsIn, IsWithin, view_of}
 use Rattle.shared_frames.specs.declared.seat.SharedSeat.{SharedSeat}
 use Rattle.atomic_table.specs.Seated.{TableId}
-use Rattle.shared_frames.specs.Rule.{one_at_zero}
+use Rattle.shared_frames.specs.Invariant.{one_at_zero}
 use Rattle.shared_frames.specs.Totals.{held_frames}
 use Rattle.hart_threads.specs.Starts.{Lends}
 use Rattle.audit_player.specs.KernelFrames.{GainsCredits, HoldsOnce}

@@ -10,7 +10,7 @@ ghost use Rattle.audit_player.specs.Blocks.{AppendsPiece, WritesFull};
 
 use crate::sink::Sink;
 use crate::transfer::write_all;
-use process_model::Outcome;
+use process_model::ProcessEnd;
 use script_language::{LONGEST_END, put, put_decimal, put_end, put_free};
 use std::alloc::{AllocError, Global};
 use std::marker::Model;
@@ -79,7 +79,7 @@ impl TextBlock {
     }
 
     /// Appends how a process ended, with the number of its calls, and a line end. Returns false if a write failed.
-    pub fn put_end<W: Sink>(&mut self, writer: &mut W, calls: u64, outcome: Outcome) -> bool
+    pub fn put_end<W: Sink>(&mut self, writer: &mut W, calls: u64, outcome: ProcessEnd) -> bool
         ensures puts { AppendsPiece result (W.contents writer.old) (W.contents writer.new) self.old self.new (line_text (end_text calls outcome)) }
         ensures io { W.broken writer.old ≡ false → result ≡ not (W.broken writer.new) }
     {

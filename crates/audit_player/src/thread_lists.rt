@@ -60,7 +60,7 @@ fn calls_of(script: &ThreadScript, number: usize) -> &[ListedCall]
     }
 }
 
-/// Returns 64 lists of calls; the index is the list's number. A number that no list of the file has gets a list of no calls.
+/// Returns `MOST_LISTS` lists of calls; the index is the list's number. A number that no list of the file has gets a list of no calls.
 /// Each fork in them names a list below 64. The file must be playable, as one that `ThreadScript::read` returns is.
 ///
 /// # Errors

@@ -37,8 +37,8 @@ use sv39_entry::Scheme;
 const QUANTUM: usize = 8;
 
 /// Runs processes over the frames, slots and files of a parsed file for threads, on `harts` harts, 1 to 8, each of them a
-/// thread; `gate` is called before and after each call of a process. There must be 64 lists, and each start and each fork
-/// must name one of them (`lend_lists`, `lend_starts`).
+/// thread; `gate` is called before and after each call of a process. There must be `MOST_LISTS` lists, and each start and each
+/// fork must name one of them (`lend_lists`, `lend_starts`).
 ///
 /// Returns the processes as they ended, one for each start and for each child (`ComesBack`, over the declared files), and how
 /// many frames have reference count 0 then: all user frames. No seat but the kernel's holds a frame or has a credit then

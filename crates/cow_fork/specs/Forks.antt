@@ -45,7 +45,7 @@ pub record Prepares (v w : View) (need : ℕ) (frames shared : List ℕ) : Type 
   pub credits : w.credits ≡ need
   pub tallies : w.tallies ≡ v.tallies
 
--- references and credits are what they were; one count was read since, 65,535
+-- references and credits are what they were; one count was read since, `MOST_REFERENCES`
 pub record IsGivenBack (v w : View) : Type 0 where
   pub holds : (f : ℕ) → hold_of w f ≡ hold_of v f
   pub credits : w.credits ≡ v.credits

@@ -92,7 +92,7 @@ pub fn fork<S: FrameSeat, F: FrameSupply<Seat = S>>(
     space: &mut Space<S>,
     store: &mut F,
 ) -> Result<Space<S>, ForkError>
-    requires fits { IsSeatOf F.rule store.old space.old.seat }
+    requires fits { IsSeatOf F.invariant store.old space.old.seat }
     requires ready { IsAlive (body_of S.view space.old) }
     ensures forked { IfOk result (λ child. HasForked (body_of S.view space.old) (body_of S.view space.new) (body_of S.view child)) }
     ensures whole { IfErr result (λ _. (t : Tables) (p : Process) → IsSpace (body_of S.view space.old) t p → IsSpace (body_of S.view space.new) t p) }
@@ -105,9 +105,9 @@ pub fn fork<S: FrameSeat, F: FrameSupply<Seat = S>>(
     ensures free { F.alone → (t : Tables) (p : Process) → IsSpace (body_of S.view space.old) t p → (IsSharersFullError result → ⊥) →
         F.free store.new ≡ F.free store.old - (if is_ok result then model.fork_need p else 0) }
     ensures place { KeepsPlace space.old space.new }
-    ensures keeps { IfOk result (λ child. (others : List S) → F.rule store.old (space.old.seat ∷ others)
-        → F.rule store.new (space.new.seat ∷ child.seat ∷ others)) }
-    ensures keeps_refused { IfErr result (λ _. KeepsSeats F.rule store.old space.old.seat store.new space.new.seat) }
+    ensures keeps { IfOk result (λ child. (others : List S) → F.invariant store.old (space.old.seat ∷ others)
+        → F.invariant store.new (space.new.seat ∷ child.seat ∷ others)) }
+    ensures keeps_refused { IfErr result (λ _. KeepsSeats F.invariant store.old space.old.seat store.new space.new.seat) }
 {
     let mut list = PageList::new();
     match fork_with(space, store, &mut list) {
@@ -152,7 +152,7 @@ pub fn fork_with<S: FrameSeat, F: FrameSupply<Seat = S>>(
     store: &mut F,
     list: &mut PageList,
 ) -> Result<Child<S>, ForkError>
-    requires fits { IsSeatOf F.rule store.old space.old.seat }
+    requires fits { IsSeatOf F.invariant store.old space.old.seat }
     requires ready { IsAlive (body_of S.view space.old) }
     ensures forked { IfOk result (λ child.
         HasForked (body_of S.view space.old) (body_of S.view space.new) (body (S.view child.seat) child.root.0 child.trapframe.0 space.old.layout)) }
@@ -166,9 +166,9 @@ pub fn fork_with<S: FrameSeat, F: FrameSupply<Seat = S>>(
     ensures free { F.alone → (t : Tables) (p : Process) → IsSpace (body_of S.view space.old) t p → (IsSharersFullError result → ⊥) →
         F.free store.new ≡ F.free store.old - (if is_ok result then model.fork_need p else 0) }
     ensures place { KeepsPlace space.old space.new }
-    ensures keeps { IfOk result (λ child. (others : List S) → F.rule store.old (space.old.seat ∷ others)
-        → F.rule store.new (space.new.seat ∷ child.seat ∷ others)) }
-    ensures keeps_refused { IfErr result (λ _. KeepsSeats F.rule store.old space.old.seat store.new space.new.seat) }
+    ensures keeps { IfOk result (λ child. (others : List S) → F.invariant store.old (space.old.seat ∷ others)
+        → F.invariant store.new (space.new.seat ∷ child.seat ∷ others)) }
+    ensures keeps_refused { IfErr result (λ _. KeepsSeats F.invariant store.old space.old.seat store.new space.new.seat) }
 {
     let settled = list.settled_pages(space, store);
     fork_listed(space, store, settled)
@@ -185,7 +185,7 @@ pub fn fork_listed<S: FrameSeat, F: FrameSupply<Seat = S>>(
     store: &mut F,
     settled: &[SettledPage],
 ) -> Result<Child<S>, ForkError>
-    requires fits { IsSeatOf F.rule store.old space.old.seat }
+    requires fits { IsSeatOf F.invariant store.old space.old.seat }
     requires ready { IsAlive (body_of S.view space.old) }
     requires settled { (t : Tables) (p : Process) → IsSpace (body_of S.view space.old) t p → AreSettled t p 0 (trapframe_page p.scheme) settled.now }
     ensures forked { IfOk result (λ child.
@@ -200,9 +200,9 @@ pub fn fork_listed<S: FrameSeat, F: FrameSupply<Seat = S>>(
     ensures free { F.alone → (t : Tables) (p : Process) → IsSpace (body_of S.view space.old) t p → (IsSharersFullError result → ⊥) →
         F.free store.new ≡ F.free store.old - (if is_ok result then model.fork_need p else 0) }
     ensures place { KeepsPlace space.old space.new }
-    ensures keeps { IfOk result (λ child. (others : List S) → F.rule store.old (space.old.seat ∷ others)
-        → F.rule store.new (space.new.seat ∷ child.seat ∷ others)) }
-    ensures keeps_refused { IfErr result (λ _. KeepsSeats F.rule store.old space.old.seat store.new space.new.seat) }
+    ensures keeps { IfOk result (λ child. (others : List S) → F.invariant store.old (space.old.seat ∷ others)
+        → F.invariant store.new (space.new.seat ∷ child.seat ∷ others)) }
+    ensures keeps_refused { IfErr result (λ _. KeepsSeats F.invariant store.old space.old.seat store.new space.new.seat) }
 {
     let scheme = space.layout.scheme();
     let need = fork_need(scheme, settled);
@@ -226,7 +226,7 @@ fn prepare<S: FrameSeat, F: FrameSupply<Seat = S>>(
     need: usize,
     frames: &mut ArrayVec<FrameNo, MOST_FRAMES>,
 ) -> Result<(), ForkError>
-    requires fits { IsSeatOf F.rule store.old space.old.seat }
+    requires fits { IsSeatOf F.invariant store.old space.old.seat }
     requires anchored { IsAnchored (S.view space.old.seat) }
     requires once { (f : ℕ) → times f (0 ∷ frames_of settled.now) ≤ 1 }
     requires held { (f : ℕ) → 0 < times f (0 ∷ frames_of settled.now) → IsHeld (S.view space.old.seat) f }
@@ -241,7 +241,7 @@ fn prepare<S: FrameSeat, F: FrameSupply<Seat = S>>(
     ensures sharers { F.alone → IsSharersFullError result → (f : ℕ) × (0 < times f (0 ∷ frames_of settled.now)) × (F.count store.old f < MOST_REFERENCES → ⊥) }
     ensures free { F.alone → (IsSharersFullError result → ⊥) → F.free store.new ≡ F.free store.old - (if is_ok result then need else 0) }
     ensures place { KeepsPlace space.old space.new }
-    ensures keeps { KeepsSeats F.rule store.old space.old.seat store.new space.new.seat }
+    ensures keeps { KeepsSeats F.invariant store.old space.old.seat store.new space.new.seat }
 {
     store.reserve(&mut space.seat, need)?;
     if let Err(full) = share_frames(space, store, settled, frames) {
@@ -260,13 +260,13 @@ fn divide<S: FrameSeat, F: FrameSupply<Seat = S>>(
     settled: &[SettledPage],
     frames: &mut ArrayVec<FrameNo, MOST_FRAMES>,
 ) -> Child<S>
-    requires fits { IsSeatOf F.rule store.old space.old.seat }
+    requires fits { IsSeatOf F.invariant store.old space.old.seat }
     requires ready { (v : View) × (t : Tables) × (p : Process) × CanDivide v (body_of S.view space.old) t p settled.now (map (λ f. f.0) frames.old.items) }
     ensures divided { (v : View) (t : Tables) (p : Process) → CanDivide v (body_of S.view space.old) t p settled.now (map (λ f. f.0) frames.old.items) →
         (u w : Tables) × Forks (body v space.old.root.0 space.old.trapframe.0 space.old.layout) (body_of S.view space.new)
         (body (S.view result.seat) result.root.0 result.trapframe.0 space.old.layout) t u w p }
     ensures place { KeepsPlace space.old space.new }
-    ensures keeps { (others : List S) → F.rule store.old (space.old.seat ∷ others) → F.rule store.new (space.new.seat ∷ result.seat ∷ others) }
+    ensures keeps { (others : List S) → F.invariant store.old (space.old.seat ∷ others) → F.invariant store.new (space.new.seat ∷ result.seat ∷ others) }
     ensures free { F.alone → F.free store.new ≡ F.free store.old }
 {
     let (root, trapframe) = build_child(space, store, settled, frames);
@@ -287,12 +287,12 @@ fn build_child<S: FrameSeat, F: FrameSupply<Seat = S>>(
     settled: &[SettledPage],
     frames: &mut ArrayVec<FrameNo, MOST_FRAMES>,
 ) -> (FrameNo, FrameNo)
-    requires fits { IsSeatOf F.rule store.old space.old.seat }
+    requires fits { IsSeatOf F.invariant store.old space.old.seat }
     requires ready { (v : View) × (t : Tables) × (p : Process) × CanDivide v (body_of S.view space.old) t p settled.now (map (λ f. f.0) frames.old.items) }
     ensures built { (v : View) (t : Tables) (p : Process) → CanDivide v (body_of S.view space.old) t p settled.now (map (λ f. f.0) frames.old.items) →
         (u : Tables) × HasChild v (S.view space.new.seat) t u p result.0.0 result.1.0 (map (λ f. f.0) frames.new.items) }
     ensures place { KeepsPlace space.old space.new }
-    ensures keeps { KeepsSeats F.rule store.old space.old.seat store.new space.new.seat }
+    ensures keeps { KeepsSeats F.invariant store.old space.old.seat store.new space.new.seat }
     ensures free { F.alone → F.free store.new ≡ F.free store.old }
 {
     let trapframe = store.claim(&mut space.seat);

@@ -45,11 +45,11 @@ impl PageList {
         space: &mut Space<S>,
         store: &mut F,
     ) -> &[SettledPage]
-        requires fits { IsSeatOf F.rule store.old space.old.seat }
+        requires fits { IsSeatOf F.invariant store.old space.old.seat }
         requires ready { IsAlive (body_of S.view space.old) }
         ensures settled { (t : Tables) (p : Process) → IsSpace (body_of S.view space.old) t p → AreSettled t p 0 (trapframe_page p.scheme) result.now }
         ensures reads { OnlyReads S.view space.old space.new store.old store.new }
-        ensures keeps { KeepsSeats F.rule store.old space.old.seat store.new space.new.seat }
+        ensures keeps { KeepsSeats F.invariant store.old space.old.seat store.new space.new.seat }
     {
         self.pages.clear();
         list_settled(space, store, &mut self.pages);
@@ -64,12 +64,12 @@ fn list_settled<S: FrameSeat, F: FrameAccess<Seat = S>>(
     store: &mut F,
     pages: &mut ArrayVec<SettledPage, MOST_FRAMES>,
 )
-    requires fits { IsSeatOf F.rule store.old space.old.seat }
+    requires fits { IsSeatOf F.invariant store.old space.old.seat }
     requires ready { IsAlive (body_of S.view space.old) }
     requires empty { pages.old.items ≡ [] }
     ensures settled { (t : Tables) (p : Process) → IsSpace (body_of S.view space.old) t p → AreSettled t p 0 (trapframe_page p.scheme) pages.new.items }
     ensures reads { OnlyReads S.view space.old space.new store.old store.new }
-    ensures keeps { KeepsSeats F.rule store.old space.old.seat store.new space.new.seat }
+    ensures keeps { KeepsSeats F.invariant store.old space.old.seat store.new space.new.seat }
 {
     let scheme = space.layout.scheme();
     let end = scheme.trapframe().page();

@@ -27,7 +27,7 @@ pub(crate) fn share_frames<S: FrameSeat, F: FrameSupply<Seat = S>>(
     settled: &[SettledPage],
     frames: &mut ArrayVec<FrameNo, MOST_FRAMES>,
 ) -> Result<(), SharersFull>
-    requires fits { IsSeatOf F.rule store.old space.old.seat }
+    requires fits { IsSeatOf F.invariant store.old space.old.seat }
     requires anchored { IsAnchored (S.view space.old.seat) }
     requires once { (f : ℕ) → times f (0 ∷ frames_of settled.now) ≤ 1 }
     requires held { (f : ℕ) → 0 < times f (0 ∷ frames_of settled.now) → IsHeld (S.view space.old.seat) f }
@@ -41,7 +41,7 @@ pub(crate) fn share_frames<S: FrameSeat, F: FrameSupply<Seat = S>>(
     ensures looked { IfErr result (λ _. (S.view space.new.seat).tallies ≡ counted (MOST_REFERENCES ∷ []) (S.view space.old.seat).tallies) }
     ensures full { F.alone → IfErr result (λ _. (f : ℕ) × (0 < times f (0 ∷ frames_of settled.now)) × (F.count store.old f < MOST_REFERENCES → ⊥)) }
     ensures place { KeepsPlace space.old space.new }
-    ensures keeps { KeepsSeats F.rule store.old space.old.seat store.new space.new.seat }
+    ensures keeps { KeepsSeats F.invariant store.old space.old.seat store.new space.new.seat }
     ensures free { F.alone → F.free store.new ≡ F.free store.old }
 {
     share_frame(space, store, TRAMPOLINE_FRAME, frames)?;
@@ -62,7 +62,7 @@ fn share_frame<S: FrameSeat, F: FrameSupply<Seat = S>>(
     frame: FrameNo,
     frames: &mut ArrayVec<FrameNo, MOST_FRAMES>,
 ) -> Result<(), SharersFull>
-    requires fits { IsSeatOf F.rule store.old space.old.seat }
+    requires fits { IsSeatOf F.invariant store.old space.old.seat }
     requires held { IsHeld (S.view space.old.seat) frame.0 }
     requires room { length frames.old.items < MOST_FRAMES }
     ensures shared { IfOk result (λ _. S.view space.new.seat ≡ shared frame.0 (S.view space.old.seat)) }
@@ -71,7 +71,7 @@ fn share_frame<S: FrameSeat, F: FrameSupply<Seat = S>>(
     ensures stays { IfErr result (λ _. frames.new.items ≡ frames.old.items) }
     ensures exact { F.alone → IsOk result ↔ (F.count store.old frame.0 < MOST_REFERENCES) }
     ensures place { KeepsPlace space.old space.new }
-    ensures keeps { KeepsSeats F.rule store.old space.old.seat store.new space.new.seat }
+    ensures keeps { KeepsSeats F.invariant store.old space.old.seat store.new space.new.seat }
     ensures free { F.alone → F.free store.new ≡ F.free store.old }
     ensures counts { F.alone → CountBecomes (F.count store.old) (F.count store.new) frame.0 (F.count store.old frame.0 + (if is_ok result then 1 else 0)) }
 {
@@ -86,14 +86,14 @@ pub(crate) fn release_all<S: FrameSeat, F: FrameAccess<Seat = S>>(
     store: &mut F,
     frames: &[FrameNo],
 )
-    requires fits { IsSeatOf F.rule store.old space.old.seat }
+    requires fits { IsSeatOf F.invariant store.old space.old.seat }
     requires more { (v : View) × HasMore v (S.view space.old.seat) (map (λ f. f.0) frames.now) }
     ensures back { (v : View) → HasMore v (S.view space.old.seat) (map (λ f. f.0) frames.now) → (f : ℕ) → hold_of (S.view space.new.seat) f ≡ hold_of v f }
     ensures credits { (S.view space.new.seat).credits ≡ (S.view space.old.seat).credits }
     ensures tallies { (S.view space.new.seat).tallies ≡ (S.view space.old.seat).tallies }
     ensures size { (S.view space.new.seat).size ≡ (S.view space.old.seat).size }
     ensures place { KeepsPlace space.old space.new }
-    ensures keeps { KeepsSeats F.rule store.old space.old.seat store.new space.new.seat }
+    ensures keeps { KeepsSeats F.invariant store.old space.old.seat store.new space.new.seat }
 {
     for frame in frames {
         store.release(&mut space.seat, *frame);

@@ -26,7 +26,7 @@ pub(crate) fn list_tables<S: FrameSeat, F: FrameAccess<Seat = S>>(
     end: u64,
     frames: &mut ArrayVec<FrameNo, MOST_FRAMES>,
 )
-    requires fits { IsSeatOf F.rule store.old seat.old }
+    requires fits { IsSeatOf F.invariant store.old seat.old }
     requires ready { (t : Tables) × HasTables scheme (S.view seat.old) root.0 t × IsLed scheme t
         × CanList t (map (λ f. f.0) frames.old.items) × IsEdged scheme t end }
     ensures listed { (t : Tables) → HasTables scheme (S.view seat.old) root.0 t → IsLed scheme t
@@ -34,7 +34,7 @@ pub(crate) fn list_tables<S: FrameSeat, F: FrameAccess<Seat = S>>(
         ListsTables t (map (λ f. f.0) frames.old.items) (map (λ f. f.0) frames.new.items) }
     ensures view { S.view seat.new ≡ S.view seat.old }
     ensures same { store.new ≡ store.old }
-    ensures keeps { KeepsSeats F.rule store.old seat.old store.new seat.new }
+    ensures keeps { KeepsSeats F.invariant store.old seat.old store.new seat.new }
 {
     // A table of level 0 maps 2^9 pages, and one of each level above maps 2^9 times as many (RISC-V Privileged Architecture
     // 20211203, 4.4.1 and 4.5.1).
@@ -57,7 +57,7 @@ fn list_level<S: FrameSeat, F: FrameAccess<Seat = S>>(
     pages: u64,
     frames: &mut ArrayVec<FrameNo, MOST_FRAMES>,
 )
-    requires fits { IsSeatOf F.rule store.old seat.old }
+    requires fits { IsSeatOf F.invariant store.old seat.old }
     requires deep { depth ≤ top_level scheme }
     requires size { pages ≡ places (top_level scheme - depth) }
     requires ready { (t : Tables) × (L : List ℕ)
@@ -67,7 +67,7 @@ fn list_level<S: FrameSeat, F: FrameAccess<Seat = S>>(
         IsListing scheme (S.view seat.old) root.0 t (512 ^ (above_root scheme + suc depth)) L (map (λ f. f.0) frames.new.items) }
     ensures view { S.view seat.new ≡ S.view seat.old }
     ensures same { store.new ≡ store.old }
-    ensures keeps { KeepsSeats F.rule store.old seat.old store.new seat.new }
+    ensures keeps { KeepsSeats F.invariant store.old seat.old store.new seat.new }
 {
     let mut table = 0;
     'tables: while let Some(page) = first_page(store, seat, scheme, root, table * pages, end) {
@@ -89,14 +89,14 @@ fn first_page<S: FrameSeat, F: FrameAccess<Seat = S>>(
     from: u64,
     end: u64,
 ) -> Option<Vpn>
-    requires fits { IsSeatOf F.rule store.old seat.old }
+    requires fits { IsSeatOf F.invariant store.old seat.old }
     requires held { (t : Tables) × HasTables scheme (S.view seat.old) root.0 t }
     requires low { from ≤ page_limit scheme }
     requires edge { end ≤ trapframe_page scheme }
     ensures page { (t : Tables) → HasTables scheme (S.view seat.old) root.0 t → IsEdged scheme t end → IsFirstPage scheme t from result }
     ensures view { S.view seat.new ≡ S.view seat.old }
     ensures same { store.new ≡ store.old }
-    ensures keeps { KeepsSeats F.rule store.old seat.old store.new seat.new }
+    ensures keeps { KeepsSeats F.invariant store.old seat.old store.new seat.new }
 {
     let first = Vpn::new(from)?;
     if let Some(found) = next_leaf_before(store, seat, scheme, root, first, end) {

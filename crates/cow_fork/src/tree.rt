@@ -29,12 +29,12 @@ pub(crate) fn copy_tree<S: FrameSeat, F: FrameSupply<Seat = S>>(
     trapframe: FrameNo,
     settled: &[SettledPage],
 ) -> FrameNo
-    requires fits { IsSeatOf F.rule store.old space.old.seat }
+    requires fits { IsSeatOf F.invariant store.old space.old.seat }
     requires ready { (t : Tables) × (p : Process) × CanCopy (S.view space.old.seat) space.old.layout t p trapframe.0 settled.now }
     ensures copied { (t : Tables) (p : Process) → CanCopy (S.view space.old.seat) space.old.layout t p trapframe.0 settled.now →
         (u : Tables) × CopiesTree (S.view space.old.seat) (S.view space.new.seat) t u p result.0 trapframe.0 }
     ensures place { KeepsPlace space.old space.new }
-    ensures keeps { KeepsSeats F.rule store.old space.old.seat store.new space.new.seat }
+    ensures keeps { KeepsSeats F.invariant store.old space.old.seat store.new space.new.seat }
     ensures free { F.alone → F.free store.new ≡ F.free store.old }
 {
     // a law for the proof: the tables that mapping a page adds are those by which its need exceeds that of the pages before it
@@ -83,11 +83,11 @@ fn open_tables<S: FrameSeat, F: FrameSupply<Seat = S>>(
     scheme: Scheme,
     trapframe: FrameNo,
 ) -> FrameNo
-    requires fits { IsSeatOf F.rule store.old seat.old }
+    requires fits { IsSeatOf F.invariant store.old seat.old }
     requires ready { CanOpen scheme (S.view seat.old) trapframe.0 }
     ensures opened { (u : Tables)
         × ((t : Tables) (p : Process) → p.scheme ≡ scheme → CopiesPages (S.view seat.old) (S.view seat.new) t u p result.0 trapframe.0 0 []) }
-    ensures keeps { KeepsSeats F.rule store.old seat.old store.new seat.new }
+    ensures keeps { KeepsSeats F.invariant store.old seat.old store.new seat.new }
     ensures free { F.alone → F.free store.new ≡ F.free store.old }
 {
     missing_is_growth();
@@ -106,14 +106,14 @@ pub(crate) fn mark_pages<S: FrameSeat, F: FrameAccess<Seat = S>>(
     store: &mut F,
     settled: &[SettledPage],
 )
-    requires fits { IsSeatOf F.rule store.old space.old.seat }
+    requires fits { IsSeatOf F.invariant store.old space.old.seat }
     requires ready { (t : Tables) × (p : Process) × (extra : ℕ → ℕ) × IsSpaceInCall (body_of S.view space.old) t p extra
         × AreSettled t p 0 (trapframe_page p.scheme) settled.now }
     ensures marked { (t : Tables) (p : Process) (extra : ℕ → ℕ) → IsSpaceInCall (body_of S.view space.old) t p extra
         → AreSettled t p 0 (trapframe_page p.scheme) settled.now →
         (w : Tables) × IsSpaceInCall (body_of S.view space.new) w (marked p) extra × RewritesLeaves (body_of S.view space.old) (body_of S.view space.new) t w }
     ensures place { KeepsPlace space.old space.new }
-    ensures keeps { KeepsSeats F.rule store.old space.old.seat store.new space.new.seat }
+    ensures keeps { KeepsSeats F.invariant store.old space.old.seat store.new space.new.seat }
     ensures free { F.alone → F.free store.new ≡ F.free store.old }
 {
     'pages: for page in settled {

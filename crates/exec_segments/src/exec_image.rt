@@ -44,7 +44,7 @@ pub fn exec<S: FrameSeat, F: FrameSupply<Seat = S>, C: Files>(
     image: &Image,
     files: &mut C,
 ) -> Result<(), Refusal>
-    requires fits { IsSeatOf F.rule store.old space.old.seat }
+    requires fits { IsSeatOf F.invariant store.old space.old.seat }
     requires ready { IsAlive (body_of S.view space.old) }
     requires scheme { image.now.scheme ≡ space.old.layout.scheme }
     ensures replaced { IfOk result (λ _. (t : tables.Tables)
@@ -67,7 +67,7 @@ pub fn exec<S: FrameSeat, F: FrameSupply<Seat = S>, C: Files>(
     ensures enough { F.alone → IfOk result (λ _. exec_need image.now.scheme image.now.loads ≤ F.free store.old) }
     ensures short { F.alone → IfErr result (λ e. e ≡ NoFrame → F.free store.old < exec_need image.now.scheme image.now.loads) }
     ensures trapframe { space.new.trapframe ≡ space.old.trapframe }
-    ensures keeps { KeepsSeats F.rule store.old space.old.seat store.new space.new.seat }
+    ensures keeps { KeepsSeats F.invariant store.old space.old.seat store.new space.new.seat }
 {
     let parts = parts_of(image);
     promise_write_back(space, store, files)?;

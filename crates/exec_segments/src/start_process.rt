@@ -36,7 +36,7 @@ pub fn start<F: FrameSupply<Seat = S>, S: FrameSeat>(
     seat: S,
     image: &Image,
 ) -> Result<Space<S>, (NoFrame, S)>
-    requires fits { IsSeatOf F.rule store.old seat }
+    requires fits { IsSeatOf F.invariant store.old seat }
     requires seat { HoldsTrampoline (S.view seat) }
     ensures started { IfOk result (λ s. (t : tables.Tables)
         × ((fresh : ℕ) → IsSpace (body_of S.view s) t (model.process_of image.now.scheme fresh image.now.loads)) × OwnsAlone (S.view s.seat) t) }
@@ -44,8 +44,8 @@ pub fn start<F: FrameSupply<Seat = S>, S: FrameSeat>(
     ensures refused { IfErr result (λ e. IsDry (start_need image.now.scheme image.now.loads) (S.view seat) (S.view e.1)) }
     ensures exact { F.alone → IsOk result ↔ (start_need image.now.scheme image.now.loads ≤ F.free store.old) }
     ensures free { F.alone → F.free store.new ≡ F.free store.old - (if is_ok result then start_need image.now.scheme image.now.loads else 0) }
-    ensures keeps { IfOk result (λ s. KeepsSeats F.rule store.old seat store.new s.seat) }
-    ensures keeps_refused { IfErr result (λ e. KeepsSeats F.rule store.old seat store.new e.1) }
+    ensures keeps { IfOk result (λ s. KeepsSeats F.invariant store.old seat store.new s.seat) }
+    ensures keeps_refused { IfErr result (λ e. KeepsSeats F.invariant store.old seat store.new e.1) }
 {
     let parts = parts_of(image);
     Space::build(store, seat, image.scheme, parts.as_slice())

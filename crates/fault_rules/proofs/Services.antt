@@ -48,7 +48,7 @@ module _ {Seat Frames Cabinet : Type 0} (l : StoreModel Seat Frames Cabinet) whe
     abbrev new : Moment Seat Frames Cabinet
     new = moment x u after
 
-    pub after_reading : OnlyReads l.view y z s t → KeepsSeats l.rule s y.seat t z.seat → ServesPage l seen new access page rule outcome
+    pub after_reading : OnlyReads l.view y z s t → KeepsSeats l.invariant s y.seat t z.seat → ServesPage l seen new access page rule outcome
         → ServesPage l old new access page rule outcome
     after_reading reads keeps e = record {
       ended = λ v p space. e.ended v p (back v p space);
@@ -114,7 +114,7 @@ module _ {Seat Frames Cabinet : Type 0} (l : StoreModel Seat Frames Cabinet) whe
 
       pub made_ready : r ≡ Ok tt → HasMadeResident (body_at l a) (body_at l b) (l.files a.files) access page (λ f c. l.alone → c ≡ l.count a.store f) → ReadsIt
           → (l.alone → When (λ need. need ≤ l.free a.store)) → (l.alone → When (λ need. l.free b.store ≡ l.free a.store - need)) → KeepsPlace a.space b.space
-          → KeepsSeats l.rule a.store a.space.seat b.store b.space.seat → Serves r
+          → KeepsSeats l.invariant a.store a.space.seat b.store b.space.seat → Serves r
       made_ready is made reads enough free place keeps = subst Serves (sym is) (record {
         ended = λ t p space x told. absurd (cc);
         ready = λ _. made;
@@ -134,7 +134,7 @@ module _ {Seat Frames Cabinet : Type 0} (l : StoreModel Seat Frames Cabinet) whe
 
       pub ran_dry : r ≡ Err residence_error.NoFrame → LacksFrames (body_at l a) (body_at l b) access page
           → ((t : Tables) (p : Process) → IsSpace (body_at l a) t p → IsSpace (body_at l b) t p) → ReadsIt → (l.alone → When (λ need. l.free a.store < need))
-          → (l.alone → When (λ need. l.free b.store ≡ l.free a.store - 0)) → KeepsPlace a.space b.space → KeepsSeats l.rule a.store a.space.seat b.store b.space.seat
+          → (l.alone → When (λ need. l.free b.store ≡ l.free a.store - 0)) → KeepsPlace a.space b.space → KeepsSeats l.invariant a.store a.space.seat b.store b.space.seat
           → Serves r
       ran_dry is lacks whole reads short free place keeps = subst Serves (sym is) (record {
         ended = λ t p space x told. sym (ap rule_in told);
@@ -156,7 +156,7 @@ module _ {Seat Frames Cabinet : Type 0} (l : StoreModel Seat Frames Cabinet) whe
       pub refused : (x : PromiseError) → r ≡ Err (residence_error.Unpromised x) → l.can_refuse a.files 1 x
           → ((t : Tables) (p : Process) → CanMakeResident (body_at l a) t p access page → 0 < length (resident_reads (l.files a.files) p page))
           → IsUntouched l.view a.space b.space a.store b.store → l.becomes a.files [] b.files → KeepsPlace a.space b.space
-          → KeepsSeats l.rule a.store a.space.seat b.store b.space.seat → Serves r
+          → KeepsSeats l.invariant a.store a.space.seat b.store b.space.seat → Serves r
       refused x is can of_file stays files place keeps = subst Serves (sym is) (record {
         ended = λ t p space y told. absurd (cc);
         ready = λ told. absurd (cc);

@@ -28,7 +28,7 @@ use Rattle.table_walk.specs.Tables.{Tables}
 -- what the traits of a seat, a store and files have for contracts: their views and relations
 pub record StoreModel (Seat Frames Cabinet : Type 0) : Type 1 where
   pub view : Seat → View
-  pub rule : Frames → List Seat → Type 0
+  pub invariant : Frames → List Seat → Type 0
   pub alone : Type 0
   pub free : Frames → ℕ
   pub count : Frames → ℕ → ℕ
@@ -39,8 +39,8 @@ pub record StoreModel (Seat Frames Cabinet : Type 0) : Type 1 where
 abbrev pub store_model : {Seat Frames Cabinet : Type 0} → (Seat → View) → (Frames → List Seat → Type 0) → Type 0 → (Frames → ℕ)
     → (Frames → ℕ → ℕ) → (Cabinet → List File) → (Cabinet → List PageMove → Cabinet → Type 0)
     → (Cabinet → ℕ → PromiseError → Type 0) → StoreModel Seat Frames Cabinet
-store_model view rule alone free count files becomes can_refuse =
-    record { view = view; rule = rule; alone = alone; free = free; count = count; files = files; becomes = becomes; can_refuse = can_refuse }
+store_model view invariant alone free count files becomes can_refuse =
+    record { view = view; invariant = invariant; alone = alone; free = free; count = count; files = files; becomes = becomes; can_refuse = can_refuse }
 
 -- a space, its store and the files, at one moment
 pub record Moment (Seat Frames Cabinet : Type 0) : Type 0 where
@@ -91,4 +91,4 @@ pub record ServesPage {Seat Frames Cabinet : Type 0} (l : StoreModel Seat Frames
       l.free b.store ≡ l.free a.store - (if is_ready served then need else 0))
   -- root table, trapframe and regions stay, and the store's invariant is kept for all other seats
   pub place : KeepsPlace a.space b.space
-  pub keeps : KeepsSeats l.rule a.store a.space.seat b.store b.space.seat
+  pub keeps : KeepsSeats l.invariant a.store a.space.seat b.store b.space.seat

@@ -76,9 +76,9 @@ pub fn make_resident<S: FrameSeat, F: FrameSupply<Seat = S>, C: Files>(
     page: Vpn,
     access: Access,
 ) -> Result<(), ResidenceError>
-    requires fits { IsSeatOf F.rule store.old space.old.seat }
+    requires fits { IsSeatOf F.invariant store.old space.old.seat }
     requires ready { (t : Tables) × (p : Process) × CanMakeResident (body_of S.view space.old) t p access page }
-    ensures served { ServesPage (store_model S.view F.rule F.alone F.free F.count C.files C.becomes C.can_refuse) (moment space.old store.old files.old)
+    ensures served { ServesPage (store_model S.view F.invariant F.alone F.free F.count C.files C.becomes C.can_refuse) (moment space.old store.old files.old)
         (moment space.new store.new files.new) access page (λ _. None) (served_as result) }
 {
     let Some(settled) = space.settled_page(store, page) else {
@@ -99,10 +99,10 @@ fn settle_initial<S: FrameSeat, F: FrameSupply<Seat = S>, C: Files>(
     page: Vpn,
     access: Access,
 ) -> Result<(), ResidenceError>
-    requires fits { IsSeatOf F.rule store.old space.old.seat }
+    requires fits { IsSeatOf F.invariant store.old space.old.seat }
     requires ready { (t : Tables) × (p : Process) × CanMakeResident (body_of S.view space.old) t p access page }
     requires unsettled { (t : Tables) (p : Process) → IsSpace (body_of S.view space.old) t p → get p.settled page ≡ None }
-    ensures served { ServesPage (store_model S.view F.rule F.alone F.free F.count C.files C.becomes C.can_refuse) (moment space.old store.old files.old)
+    ensures served { ServesPage (store_model S.view F.invariant F.alone F.free F.count C.files C.becomes C.can_refuse) (moment space.old store.old files.old)
         (moment space.new store.new files.new) access page (λ _. None) (served_as result) }
 {
     let Some(region) = space.layout.region_at(page.number()) else {
@@ -137,12 +137,12 @@ fn settle_from_file<S: FrameSeat, F: FrameSupply<Seat = S>, C: Files>(
     file: usize,
     at: usize,
 ) -> Result<(), ResidenceError>
-    requires fits { IsSeatOf F.rule store.old space.old.seat }
+    requires fits { IsSeatOf F.invariant store.old space.old.seat }
     requires ready { (t : Tables) × (p : Process) × CanMakeResident (body_of S.view space.old) t p access page }
     requires unsettled { (t : Tables) (p : Process) → IsSpace (body_of S.view space.old) t p → get p.settled page ≡ None }
     requires region { (t : Tables) (p : Process) → IsSpace (body_of S.view space.old) t p → region_at (regions p) page ≡ Some (region_of region.now) }
     requires source { (offset : ℕ) × ((region_of region.now).source ≡ model.file file offset) × (at ≡ offset + 4096 * (page - region.now.first)) }
-    ensures served { ServesPage (store_model S.view F.rule F.alone F.free F.count C.files C.becomes C.can_refuse) (moment space.old store.old files.old)
+    ensures served { ServesPage (store_model S.view F.invariant F.alone F.free F.count C.files C.becomes C.can_refuse) (moment space.old store.old files.old)
         (moment space.new store.new files.new) access page (λ _. None) (served_as result) }
 {
     files.promise(1)?;
@@ -169,7 +169,7 @@ fn settle_bytes<S: FrameSeat, F: FrameSupply<Seat = S>>(
     region: &Region,
     bytes: &[u8],
 ) -> Result<(), NoFrame>
-    requires fits { IsSeatOf F.rule store.old space.old.seat }
+    requires fits { IsSeatOf F.invariant store.old space.old.seat }
     requires ready { (t : Tables) × (p : Process) × CanMakeResident (body_of S.view space.old) t p access page }
     requires unsettled { (t : Tables) (p : Process) → IsSpace (body_of S.view space.old) t p → get p.settled page ≡ None }
     requires region { (t : Tables) (p : Process) → IsSpace (body_of S.view space.old) t p → region_at (regions p) page ≡ Some (region_of region.now) }
@@ -185,7 +185,7 @@ fn settle_bytes<S: FrameSeat, F: FrameSupply<Seat = S>>(
     ensures free { F.alone → WhenMadeResident (body_of S.view space.old) access page (F.count store.old) (λ need.
         F.free store.new ≡ F.free store.old - (if is_ok result then need else 0)) }
     ensures place { KeepsPlace space.old space.new }
-    ensures keeps { KeepsSeats F.rule store.old space.old.seat store.new space.new.seat }
+    ensures keeps { KeepsSeats F.invariant store.old space.old.seat store.new space.new.seat }
 {
     let mark = is_to_mark(region, access);
     settle_as(space, store, page, bytes, mark)

@@ -42,10 +42,10 @@ pub fn serve<S: FrameSeat, F: FrameSupply<Seat = S>, C: Files>(
     width: u64,
     access: Access,
 ) -> Served
-    requires fits { IsSeatOf F.rule store.old space.old.seat }
+    requires fits { IsSeatOf F.invariant store.old space.old.seat }
     requires ready { IsAlive (body_of S.view space.old) }
     requires width { 0 < width }
-    ensures served { ServesPage (store_model S.view F.rule F.alone F.free F.count C.files C.becomes C.can_refuse) (moment space.old store.old files.old)
+    ensures served { ServesPage (store_model S.view F.invariant F.alone F.free F.count C.files C.becomes C.can_refuse) (moment space.old store.old files.old)
         (moment space.new store.new files.new) access (page_of va.0) (λ p. first_rule p.scheme (regions p) access va.0 width) result }
 {
     if let Err(rule) = space.grant(access, va, width) {

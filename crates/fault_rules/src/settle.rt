@@ -31,7 +31,7 @@ pub(crate) fn settle_as<S: FrameSeat, F: FrameSupply<Seat = S>>(
     bytes: &[u8],
     mark: bool,
 ) -> Result<(), NoFrame>
-    requires fits { IsSeatOf F.rule store.old space.old.seat }
+    requires fits { IsSeatOf F.invariant store.old space.old.seat }
     requires ready { (t : Tables) × (p : Process) × CanSettle (body_of S.view space.old) t p page }
     requires inside { length bytes.now ≤ 4096 }
     requires kept { (t : Tables) (p : Process) → CanSettle (body_of S.view space.old) t p page → mark ≡ true → keeps_stores (region_on p page) ≡ true }
@@ -44,7 +44,7 @@ pub(crate) fn settle_as<S: FrameSeat, F: FrameSupply<Seat = S>>(
     ensures free { F.alone → (t : Tables) (p : Process) → CanSettle (body_of S.view space.old) t p page
         → F.free store.new ≡ F.free store.old - (if is_ok result then settle_need p page else 0) }
     ensures place { KeepsPlace space.old space.new }
-    ensures keeps { KeepsSeats F.rule store.old space.old.seat store.new space.new.seat }
+    ensures keeps { KeepsSeats F.invariant store.old space.old.seat store.new space.new.seat }
 {
     space.settle(store, page, bytes)?;
     if mark {

@@ -29,7 +29,7 @@ pub(crate) fn take_over<S: FrameSeat, F: FrameSupply<Seat = S>>(
     store: &mut F,
     settled: &SettledPage,
 ) -> Result<(), NoFrame>
-    requires fits { IsSeatOf F.rule store.old space.old.seat }
+    requires fits { IsSeatOf F.invariant store.old space.old.seat }
     requires ready { (t : Tables) × (p : Process) × CanMakeResident (body_of S.view space.old) t p Store settled.now.page }
     requires settled { (t : Tables) (p : Process) → IsSpace (body_of S.view space.old) t p → IsSettledPage t p settled.now }
     ensures resident { IfOk result (λ _. (files : List File)
@@ -41,7 +41,7 @@ pub(crate) fn take_over<S: FrameSeat, F: FrameSupply<Seat = S>>(
     ensures free { F.alone → WhenMadeResident (body_of S.view space.old) Store settled.now.page (F.count store.old) (λ need.
         F.free store.new ≡ F.free store.old - (if is_ok result then need else 0)) }
     ensures place { KeepsPlace space.old space.new }
-    ensures keeps { KeepsSeats F.rule store.old space.old.seat store.new space.new.seat }
+    ensures keeps { KeepsSeats F.invariant store.old space.old.seat store.new space.new.seat }
 {
     unshare(space, store, settled)?;
     if !settled.dirty {
@@ -56,7 +56,7 @@ fn unshare<S: FrameSeat, F: FrameSupply<Seat = S>>(
     store: &mut F,
     settled: &SettledPage,
 ) -> Result<(), NoFrame>
-    requires fits { IsSeatOf F.rule store.old space.old.seat }
+    requires fits { IsSeatOf F.invariant store.old space.old.seat }
     requires ready { (t : Tables) × (p : Process) × CanMakeResident (body_of S.view space.old) t p Store settled.now.page }
     requires settled { (t : Tables) (p : Process) → IsSpace (body_of S.view space.old) t p → IsSettledPage t p settled.now }
     ensures unshared { IfOk result (λ _. HasUnshared (body_of S.view space.old) (body_of S.view space.new) settled.now (λ f c. F.alone
@@ -68,7 +68,7 @@ fn unshare<S: FrameSeat, F: FrameSupply<Seat = S>>(
     ensures free { F.alone → WhenMadeResident (body_of S.view space.old) Store settled.now.page (F.count store.old) (λ need.
         F.free store.new ≡ F.free store.old - (if is_ok result then need else 0)) }
     ensures place { KeepsPlace space.old space.new }
-    ensures keeps { KeepsSeats F.rule store.old space.old.seat store.new space.new.seat }
+    ensures keeps { KeepsSeats F.invariant store.old space.old.seat store.new space.new.seat }
 {
     if settled.cow {
         return space.own(store, settled.page);

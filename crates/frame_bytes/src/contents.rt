@@ -22,7 +22,7 @@ pub fn load_bytes<F: FrameAccess>(
     offset: usize,
     width: usize,
 ) -> u64
-    requires fits { IsSeatOf F.rule store.old seat.old }
+    requires fits { IsSeatOf F.invariant store.old seat.old }
     requires held { IsHeld (F.Seat.view seat.old) frame.0 }
     requires known { (bytes : List ℕ) × HasBytes (F.Seat.view seat.old) frame.0 bytes }
     requires width { IsTrue (is_width width) }
@@ -31,7 +31,7 @@ pub fn load_bytes<F: FrameAccess>(
     ensures number { (bytes : List ℕ) → HasBytes (F.Seat.view seat.old) frame.0 bytes → result ≡ number (drop offset bytes) width }
     ensures view { F.Seat.view seat.new ≡ F.Seat.view seat.old }
     ensures same { store.new ≡ store.old }
-    ensures keeps { KeepsSeats F.rule store.old seat.old store.new seat.new }
+    ensures keeps { KeepsSeats F.invariant store.old seat.old store.new seat.new }
 {
     let word = store.load(seat, frame, offset / 8);
     low_bytes_of(word >> (8 * (offset % 8)), width)
@@ -60,7 +60,7 @@ pub fn store_bytes<F: FrameAccess>(
     width: usize,
     value: u64,
 )
-    requires fits { IsSeatOf F.rule store.old seat.old }
+    requires fits { IsSeatOf F.invariant store.old seat.old }
     requires held { IsHeld (F.Seat.view seat.old) frame.0 }
     requires sole { IsSole (F.Seat.view seat.old) frame.0 }
     requires known { (bytes : List ℕ) × HasBytes (F.Seat.view seat.old) frame.0 bytes }
@@ -70,7 +70,7 @@ pub fn store_bytes<F: FrameAccess>(
     ensures bytes { (bytes : List ℕ) → HasBytes (F.Seat.view seat.old) frame.0 bytes →
         HasBytes (F.Seat.view seat.new) frame.0 (write_bytes bytes offset (low_bytes value width)) }
     ensures others { ChangesWords frame.0 (F.Seat.view seat.old) (F.Seat.view seat.new) }
-    ensures keeps { KeepsSeats F.rule store.old seat.old store.new seat.new }
+    ensures keeps { KeepsSeats F.invariant store.old seat.old store.new seat.new }
     ensures free { F.alone → F.free store.new ≡ F.free store.old }
     ensures counts { F.alone → (f : ℕ) → F.count store.new f ≡ F.count store.old f }
 {
@@ -86,7 +86,7 @@ pub(crate) fn store_in_word<F: FrameAccess>(
     offset: usize,
     part: &[u8],
 )
-    requires fits { IsSeatOf F.rule store.old seat.old }
+    requires fits { IsSeatOf F.invariant store.old seat.old }
     requires held { IsHeld (F.Seat.view seat.old) frame.0 }
     requires sole { IsSole (F.Seat.view seat.old) frame.0 }
     requires known { (bytes : List ℕ) × HasBytes (F.Seat.view seat.old) frame.0 bytes }
@@ -95,7 +95,7 @@ pub(crate) fn store_in_word<F: FrameAccess>(
     ensures bytes { (bytes : List ℕ) → HasBytes (F.Seat.view seat.old) frame.0 bytes →
         HasBytes (F.Seat.view seat.new) frame.0 (write_bytes bytes offset part.now) }
     ensures others { ChangesWords frame.0 (F.Seat.view seat.old) (F.Seat.view seat.new) }
-    ensures keeps { KeepsSeats F.rule store.old seat.old store.new seat.new }
+    ensures keeps { KeepsSeats F.invariant store.old seat.old store.new seat.new }
     ensures free { F.alone → F.free store.new ≡ F.free store.old }
     ensures counts { F.alone → (f : ℕ) → F.count store.new f ≡ F.count store.old f }
 {
@@ -120,12 +120,12 @@ fn overwrite(bytes: &mut [u8], at: usize, part: &[u8])
 /// Copies at most 4,096 bytes to the start of a frame and zeroes the rest. The seat must be the sole holder of the frame,
 /// and need not know its bytes; then it knows them.
 pub fn fill_frame<F: FrameAccess>(store: &mut F, seat: &mut F::Seat, frame: FrameNo, bytes: &[u8])
-    requires fits { IsSeatOf F.rule store.old seat.old }
+    requires fits { IsSeatOf F.invariant store.old seat.old }
     requires sole { IsSole (F.Seat.view seat.old) frame.0 }
     requires inside { length bytes.now ≤ 4096 }
     ensures bytes { HasBytes (F.Seat.view seat.new) frame.0 (padded 4096 bytes.now) }
     ensures others { ChangesWords frame.0 (F.Seat.view seat.old) (F.Seat.view seat.new) }
-    ensures keeps { KeepsSeats F.rule store.old seat.old store.new seat.new }
+    ensures keeps { KeepsSeats F.invariant store.old seat.old store.new seat.new }
     ensures free { F.alone → F.free store.new ≡ F.free store.old }
     ensures counts { F.alone → (f : ℕ) → F.count store.new f ≡ F.count store.old f }
 {
@@ -136,12 +136,12 @@ pub fn fill_frame<F: FrameAccess>(store: &mut F, seat: &mut F::Seat, frame: Fram
 
 /// Stores the bytes that make whole words to the start of a frame.
 fn fill_words<F: FrameAccess>(store: &mut F, seat: &mut F::Seat, frame: FrameNo, bytes: &[u8])
-    requires fits { IsSeatOf F.rule store.old seat.old }
+    requires fits { IsSeatOf F.invariant store.old seat.old }
     requires sole { IsSole (F.Seat.view seat.old) frame.0 }
     requires inside { length bytes.now ≤ 4096 }
     ensures words { HasWords (F.Seat.view seat.new) frame.0 bytes.now (length bytes.now / 8) }
     ensures others { ChangesWords frame.0 (F.Seat.view seat.old) (F.Seat.view seat.new) }
-    ensures keeps { KeepsSeats F.rule store.old seat.old store.new seat.new }
+    ensures keeps { KeepsSeats F.invariant store.old seat.old store.new seat.new }
     ensures free { F.alone → F.free store.new ≡ F.free store.old }
     ensures counts { F.alone → (f : ℕ) → F.count store.new f ≡ F.count store.old f }
 {
@@ -156,7 +156,7 @@ fn fill_part<F: FrameAccess>(
     frame: FrameNo,
     bytes: &[u8],
 ) -> usize
-    requires fits { IsSeatOf F.rule store.old seat.old }
+    requires fits { IsSeatOf F.invariant store.old seat.old }
     requires sole { IsSole (F.Seat.view seat.old) frame.0 }
     requires inside { length bytes.now ≤ 4096 }
     ensures words { HasWords (F.Seat.view seat.old) frame.0 bytes.now (length bytes.now / 8) →
@@ -164,7 +164,7 @@ fn fill_part<F: FrameAccess>(
     ensures all { length bytes.now ≤ 8 * result }
     ensures few { result ≤ 512 }
     ensures others { ChangesWords frame.0 (F.Seat.view seat.old) (F.Seat.view seat.new) }
-    ensures keeps { KeepsSeats F.rule store.old seat.old store.new seat.new }
+    ensures keeps { KeepsSeats F.invariant store.old seat.old store.new seat.new }
     ensures free { F.alone → F.free store.new ≡ F.free store.old }
     ensures counts { F.alone → (f : ℕ) → F.count store.new f ≡ F.count store.old f }
 {
@@ -178,13 +178,13 @@ fn fill_part<F: FrameAccess>(
 
 /// Zeroes the words of a frame from index `first` on.
 fn zero_words<F: FrameAccess>(store: &mut F, seat: &mut F::Seat, frame: FrameNo, first: usize)
-    requires fits { IsSeatOf F.rule store.old seat.old }
+    requires fits { IsSeatOf F.invariant store.old seat.old }
     requires sole { IsSole (F.Seat.view seat.old) frame.0 }
     requires few { first ≤ 512 }
     ensures words { (bytes : List ℕ) → length bytes ≤ 8 * first → HasWords (F.Seat.view seat.old) frame.0 bytes first →
         HasWords (F.Seat.view seat.new) frame.0 bytes 512 }
     ensures others { ChangesWords frame.0 (F.Seat.view seat.old) (F.Seat.view seat.new) }
-    ensures keeps { KeepsSeats F.rule store.old seat.old store.new seat.new }
+    ensures keeps { KeepsSeats F.invariant store.old seat.old store.new seat.new }
     ensures free { F.alone → F.free store.new ≡ F.free store.old }
     ensures counts { F.alone → (f : ℕ) → F.count store.new f ≡ F.count store.old f }
 {
@@ -204,7 +204,7 @@ fn last_word(bytes: &[u8]) -> u64
 /// Copies the 4,096 bytes of the held frame `from`, which the seat must know, to another frame `to`, of which the seat
 /// must be the sole holder. Then the seat knows the bytes of `to`.
 pub fn copy_frame<F: FrameAccess>(store: &mut F, seat: &mut F::Seat, from: FrameNo, to: FrameNo)
-    requires fits { IsSeatOf F.rule store.old seat.old }
+    requires fits { IsSeatOf F.invariant store.old seat.old }
     requires held { IsHeld (F.Seat.view seat.old) from.0 }
     requires known { (bytes : List ℕ) × HasBytes (F.Seat.view seat.old) from.0 bytes }
     requires sole { IsSole (F.Seat.view seat.old) to.0 }
@@ -212,7 +212,7 @@ pub fn copy_frame<F: FrameAccess>(store: &mut F, seat: &mut F::Seat, from: Frame
     ensures bytes { (bytes : List ℕ) → HasBytes (F.Seat.view seat.old) from.0 bytes →
         HasBytes (F.Seat.view seat.new) to.0 bytes }
     ensures others { ChangesWords to.0 (F.Seat.view seat.old) (F.Seat.view seat.new) }
-    ensures keeps { KeepsSeats F.rule store.old seat.old store.new seat.new }
+    ensures keeps { KeepsSeats F.invariant store.old seat.old store.new seat.new }
     ensures free { F.alone → F.free store.new ≡ F.free store.old }
     ensures counts { F.alone → (f : ℕ) → F.count store.new f ≡ F.count store.old f }
 {
@@ -226,13 +226,13 @@ pub fn read_frame<F: FrameAccess>(
     frame: FrameNo,
     bytes: &mut [u8; 4096],
 )
-    requires fits { IsSeatOf F.rule store.old seat.old }
+    requires fits { IsSeatOf F.invariant store.old seat.old }
     requires held { IsHeld (F.Seat.view seat.old) frame.0 }
     requires known { (page : List ℕ) × HasBytes (F.Seat.view seat.old) frame.0 page }
     ensures bytes { (page : List ℕ) → HasBytes (F.Seat.view seat.old) frame.0 page → bytes.new ≡ page }
     ensures view { F.Seat.view seat.new ≡ F.Seat.view seat.old }
     ensures same { store.new ≡ store.old }
-    ensures keeps { KeepsSeats F.rule store.old seat.old store.new seat.new }
+    ensures keeps { KeepsSeats F.invariant store.old seat.old store.new seat.new }
 {
     read_words(store, seat, frame, 0, bytes);
 }
@@ -246,7 +246,7 @@ pub(crate) fn read_words<F: FrameAccess>(
     first: usize,
     bytes: &mut [u8],
 )
-    requires fits { IsSeatOf F.rule store.old seat.old }
+    requires fits { IsSeatOf F.invariant store.old seat.old }
     requires held { IsHeld (F.Seat.view seat.old) frame.0 }
     requires known { (page : List ℕ) × HasBytes (F.Seat.view seat.old) frame.0 page }
     requires inside { 8 * first + length bytes.old ≤ 4096 }
@@ -255,7 +255,7 @@ pub(crate) fn read_words<F: FrameAccess>(
         bytes.new ≡ take (length bytes.old) (drop (8 * first) page) }
     ensures view { F.Seat.view seat.new ≡ F.Seat.view seat.old }
     ensures same { store.new ≡ store.old }
-    ensures keeps { KeepsSeats F.rule store.old seat.old store.new seat.new }
+    ensures keeps { KeepsSeats F.invariant store.old seat.old store.new seat.new }
 {
     for place in 0..bytes.len() / 8 {
         let word = store.load(seat, frame, first + place).to_le_bytes();

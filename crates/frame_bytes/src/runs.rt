@@ -21,7 +21,7 @@ pub fn read_run<F: FrameAccess>(
     offset: usize,
     bytes: &mut [u8],
 )
-    requires fits { IsSeatOf F.rule store.old seat.old }
+    requires fits { IsSeatOf F.invariant store.old seat.old }
     requires held { IsHeld (F.Seat.view seat.old) frame.0 }
     requires known { (page : List ℕ) × HasBytes (F.Seat.view seat.old) frame.0 page }
     requires inside { offset + length bytes.old ≤ 4096 }
@@ -29,7 +29,7 @@ pub fn read_run<F: FrameAccess>(
         bytes.new ≡ take (length bytes.old) (drop offset page) }
     ensures view { F.Seat.view seat.new ≡ F.Seat.view seat.old }
     ensures same { store.new ≡ store.old }
-    ensures keeps { KeepsSeats F.rule store.old seat.old store.new seat.new }
+    ensures keeps { KeepsSeats F.invariant store.old seat.old store.new seat.new }
 {
     let len = bytes.len();
     let (front, end) = whole_words(offset, len);
@@ -62,7 +62,7 @@ fn read_part<F: FrameAccess>(
     offset: usize,
     bytes: &mut [u8],
 )
-    requires fits { IsSeatOf F.rule store.old seat.old }
+    requires fits { IsSeatOf F.invariant store.old seat.old }
     requires held { IsHeld (F.Seat.view seat.old) frame.0 }
     requires known { (page : List ℕ) × HasBytes (F.Seat.view seat.old) frame.0 page }
     requires inside { offset + length bytes.old ≤ 4096 }
@@ -71,7 +71,7 @@ fn read_part<F: FrameAccess>(
         bytes.new ≡ take (length bytes.old) (drop offset page) }
     ensures view { F.Seat.view seat.new ≡ F.Seat.view seat.old }
     ensures same { store.new ≡ store.old }
-    ensures keeps { KeepsSeats F.rule store.old seat.old store.new seat.new }
+    ensures keeps { KeepsSeats F.invariant store.old seat.old store.new seat.new }
 {
     if bytes.is_empty() {
         return;
@@ -90,7 +90,7 @@ pub fn write_run<F: FrameAccess>(
     offset: usize,
     bytes: &[u8],
 )
-    requires fits { IsSeatOf F.rule store.old seat.old }
+    requires fits { IsSeatOf F.invariant store.old seat.old }
     requires held { IsHeld (F.Seat.view seat.old) frame.0 }
     requires sole { IsSole (F.Seat.view seat.old) frame.0 }
     requires known { (page : List ℕ) × HasBytes (F.Seat.view seat.old) frame.0 page }
@@ -98,7 +98,7 @@ pub fn write_run<F: FrameAccess>(
     ensures bytes { (page : List ℕ) → HasBytes (F.Seat.view seat.old) frame.0 page →
         HasBytes (F.Seat.view seat.new) frame.0 (write_bytes page offset bytes.now) }
     ensures others { ChangesWords frame.0 (F.Seat.view seat.old) (F.Seat.view seat.new) }
-    ensures keeps { KeepsSeats F.rule store.old seat.old store.new seat.new }
+    ensures keeps { KeepsSeats F.invariant store.old seat.old store.new seat.new }
     ensures free { F.alone → F.free store.new ≡ F.free store.old }
     ensures counts { F.alone → (f : ℕ) → F.count store.new f ≡ F.count store.old f }
 {
@@ -116,7 +116,7 @@ fn write_part<F: FrameAccess>(
     offset: usize,
     bytes: &[u8],
 )
-    requires fits { IsSeatOf F.rule store.old seat.old }
+    requires fits { IsSeatOf F.invariant store.old seat.old }
     requires held { IsHeld (F.Seat.view seat.old) frame.0 }
     requires sole { IsSole (F.Seat.view seat.old) frame.0 }
     requires known { (page : List ℕ) × HasBytes (F.Seat.view seat.old) frame.0 page }
@@ -125,7 +125,7 @@ fn write_part<F: FrameAccess>(
     ensures bytes { (page : List ℕ) → HasBytes (F.Seat.view seat.old) frame.0 page →
         HasBytes (F.Seat.view seat.new) frame.0 (write_bytes page offset bytes.now) }
     ensures others { ChangesWords frame.0 (F.Seat.view seat.old) (F.Seat.view seat.new) }
-    ensures keeps { KeepsSeats F.rule store.old seat.old store.new seat.new }
+    ensures keeps { KeepsSeats F.invariant store.old seat.old store.new seat.new }
     ensures free { F.alone → F.free store.new ≡ F.free store.old }
     ensures counts { F.alone → (f : ℕ) → F.count store.new f ≡ F.count store.old f }
 {
@@ -143,7 +143,7 @@ fn write_words<F: FrameAccess>(
     first: usize,
     bytes: &[u8],
 )
-    requires fits { IsSeatOf F.rule store.old seat.old }
+    requires fits { IsSeatOf F.invariant store.old seat.old }
     requires held { IsHeld (F.Seat.view seat.old) frame.0 }
     requires sole { IsSole (F.Seat.view seat.old) frame.0 }
     requires known { (page : List ℕ) × HasBytes (F.Seat.view seat.old) frame.0 page }
@@ -152,7 +152,7 @@ fn write_words<F: FrameAccess>(
     ensures bytes { (page : List ℕ) → HasBytes (F.Seat.view seat.old) frame.0 page →
         HasBytes (F.Seat.view seat.new) frame.0 (write_bytes page (8 * first) bytes.now) }
     ensures others { ChangesWords frame.0 (F.Seat.view seat.old) (F.Seat.view seat.new) }
-    ensures keeps { KeepsSeats F.rule store.old seat.old store.new seat.new }
+    ensures keeps { KeepsSeats F.invariant store.old seat.old store.new seat.new }
     ensures free { F.alone → F.free store.new ≡ F.free store.old }
     ensures counts { F.alone → (f : ℕ) → F.count store.new f ≡ F.count store.old f }
 {

@@ -1,4 +1,4 @@
--- Lemmas for `Pool`: its invariant (`PoolRule`) holds at first, and is kept as the seat of a place makes a call
+-- Lemmas for `Pool`: its invariant (`PoolInvariant`) holds at first, and is kept as the seat of a place makes a call
 -- (`pool_step`), opens a seat in an empty place (`pool_split`) or ends, joined to another (`pool_join`); and what the
 -- code reads from places and writes to them is what the clauses of its calls say.
 use Rattle.std.proofs.Common.{◌≡◌, ℕ, ◌+◌, ◌-◌, ◌<◌, ◌≤◌, zero, suc, List, [], ◌∷◌, ◌++◌, replicate, append_assoc, Option, None, Some, Result, length, get_or, inl, inr, refl, ap, sym, subst, ◌∙◌, arith}
@@ -10,13 +10,13 @@ use Rattle.std.proofs.lemmas.List.{get_or-set_other, replicate_more}
 use Rattle.frame_store.specs.View.{View, IsHeld, joined, opening_view}
 use Rattle.frame_store.specs.Holds.{opening_holds}
 use Rattle.frame_store.specs.Laws.{IsSeatOf, KeepsSeats}
-use Rattle.frame_store.specs.Plain.{PlainState, PlainStateRule, to_front, to_back}
+use Rattle.frame_store.specs.Plain.{PlainState, PlainStateInvariant, to_front, to_back}
 use Rattle.frame_store.specs.Seats.{present, place_out, place_set_same, place_set_other, place_step, place_split, place_join, places_apart, places_out}
 use Rattle.sv39_entry.specs.declared.frame.FrameNo.{FrameNo}
 use Rattle.frame_store.specs.declared.refusal.NoFrame.{NoFrame}
 use Rattle.frame_clients.specs.FilledFrames.{filled}
 use Rattle.frame_store.specs.SeatOpening.{opener, opened}
-use Rattle.frame_clients.specs.Places.{PoolRule, IsSeated, IsEmpty, view_at, view_or_empty}
+use Rattle.frame_clients.specs.Places.{PoolInvariant, IsSeated, IsEmpty, view_at, view_or_empty}
 
 -- what the code reads in a place of its vector
 module _ (places now : List (Option View)) (i : ℕ) (is : places ≡ now) where
@@ -75,23 +75,23 @@ anchored-set places i o lt new old j v there =
 holds_it : (t : View) → IsHeld t 0 → (v : View) → Some t ≡ Some v → IsHeld v 0
 holds_it t held v is = subst (λ u. IsHeld u 0) (same_Some _ _ is) held
 
-module _ (b : PlainState) (places : List (Option View)) (r : PoolRule b places) (i : ℕ) (s : View) (there : slice_get places i ≡ Some (Some s)) where
+module _ (b : PlainState) (places : List (Option View)) (r : PoolInvariant b places) (i : ℕ) (s : View) (there : slice_get places i ≡ Some (Some s)) where
   -- a call may be made for the seat
-  pub pool_fits : IsSeatOf PlainStateRule b s
-  pool_fits = (present (slice_set places i None), place_out (PlainStateRule b) places i (to_front _ _ _) s there r.rule)
+  pub pool_fits : IsSeatOf PlainStateInvariant b s
+  pool_fits = (present (slice_set places i None), place_out (PlainStateInvariant b) places i (to_front _ _ _) s there r.invariant)
 
   -- and leaves the pool as it should be
-  pub pool_step : (after : PlainState) (t : View) → IsHeld t 0 → KeepsSeats PlainStateRule b s after t → PoolRule after (slice_set places i (Some t))
+  pub pool_step : (after : PlainState) (t : View) → IsHeld t 0 → KeepsSeats PlainStateInvariant b s after t → PoolInvariant after (slice_set places i (Some t))
   pool_step after t held keeps = record {
-    rule = place_step (PlainStateRule b) (PlainStateRule after) (to_front _ _ _) (to_back _ _ _) places i s t there keeps r.rule;
+    invariant = place_step (PlainStateInvariant b) (PlainStateInvariant after) (to_front _ _ _) (to_back _ _ _) places i s t there keeps r.invariant;
     anchored = anchored-set places i (Some t) (slice_get_within places i _ there) (holds_it t held) r.anchored;
   }
 
   -- a new seat goes to an empty place
   pub pool_split : (after : PlainState) (j : ℕ) (t u : View) → slice_get places j ≡ Some None → IsHeld t 0 → IsHeld u 0
-      → ((others : List View) → PlainStateRule b (s ∷ others) → PlainStateRule after (t ∷ u ∷ others)) → PoolRule after (slice_set (slice_set places i (Some t)) j (Some u))
+      → ((others : List View) → PlainStateInvariant b (s ∷ others) → PlainStateInvariant after (t ∷ u ∷ others)) → PoolInvariant after (slice_set (slice_set places i (Some t)) j (Some u))
   pool_split after j t u empty held also keeps = record {
-    rule = place_split (PlainStateRule b) (PlainStateRule after) (to_front _ _ _) (to_back _ _ _) places i (to_front _ _ _) j s t u there empty keeps r.rule;
+    invariant = place_split (PlainStateInvariant b) (PlainStateInvariant after) (to_front _ _ _) (to_back _ _ _) places i (to_front _ _ _) j s t u there empty keeps r.invariant;
     anchored =
         let free : slice_get (slice_set places i (Some t)) j ≡ Some None = place_set_other places i j (Some t) (places_apart places i j s there empty) ∙ empty in
         anchored-set (slice_set places i (Some t)) j (Some u) (slice_get_within _ j None free) (holds_it u also)
@@ -100,13 +100,13 @@ module _ (b : PlainState) (places : List (Option View)) (r : PoolRule b places) 
 
   -- the seat ends, and the one in another place takes it in
   module _ (j : ℕ) (t : View) (other : slice_get places j ≡ Some (Some t)) (apart : j ≡ i → ⊥) where
-    pub join_fits : (others : List View) × PlainStateRule b (t ∷ s ∷ others)
-    join_fits = (_, places_out (PlainStateRule b) (to_front _ _ _) (to_back _ _ _) places i j s t there other apart r.rule)
+    pub join_fits : (others : List View) × PlainStateInvariant b (t ∷ s ∷ others)
+    join_fits = (_, places_out (PlainStateInvariant b) (to_front _ _ _) (to_back _ _ _) places i j s t there other apart r.invariant)
 
     pub pool_join : (after : PlainState) (u : View) → IsHeld u 0
-        → ((others : List View) → PlainStateRule b (t ∷ s ∷ others) → PlainStateRule after (u ∷ others)) → PoolRule after (slice_set (slice_set places i None) j (Some u))
+        → ((others : List View) → PlainStateInvariant b (t ∷ s ∷ others) → PlainStateInvariant after (u ∷ others)) → PoolInvariant after (slice_set (slice_set places i None) j (Some u))
     pool_join after u held keeps = record {
-      rule = place_join (PlainStateRule b) (PlainStateRule after) (to_front _ _ _) (to_back _ _ _) places i (to_back _ _ _) j s t u there other apart keeps r.rule;
+      invariant = place_join (PlainStateInvariant b) (PlainStateInvariant after) (to_front _ _ _) (to_back _ _ _) places i (to_back _ _ _) j s t u there other apart keeps r.invariant;
       anchored =
           let still : slice_get (slice_set places i None) j ≡ Some (Some t) = place_set_other places i j None apart ∙ other in
           anchored-set (slice_set places i None) j (Some u) (slice_get_within _ j _ still) (holds_it u held)
@@ -140,8 +140,8 @@ one_pushed front xs ys k y some is pushed =
     pushed ∙ ap (λ zs. zs ++ y ∷ []) is ∙ append_assoc front (replicate (k - 1) y) (y ∷ []) ∙ ap (λ zs. front ++ zs) (replicate_more (k - 1) y ∙ ap (λ n. replicate n y) next)
 
 -- at first
-pub pool_opening : (size : ℕ) (b : PlainState) (v : View) (places : List (Option View)) (n : ℕ) → places ≡ Some v ∷ replicate n None → v ≡ opening_view size → PlainStateRule b (v ∷ []) → PoolRule b places
-pool_opening size b v places n made is r = subst (PoolRule b) (sym made) record {
-  rule = subst (λ vs. PlainStateRule b (v ∷ vs)) (sym (present-replicate n)) r;
+pub pool_opening : (size : ℕ) (b : PlainState) (v : View) (places : List (Option View)) (n : ℕ) → places ≡ Some v ∷ replicate n None → v ≡ opening_view size → PlainStateInvariant b (v ∷ []) → PoolInvariant b places
+pool_opening size b v places n made is r = subst (PoolInvariant b) (sym made) record {
+  invariant = subst (λ vs. PlainStateInvariant b (v ∷ vs)) (sym (present-replicate n)) r;
   anchored = opening_anchored size v n is;
 }

@@ -1,10 +1,10 @@
 -- `Holdings`, a record: a `Pool` as contracts see it, with its free count (frames of count 0 less all credits, the
 -- reserved frames) and, for each place, the view of its seat (what it holds and knows) or None. Predicates: a place has a
--- seat (`IsSeated`) or is empty (`IsEmpty`), and the invariant of a pool (`PoolRule`).
+-- seat (`IsSeated`) or is empty (`IsEmpty`), and the invariant of a pool (`PoolInvariant`).
 use Rattle.std.specs.Prelude.{◌≡◌, ℕ, List, Option, None, Some, refl, slice_get}
 use Rattle.std.specs.Coded.{Coded, code_by, coded×, coded_ℕ, coded_list, coded_option}
 use Rattle.frame_store.specs.View.{View, view_code, IsHeld, empty_view}
-use Rattle.frame_store.specs.Plain.{PlainState, PlainStateRule}
+use Rattle.frame_store.specs.Plain.{PlainState, PlainStateInvariant}
 use Rattle.frame_store.specs.Seats.{present}
 
 pub record Holdings : Type 0 where
@@ -33,6 +33,6 @@ abbrev pub IsEmpty : List (Option View) → ℕ → Type 0
 IsEmpty places i = slice_get places i ≡ Some None
 
 -- the invariant of a pool: the store's invariant holds of the seats that are there, and each of them holds frame 0
-pub record PoolRule (bank : PlainState) (places : List (Option View)) : Type 0 where
-  pub rule : PlainStateRule bank (present places)
+pub record PoolInvariant (bank : PlainState) (places : List (Option View)) : Type 0 where
+  pub invariant : PlainStateInvariant bank (present places)
   pub anchored : (i : ℕ) (v : View) → slice_get places i ≡ Some (Some v) → IsHeld v 0

@@ -25,7 +25,7 @@ pub struct Pool {
 }
 
 impl Model for Pool {
-    ghost use Rattle.frame_clients.specs.Places.{Holdings, holdings_code, PoolRule};
+    ghost use Rattle.frame_clients.specs.Places.{Holdings, holdings_code, PoolInvariant};
 
     ghost Value = { Holdings };
 
@@ -33,7 +33,7 @@ impl Model for Pool {
 
     ghost view = { λ p. record { free = p.store.free; seats = p.seats.items } };
 
-    ghost invariant = { λ p. PoolRule p.store p.seats.items };
+    ghost invariant = { λ p. PoolInvariant p.store p.seats.items };
 }
 
 impl Pool {

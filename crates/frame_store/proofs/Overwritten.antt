@@ -15,7 +15,7 @@ module _ (items part : List ℕ) (b from k a n len : ℕ) (room : a + n ≤ leng
     outside = λ p apart. back_outside items part a n len room long full p (λ h l. apart (omega (arith, h, at)) (omega (arith, l, at, wide)));
   }
 
--- words that are given by another rule
+-- words that are given by another invariant
 pub puts_same : (old new : List ℕ) (b from k : ℕ) (word other : ℕ → ℕ) → ((q : ℕ) → from ≤ q → q < from + k → word q ≡ other q) → PutsMany old new b from k word → PutsMany old new b from k other
 puts_same old new b from k word other same p = record { long = p.long; inside = λ q least below. p.inside q least below ∙ same q least below; outside = p.outside }
 

@@ -1,4 +1,4 @@
--- Lemmas: the invariant of plain frames (`PlainRule`: words, counts and the views of all seats agree) holds of a new store
+-- Lemmas: the invariant of plain frames (`PlainInvariant`: words, counts and the views of all seats agree) holds of a new store
 -- and is kept as one seat stores a word or a run of words, looks at a count, shares, claims or releases a frame, or changes
 -- only its credits or tallies. Also: a held frame lies in the store, and a word that a seat knows is the word there.
 use Rattle.std.proofs.Common.{◌≡◌, ◌⊎◌, ℕ, ◌+◌, ◌-◌, ◌*◌, ◌<◌, ◌≤◌, ◌==◌, true, cond, refl, ap, sym, subst, ◌∙◌, Some, List, [], ◌∷◌, inl, inr, length, slice_index, arith, lit<}
@@ -14,7 +14,7 @@ use Rattle.std.specs.Cmp.{nat_cmp_total, unsigned_tied}
 use Rattle.std.specs.Ordering.{nat_cmp}
 use Rattle.std.specs.FinMap as map
 use Rattle.frame_store.specs.View.{spent, View, Hold, hold_of, with_hold, without_hold, not_held, references, IsSole, IsHeld, known_word, put_many, with_many, with_word, claimed, shared, looked, released, empty_view, opening_view}
-use Rattle.frame_store.specs.Plain.{total_references, total_credits, FrameAgrees, Agrees, AllAgree, AllSay, PlainRule, is_zero, not_held_agrees}
+use Rattle.frame_store.specs.Plain.{total_references, total_credits, FrameAgrees, Agrees, AllAgree, AllSay, PlainInvariant, is_zero, not_held_agrees}
 use Rattle.frame_store.specs.StoredRuns.{put_inside, put_outside}
 use Rattle.frame_store.specs.Holds.{hold_of-with_hold_same, hold_of-with_hold_other, hold_of-without_hold_same, hold_of-without_hold_other, hold_of-frames, hold_of-empty}
 
@@ -73,13 +73,13 @@ module _ (words counts words' counts' : List ℕ) (f : ℕ) (o : Outside f words
     others vs (λ h le. p h (omega arith)) a.1,
   )
 
-  pub step : (free free' : ℕ) (v w : View) (vs : List View) (h : Hold) → PlainRule words counts free (v ∷ vs) → Changes f h v w
+  pub step : (free free' : ℕ) (v w : View) (vs : List View) (h : Hold) → PlainInvariant words counts free (v ∷ vs) → Changes f h v w
       → length words' ≡ length words → length counts' ≡ length counts
       → h.references + total_references f vs ≡ slice_index counts' f
       → count_by is_zero counts' ≡ free' + (w.credits + total_credits vs)
       → FrameAgrees words' counts' f h
       → ((k : Hold) → k.references ≤ total_references f vs → FrameAgrees words counts f k → FrameAgrees words' counts' f k)
-      → PlainRule words' counts' free' (w ∷ vs)
+      → PlainInvariant words' counts' free' (w ∷ vs)
   step free free' v w vs h r c lw lc total balanced here p = record {
     few = omega (arith, r.few);
     sized = lw ∙ r.sized ∙ ap (λ n. 512 * n) (sym lc);
@@ -134,12 +134,12 @@ others_count words counts f c total p k le a = record {
   bare = a.bare;
 }
 
-module _ (words counts : List ℕ) (free : ℕ) (v : View) (vs : List View) (f : ℕ) (r : PlainRule words counts free (v ∷ vs)) where
+module _ (words counts : List ℕ) (free : ℕ) (v : View) (vs : List View) (f : ℕ) (r : PlainInvariant words counts free (v ∷ vs)) where
   mine : FrameAgrees words counts f (hold_of v f)
   mine = r.agrees.0 f
 
-  pub rule-store : (i w : ℕ) → i < 512 → IsSole v f → PlainRule (slice_set words (512 * f + i) w) counts free (with_word f i w v ∷ vs)
-  rule-store i w low sole =
+  pub invariant-store : (i w : ℕ) → i < 512 → IsSole v f → PlainInvariant (slice_set words (512 * f + i) w) counts free (with_word f i w v ∷ vs)
+  invariant-store i w low sole =
       let m = mine.sole sole in
       let total = r.counted f in
       let lt = in_counts counts f (omega arith) in
@@ -186,11 +186,11 @@ module _ (words counts : List ℕ) (free : ℕ) (v : View) (vs : List View) (f :
   known_there i w is = (mine.known i w is).1
 
   -- many words of the frame, and no others
-  pub rule-many : (first n : ℕ) (word : ℕ → ℕ) (words' : List ℕ) → first + n ≤ 512 → IsSole v f → length words' ≡ length words
+  pub invariant-many : (first n : ℕ) (word : ℕ → ℕ) (words' : List ℕ) → first + n ≤ 512 → IsSole v f → length words' ≡ length words
       → ((q : ℕ) → first ≤ q → q < first + n → slice_index words' (512 * f + q) ≡ word q)
       → ((p : ℕ) → (512 * f + first ≤ p → p < 512 * f + (first + n) → ⊥) → slice_index words' p ≡ slice_index words p)
-      → PlainRule words' counts free (with_many f first n word v ∷ vs)
-  rule-many first n word words' low sole same_length inside outside =
+      → PlainInvariant words' counts free (with_many f first n word v ∷ vs)
+  invariant-many first n word words' low sole same_length inside outside =
       let m = mine.sole sole in
       let total = r.counted f in
       let ws : map.FinMap nat_cmp ℕ = (hold_of v f).words in
@@ -211,8 +211,8 @@ module _ (words counts : List ℕ) (free : ℕ) (v : View) (vs : List View) (f :
       }
       (λ k le a. nothing_held words counts words' counts f k (omega arith) a)
 
-  pub rule-look : (c : ℕ) → c ≡ slice_index counts f → IsHeld v f → PlainRule words counts free (looked f c v ∷ vs)
-  rule-look c is held =
+  pub invariant-look : (c : ℕ) → c ≡ slice_index counts f → IsHeld v f → PlainInvariant words counts free (looked f c v ∷ vs)
+  invariant-look c is held =
       let h : Hold = record (hold_of v f) { sole = cond (c == 1) true (hold_of v f).sole } in
       let total = r.counted f in
       step words counts words counts f (same_outside f words counts) free free v (looked f c v) vs h r
@@ -230,7 +230,7 @@ module _ (words counts : List ℕ) (free : ℕ) (v : View) (vs : List View) (f :
 
 -- the tallies change and no frame does
 pub tallied : (words counts : List ℕ) (free free' : ℕ) (v w : View) (vs : List View) → w.frames ≡ v.frames → w.size ≡ v.size → free' + w.credits ≡ free + v.credits
-    → PlainRule words counts free (v ∷ vs) → PlainRule words counts free' (w ∷ vs)
+    → PlainInvariant words counts free (v ∷ vs) → PlainInvariant words counts free' (w ∷ vs)
 tallied words counts free free' v w vs e as_many same r = record {
   few = r.few;
   sized = r.sized;
@@ -240,9 +240,9 @@ tallied words counts free free' v w vs e as_many same r = record {
   agrees = ((λ g. subst (λ k. FrameAgrees words counts g k) (sym (hold_of-frames w v e g)) (r.agrees.0 g)), r.agrees.1);
 }
 
-module _ (words counts : List ℕ) (free : ℕ) (v : View) (vs : List View) (f : ℕ) (r : PlainRule words counts free (v ∷ vs)) where
-  pub rule-share : IsHeld v f → PlainRule words (slice_set counts f (slice_index counts f + 1)) free (shared f v ∷ vs)
-  rule-share held =
+module _ (words counts : List ℕ) (free : ℕ) (v : View) (vs : List View) (f : ℕ) (r : PlainInvariant words counts free (v ∷ vs)) where
+  pub invariant-share : IsHeld v f → PlainInvariant words (slice_set counts f (slice_index counts f + 1)) free (shared f v ∷ vs)
+  invariant-share held =
       let h : Hold = record (hold_of v f) { references = references v f + 1 } in
       let total = r.counted f in
       let lt = in_counts counts f (omega arith) in
@@ -259,8 +259,8 @@ module _ (words counts : List ℕ) (free : ℕ) (v : View) (vs : List View) (f :
       }
       (others_count words counts f _ (total_references f vs) (λ n le pos e. omega arith))
 
-  pub rule-claim : f < length counts → slice_index counts f ≡ 0 → 0 < v.credits → PlainRule words (slice_set counts f 1) free (claimed f v ∷ vs)
-  rule-claim lt none credit =
+  pub invariant-claim : f < length counts → slice_index counts f ≡ 0 → 0 < v.credits → PlainInvariant words (slice_set counts f 1) free (claimed f v ∷ vs)
+  invariant-claim lt none credit =
       let h : Hold = record { references = 1; sole = true; words = map.empty } in
       let u : View = record v { credits = v.credits - 1; tallies = spent 1 v.tallies } in
       let total = r.counted f in
@@ -282,9 +282,9 @@ module _ (words counts : List ℕ) (free : ℕ) (v : View) (vs : List View) (f :
   unheld none = let total = r.counted f in omega arith
 
   -- the count after a reference is let go
-  pub rule-release : IsHeld v f → (free' : ℕ) → free' ≡ free + cond (slice_index counts f == 1) 1 0
-      → PlainRule words (slice_set counts f (slice_index counts f - 1)) free' (released f v ∷ vs)
-  rule-release held free' is =
+  pub invariant-release : IsHeld v f → (free' : ℕ) → free' ≡ free + cond (slice_index counts f == 1) 1 0
+      → PlainInvariant words (slice_set counts f (slice_index counts f - 1)) free' (released f v ∷ vs)
+  invariant-release held free' is =
       let c : ℕ = slice_index counts f in
       let total = r.counted f in
       let lt = in_counts counts f (omega arith) in
@@ -295,7 +295,7 @@ module _ (words counts : List ℕ) (free : ℕ) (v : View) (vs : List View) (f :
       let z2 = rw (ne_eqb (slice_index counts f) 0 (omega arith)) at z in
       let same = last_zero (slice_index counts f) (omega arith) in
       let less : Hold = record (hold_of v f) { references = references v f - 1 } in
-      let W : View → Type 0 = λ u. PlainRule words (slice_set counts f (slice_index counts f - 1)) free' (u ∷ vs) in
+      let W : View → Type 0 = λ u. PlainInvariant words (slice_set counts f (slice_index counts f - 1)) free' (u ∷ vs) in
       elim (eqb_tells (references v f) 1) as (λ _. W (released f v)) [
         | inl t ↦ rw t.0 (step words counts words (slice_set counts f (slice_index counts f - 1)) f (count_outside f words counts _) free free' v (without_hold f v) vs not_held r
             (removed f v)
@@ -319,8 +319,8 @@ zero_at n f = elim (cases_lt f n) as (λ _. slice_index (replicate n 0) f ≡ 0)
   | inr ge ↦ get_or_past (replicate n 0) f 0 (rw length-replicate ge)
 ]
 
-pub rule-bare : (n : ℕ) → n ≤ 1024 → PlainRule (replicate (512 * n) 0) (replicate n 0) n (empty_view n ∷ [])
-rule-bare n few = record {
+pub invariant-bare : (n : ℕ) → n ≤ 1024 → PlainInvariant (replicate (512 * n) 0) (replicate n 0) n (empty_view n ∷ [])
+invariant-bare n few = record {
   few = rw length-replicate few;
   sized = rw (length-replicate, length-replicate) refl;
   counted = λ g. ap (λ (k : Hold). k.references + 0) (hold_of-empty n g) ∙ sym (zero_at n g);
@@ -329,11 +329,11 @@ rule-bare n few = record {
   agrees = ((λ g. subst (λ k. FrameAgrees (replicate (512 * n) 0) (replicate n 0) g k) (sym (hold_of-empty n g)) (not_held_agrees _ _ g)), tt);
 }
 
-pub rule-open : (n : ℕ) → 0 < n → n ≤ 1024 → PlainRule (replicate (512 * n) 0) (slice_set (replicate n 0) 0 1) (n - 1) (opening_view n ∷ [])
-rule-open n some few =
+pub invariant-open : (n : ℕ) → 0 < n → n ≤ 1024 → PlainInvariant (replicate (512 * n) 0) (slice_set (replicate n 0) 0 1) (n - 1) (opening_view n ∷ [])
+invariant-open n some few =
     let W : List ℕ = replicate (512 * n) 0 in
     let C : List ℕ = replicate n 0 in
     let v : View = record (empty_view n) { credits = 1 } in
-    let one : PlainRule W C (n - 1) (v ∷ []) = tallied W C n (n - 1) (empty_view n) v [] refl refl (omega arith) (rule-bare n few) in
-    let two : PlainRule W (slice_set C 0 1) (n - 1) (claimed 0 v ∷ []) = rule-claim W C (n - 1) v [] 0 one (rw length-replicate some) (zero_at n 0) (lit< tt) in
+    let one : PlainInvariant W C (n - 1) (v ∷ []) = tallied W C n (n - 1) (empty_view n) v [] refl refl (omega arith) (invariant-bare n few) in
+    let two : PlainInvariant W (slice_set C 0 1) (n - 1) (claimed 0 v ∷ []) = invariant-claim W C (n - 1) v [] 0 one (rw length-replicate some) (zero_at n 0) (lit< tt) in
     tallied W (slice_set C 0 1) (n - 1) (n - 1) (claimed 0 v) (opening_view n) [] refl refl refl two

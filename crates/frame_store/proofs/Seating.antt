@@ -1,20 +1,20 @@
--- Lemmas: the invariant of plain frames (`PlainRule`) is kept as one reference moves from one seat to another
--- (`rule-move`), as a seat is split in two (`rule-split`), and as two seats are joined (`rule-join`); in general, as the
+-- Lemmas: the invariant of plain frames (`PlainInvariant`) is kept as one reference moves from one seat to another
+-- (`invariant-move`), as a seat is split in two (`invariant-split`), and as two seats are joined (`invariant-join`); in general, as the
 -- views of two seats change at one frame and no count changes (`step_two`).
 use Rattle.std.proofs.Common.{◌≡◌, ℕ, ◌+◌, ◌-◌, ◌*◌, ◌<◌, ◌≤◌, Bool, true, false, cond, refl, ap, sym, subst, ◌∙◌, Option, None, Some, List, [], ◌∷◌, ◌⊎◌, inl, inr, slice_index, arith}
 use Rattle.std.specs.Prelude.{IsTrue, ◌||◌}
 use Rattle.std.proofs.lemmas.Bool.Decides.{eqb_tells}
 use Rattle.std.specs.FinMap as map
 use Rattle.frame_store.specs.View.{View, Hold, hold_of, with_hold, without_hold, not_held, references, IsHeld, added, either, joined, moved_from, moved_to, split_off, CanSplit}
-use Rattle.frame_store.specs.Plain.{total_references, FrameAgrees, not_held_agrees, PlainRule}
+use Rattle.frame_store.specs.Plain.{total_references, FrameAgrees, not_held_agrees, PlainInvariant}
 use Rattle.frame_store.specs.ViewJoin.{get-union, hold_of-joined}
 use Rattle.frame_store.proofs.PlainSteps.{Changes, changed, own, removed, same_outside}
 
 module _ (words counts : List ℕ) (free : ℕ) where
   -- two views change at the frame f, and no count
-  pub step_two : (f : ℕ) (v w v' w' : View) (vs : List View) (h k : Hold) → PlainRule words counts free (v ∷ w ∷ vs) → Changes f h v v' → Changes f k w w'
+  pub step_two : (f : ℕ) (v w v' w' : View) (vs : List View) (h k : Hold) → PlainInvariant words counts free (v ∷ w ∷ vs) → Changes f h v v' → Changes f k w w'
       → h.references + k.references ≡ references v f + references w f → v'.credits + w'.credits ≡ v.credits + w.credits
-      → FrameAgrees words counts f h → FrameAgrees words counts f k → PlainRule words counts free (v' ∷ w' ∷ vs)
+      → FrameAgrees words counts f h → FrameAgrees words counts f k → PlainInvariant words counts free (v' ∷ w' ∷ vs)
   step_two f v w v' w' vs h k r c d sum credits ah ak = record {
     few = r.few;
     sized = r.sized;
@@ -29,14 +29,14 @@ module _ (words counts : List ℕ) (free : ℕ) where
   }
 
   -- one reference goes over
-  pub rule-move : (f : ℕ) (v w : View) (vs : List View) → IsHeld v f → PlainRule words counts free (v ∷ w ∷ vs) → PlainRule words counts free (moved_from f v ∷ moved_to f (hold_of v f) w ∷ vs)
-  rule-move f v w vs held r =
+  pub invariant-move : (f : ℕ) (v w : View) (vs : List View) → IsHeld v f → PlainInvariant words counts free (v ∷ w ∷ vs) → PlainInvariant words counts free (moved_from f v ∷ moved_to f (hold_of v f) w ∷ vs)
+  invariant-move f v w vs held r =
       let m = r.agrees.0 f in
       let n = r.agrees.1.0 f in
       let total = r.counted f in
       let left : Hold = record { references = references v f - 1; sole = false; words = (hold_of v f).words } in
       let right : Bool → Hold = λ b. record { references = references w f + 1; sole = cond b (hold_of v f).sole false; words = (hold_of v f).words } in
-      elim (eqb_tells (references v f) 1) as (λ _. PlainRule words counts free (moved_from f v ∷ moved_to f (hold_of v f) w ∷ vs)) [
+      elim (eqb_tells (references v f) 1) as (λ _. PlainInvariant words counts free (moved_from f v ∷ moved_to f (hold_of v f) w ∷ vs)) [
         | inl t ↦ rw t.0 (step_two f v w (without_hold f v) (with_hold f (right true) w) vs not_held (right true) r
             (removed f v) (changed f (right true) w)
             (omega (arith, t.1)) refl (not_held_agrees words counts f)
@@ -48,9 +48,9 @@ module _ (words counts : List ℕ) (free : ℕ) where
             record { known = m.known; sole = λ s. absurd (cc); bare = λ none. absurd (omega arith) })
       ]
 
-  pub rule-split : (fs : List ℕ) (v w : View) (vs : List View) → CanSplit fs v → PlainRule words counts free (v ∷ w ∷ vs) → PlainRule words counts free ((split_off fs v w).0 ∷ (split_off fs v w).1 ∷ vs)
-  rule-split [] v w vs can r = r
-  rule-split (f ∷ fs) v w vs can r = rule-split fs (moved_from f v) (moved_to f (hold_of v f) w) vs can.1 (rule-move f v w vs can.0 r)
+  pub invariant-split : (fs : List ℕ) (v w : View) (vs : List View) → CanSplit fs v → PlainInvariant words counts free (v ∷ w ∷ vs) → PlainInvariant words counts free ((split_off fs v w).0 ∷ (split_off fs v w).1 ∷ vs)
+  invariant-split [] v w vs can r = r
+  invariant-split (f ∷ fs) v w vs can r = invariant-split fs (moved_from f v) (moved_to f (hold_of v f) w) vs can.1 (invariant-move f v w vs can.0 r)
 
   either_known : (h k : Hold) (f : ℕ) → FrameAgrees words counts f h → FrameAgrees words counts f k → (i w : ℕ) (a : Option ℕ) → map.get h.words i ≡ a → either a (map.get k.words i) ≡ Some w → (i < 512) × (slice_index words (512 * f + i) ≡ w)
   either_known h k f p q i w (Some x) e is = p.known i w (e ∙ is)
@@ -87,8 +87,8 @@ module _ (words counts : List ℕ) (free : ℕ) where
         ]
       ]
 
-  pub rule-join : (v w : View) (vs : List View) → PlainRule words counts free (v ∷ w ∷ vs) → PlainRule words counts free (joined v w ∷ vs)
-  rule-join v w vs r = record {
+  pub invariant-join : (v w : View) (vs : List View) → PlainInvariant words counts free (v ∷ w ∷ vs) → PlainInvariant words counts free (joined v w ∷ vs)
+  invariant-join v w vs r = record {
     few = r.few;
     sized = r.sized;
     counted = λ f. let e = ap (λ (x : Hold). x.references) (hold_of-joined v w f) ∙ added_references (hold_of v f) (hold_of w f) in omega (arith, r.counted f);

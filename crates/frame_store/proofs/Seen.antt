@@ -3,11 +3,11 @@
 use Rattle.std.proofs.Common.{◌≡◌, ℕ, ◌+◌, ◌*◌, inl, inr, List, ◌∷◌, slice_index, sym, subst, ◌∙◌, ◌⊎◌, Option, None, Some}
 use Rattle.frame_store.specs.ZeroWords.{IdleIn, IsNextBusy, IsNextIn, NamesBlank, ZerosIn}
 use Rattle.frame_store.specs.NextWord.{AreIdle, AreZeros, IsNextBusyWord, IsNextWord, NamesZeros}
-use Rattle.frame_store.specs.Plain.{PlainRule}
+use Rattle.frame_store.specs.Plain.{PlainInvariant}
 use Rattle.frame_store.specs.View.{View}
 use Rattle.frame_store.proofs.PlainSteps.{known_there}
 
-module _ (words counts : List ℕ) (free : ℕ) (v : View) (vs : List View) (r : PlainRule words counts free (v ∷ vs)) where
+module _ (words counts : List ℕ) (free : ℕ) (v : View) (vs : List View) (r : PlainInvariant words counts free (v ∷ vs)) where
   zeros_seen : (f first end : ℕ) → ZerosIn words f first end → AreZeros v f first end
   zeros_seen f first end zeros i w from lt known = sym (known_there words counts free v vs f r i w known) ∙ zeros i from lt
 

@@ -1,5 +1,5 @@
 -- `PlainFrames` as contracts see it: its state (`PlainState`), first state and report; its invariant with the views of
--- all seats (`PlainRule`: counts are sums of references, what each view, the state of a seat, says is true, and the
+-- all seats (`PlainInvariant`: counts are sums of references, what each view, the state of a seat, says is true, and the
 -- frames of count 0 are the free and the reserved ones); the list of unused frames (`ListsUnused`). Laws: seats may be in
 -- any order, held frames exist, an empty seat may be added, calls keep the number of frames.
 use Rattle.std.proofs.Common.{sym, subst, ap, ◌∙◌, arith, inl, inr}
@@ -60,7 +60,7 @@ is_shared c = nat_lt 1 c
 
 -- the invariant: at most 1,024 frames, 512 words for each; each count is the sum of all references; the frames of count 0
 -- are as many as the free count and all credits together; each view has the right size, and what it says of frames is true
-pub record PlainRule (words counts : List ℕ) (free : ℕ) (views : List View) : Type 0 where
+pub record PlainInvariant (words counts : List ℕ) (free : ℕ) (views : List View) : Type 0 where
   pub few : length counts ≤ MOST_FRAMES
   pub sized : length words ≡ 512 * length counts
   pub counted : (f : ℕ) → total_references f views ≡ slice_index counts f
@@ -89,8 +89,8 @@ report_of counts = record {
   references = sum counts;
 }
 
-abbrev pub PlainStateRule : PlainState → List View → Type 0
-PlainStateRule b views = PlainRule b.words b.counts b.free views
+abbrev pub PlainStateInvariant : PlainState → List View → Type 0
+PlainStateInvariant b views = PlainInvariant b.words b.counts b.free views
 
 -- the order of the views does not matter: one may be moved to the front of the list, and from there to any place
 total_references-move : (f : ℕ) (xs : List View) (a : View) (ys : List View)
@@ -121,7 +121,7 @@ all_say-back n [] a ys h = h
 all_say-back n (x ∷ xs) a ys h = (h.1.0, all_say-back n xs a ys (h.0, h.1.1))
 
 module _ (words counts : List ℕ) (free : ℕ) (xs : List View) (a : View) (ys : List View) where
-  pub to_front : PlainRule words counts free (xs ++ a ∷ ys) → PlainRule words counts free (a ∷ xs ++ ys)
+  pub to_front : PlainInvariant words counts free (xs ++ a ∷ ys) → PlainInvariant words counts free (a ∷ xs ++ ys)
   to_front r = record {
     few = r.few;
     sized = r.sized;
@@ -131,7 +131,7 @@ module _ (words counts : List ℕ) (free : ℕ) (xs : List View) (a : View) (ys 
     agrees = all_agree-front words counts xs a ys r.agrees;
   }
 
-  pub to_back : PlainRule words counts free (a ∷ xs ++ ys) → PlainRule words counts free (xs ++ a ∷ ys)
+  pub to_back : PlainInvariant words counts free (a ∷ xs ++ ys) → PlainInvariant words counts free (xs ++ a ∷ ys)
   to_back r = record {
     few = r.few;
     sized = r.sized;
@@ -149,7 +149,7 @@ count_there counts f some = elim (cases_lt f (length counts)) as (λ _. f < leng
   | inr past ↦ absurd (let none = get_or_past counts f 0 past in omega (arith, some, none))
 ]
 
-pub held_within : (b : PlainState) (v : View) (vs : List View) → PlainStateRule b (v ∷ vs) → (v.size ≤ MOST_FRAMES) × ((f : ℕ) → IsHeld v f → f < v.size)
+pub held_within : (b : PlainState) (v : View) (vs : List View) → PlainStateInvariant b (v ∷ vs) → (v.size ≤ MOST_FRAMES) × ((f : ℕ) → IsHeld v f → f < v.size)
 held_within b v vs r =
     let says = r.sizes.0 in (
       omega (arith, says, r.few),
@@ -166,9 +166,9 @@ not_held_agrees words counts f = record {
   bare = λ _. refl;
 }
 
-pub rule-empty : (words counts : List ℕ) (free : ℕ) (v : View) (vs : List View) → PlainRule words counts free (v ∷ vs)
-    → PlainRule words counts free (v ∷ empty_view v.size ∷ vs)
-rule-empty words counts free v vs r = record {
+pub invariant-empty : (words counts : List ℕ) (free : ℕ) (v : View) (vs : List View) → PlainInvariant words counts free (v ∷ vs)
+    → PlainInvariant words counts free (v ∷ empty_view v.size ∷ vs)
+invariant-empty words counts free v vs r = record {
   few = r.few;
   sized = r.sized;
   counted = λ f. let e : references (empty_view v.size) f ≡ 0 = ap (λ (k : Hold). k.references) (hold_of-empty v.size f) in omega (arith, r.counted f);
@@ -178,6 +178,6 @@ rule-empty words counts free v vs r = record {
 }
 
 -- a call that keeps all seats does not change how many frames there are
-pub kept_size : (b c : PlainState) (v w : View) (vs : List View) → KeepsSeats PlainStateRule b v c w → PlainStateRule b (v ∷ vs) → w.size ≡ v.size
-kept_size b c v w vs keeps rule = let after = keeps (empty_view v.size ∷ vs) (rule-empty b.words b.counts b.free v vs rule) in after.sizes.0
+pub kept_size : (b c : PlainState) (v w : View) (vs : List View) → KeepsSeats PlainStateInvariant b v c w → PlainStateInvariant b (v ∷ vs) → w.size ≡ v.size
+kept_size b c v w vs keeps invariant = let after = keeps (empty_view v.size ∷ vs) (invariant-empty b.words b.counts b.free v vs invariant) in after.sizes.0
     ∙ sym after.sizes.1.0

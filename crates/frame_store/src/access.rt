@@ -36,7 +36,7 @@ pub trait FrameAccess {
     type Seat: FrameSeat;
 
     /// The invariant of the store: what holds of it and of all the seats at it.
-    ghost rule: { Self → List Self.Seat → Type 0 };
+    ghost invariant: { Self → List Self.Seat → Type 0 };
 
     /// Nobody else changes the store between two calls. Contracts promise exact counts and refusals only if this holds.
     ghost alone: { Type 0 };
@@ -50,13 +50,13 @@ pub trait FrameAccess {
     /// Returns the word at `index`, below 512, of a held frame. If the seat knows that word, the result is this word; of a
     /// word that it does not know, nothing is promised. Store and view stay.
     fn load(&mut self, seat: &mut Self::Seat, frame: FrameNo, index: usize) -> u64
-        requires fits { IsSeatOf rule self.old seat.old }
+        requires fits { IsSeatOf invariant self.old seat.old }
         requires held { IsHeld (Self.Seat.view seat.old) frame.0 }
         requires in_page { index < 512 }
         ensures known { (w : ℕ) → known_word (Self.Seat.view seat.old) frame.0 index ≡ Some w → result ≡ w }
         ensures view { Self.Seat.view seat.new ≡ Self.Seat.view seat.old }
         ensures same { self.new ≡ self.old }
-        ensures keeps { KeepsSeats rule self.old seat.old self.new seat.new };
+        ensures keeps { KeepsSeats invariant self.old seat.old self.new seat.new };
 
     /// Returns the index and value of the first word of a held frame that is not 0, from index `first` on and before
     /// `last` (`first` ≤ `last` ≤ 512); `None` if all of these are 0. A word that the seat does not know may be passed
@@ -68,14 +68,14 @@ pub trait FrameAccess {
         first: usize,
         last: usize,
     ) -> Option<(usize, u64)>
-        requires fits { IsSeatOf rule self.old seat.old }
+        requires fits { IsSeatOf invariant self.old seat.old }
         requires held { IsHeld (Self.Seat.view seat.old) frame.0 }
         requires low { first ≤ last }
         requires in_page { last ≤ 512 }
         ensures word { IsNextWord (Self.Seat.view seat.old) frame.0 first last result }
         ensures view { Self.Seat.view seat.new ≡ Self.Seat.view seat.old }
         ensures same { self.new ≡ self.old }
-        ensures keeps { KeepsSeats rule self.old seat.old self.new seat.new }
+        ensures keeps { KeepsSeats invariant self.old seat.old self.new seat.new }
     {
         'words: for index in first..last {
             let word = self.load(seat, frame, index);
@@ -99,36 +99,36 @@ pub trait FrameAccess {
         first: usize,
         last: usize,
     ) -> Option<(usize, u64)>
-        requires fits { IsSeatOf rule self.old seat.old }
+        requires fits { IsSeatOf invariant self.old seat.old }
         requires held { IsHeld (Self.Seat.view seat.old) frame.0 }
         requires low { first ≤ last }
         requires in_page { last ≤ 512 }
         ensures word { IsNextBusyWord (Self.Seat.view seat.old) frame.0 first last result }
         ensures view { Self.Seat.view seat.new ≡ Self.Seat.view seat.old }
         ensures same { self.new ≡ self.old }
-        ensures keeps { KeepsSeats rule self.old seat.old self.new seat.new }
+        ensures keeps { KeepsSeats invariant self.old seat.old self.new seat.new }
     {
         self.next_word(seat, frame, first, last)
     }
 
     /// Stores `value` at `index`, below 512, of a frame of which the seat is the sole holder. The seat knows this word then.
     fn store(&mut self, seat: &mut Self::Seat, frame: FrameNo, index: usize, value: u64)
-        requires fits { IsSeatOf rule self.old seat.old }
+        requires fits { IsSeatOf invariant self.old seat.old }
         requires sole { IsSole (Self.Seat.view seat.old) frame.0 }
         requires in_page { index < 512 }
         ensures view { Self.Seat.view seat.new ≡ with_word frame.0 index value (Self.Seat.view seat.old) }
-        ensures keeps { KeepsSeats rule self.old seat.old self.new seat.new }
+        ensures keeps { KeepsSeats invariant self.old seat.old self.new seat.new }
         ensures free { alone → free self.new ≡ free self.old }
         ensures counts { alone → (f : ℕ) → count self.new f ≡ count self.old f };
 
     /// Zeroes the words, from index `first` on, of a frame of which the seat is the sole holder. The seat knows these words
     /// then. `first` is at most 512; at 512 nothing is zeroed.
     fn clear(&mut self, seat: &mut Self::Seat, frame: FrameNo, first: usize)
-        requires fits { IsSeatOf rule self.old seat.old }
+        requires fits { IsSeatOf invariant self.old seat.old }
         requires sole { IsSole (Self.Seat.view seat.old) frame.0 }
         requires in_page { first ≤ 512 }
         ensures view { Self.Seat.view seat.new ≡ with_many frame.0 first (512 - first) (λ _. 0) (Self.Seat.view seat.old) }
-        ensures keeps { KeepsSeats rule self.old seat.old self.new seat.new }
+        ensures keeps { KeepsSeats invariant self.old seat.old self.new seat.new }
         ensures free { alone → free self.new ≡ free self.old }
         ensures counts { alone → (f : ℕ) → count self.new f ≡ count self.old f }
     {
@@ -140,12 +140,12 @@ pub trait FrameAccess {
     /// Stores at most 4,096 bytes, as little-endian words, to the start of a frame of which the seat is the sole holder. The
     /// seat knows these words then. Bytes after the last whole word are left out, and the other words of the frame stay.
     fn fill(&mut self, seat: &mut Self::Seat, frame: FrameNo, bytes: &[u8])
-        requires fits { IsSeatOf rule self.old seat.old }
+        requires fits { IsSeatOf invariant self.old seat.old }
         requires sole { IsSole (Self.Seat.view seat.old) frame.0 }
         requires in_page { length bytes.now ≤ 4096 }
         ensures view { Self.Seat.view seat.new ≡ with_many frame.0 0 (length bytes.now / 8) (λ i.
             from_le_bytes w64 (take 8 (drop (8 * i) bytes.now))) (Self.Seat.view seat.old) }
-        ensures keeps { KeepsSeats rule self.old seat.old self.new seat.new }
+        ensures keeps { KeepsSeats invariant self.old seat.old self.new seat.new }
         ensures free { alone → free self.new ≡ free self.old }
         ensures counts { alone → (f : ℕ) → count self.new f ≡ count self.old f }
     {
@@ -157,13 +157,13 @@ pub trait FrameAccess {
     /// Copies all 512 words of the held frame `from`, which the seat must know, to another frame `to`, of which the seat is
     /// the sole holder. The seat knows the words of `to` then.
     fn copy(&mut self, seat: &mut Self::Seat, from: FrameNo, to: FrameNo)
-        requires fits { IsSeatOf rule self.old seat.old }
+        requires fits { IsSeatOf invariant self.old seat.old }
         requires held { IsHeld (Self.Seat.view seat.old) from.0 }
         requires known { AllKnown (Self.Seat.view seat.old) from.0 }
         requires sole { IsSole (Self.Seat.view seat.old) to.0 }
         requires apart { from.0 ≢ to.0 }
         ensures view { Self.Seat.view seat.new ≡ with_many to.0 0 512 (words_known (Self.Seat.view seat.old) from.0) (Self.Seat.view seat.old) }
-        ensures keeps { KeepsSeats rule self.old seat.old self.new seat.new }
+        ensures keeps { KeepsSeats invariant self.old seat.old self.new seat.new }
         ensures free { alone → free self.new ≡ free self.old }
         ensures counts { alone → (f : ℕ) → count self.new f ≡ count self.old f }
     {
@@ -177,32 +177,32 @@ pub trait FrameAccess {
     /// the seat is then known to be the sole holder. If nobody else changes the store (`alone`), the result is exactly
     /// the count. The store is unchanged.
     fn look(&mut self, seat: &mut Self::Seat, frame: FrameNo) -> u32
-        requires fits { IsSeatOf rule self.old seat.old }
+        requires fits { IsSeatOf invariant self.old seat.old }
         requires held { IsHeld (Self.Seat.view seat.old) frame.0 }
         ensures view { Self.Seat.view seat.new ≡ looked frame.0 result (Self.Seat.view seat.old) }
         ensures some { 0 < result }
         ensures exact { alone → result ≡ count self.old frame.0 }
         ensures same { self.new ≡ self.old }
-        ensures keeps { KeepsSeats rule self.old seat.old self.new seat.new };
+        ensures keeps { KeepsSeats invariant self.old seat.old self.new seat.new };
 
     /// Drops one reference to a held frame. With its last reference the seat loses all that it knew of the frame. If it
     /// was the frame's last reference, the frame becomes free. A seat that holds any frame afterwards must still hold
     /// frame 0.
     fn release(&mut self, seat: &mut Self::Seat, frame: FrameNo)
-        requires fits { IsSeatOf rule self.old seat.old }
+        requires fits { IsSeatOf invariant self.old seat.old }
         requires held { IsHeld (Self.Seat.view seat.old) frame.0 }
         requires anchored { IsAnchored (released frame.0 (Self.Seat.view seat.old)) }
         ensures view { Self.Seat.view seat.new ≡ released frame.0 (Self.Seat.view seat.old) }
-        ensures keeps { KeepsSeats rule self.old seat.old self.new seat.new }
+        ensures keeps { KeepsSeats invariant self.old seat.old self.new seat.new }
         ensures free { alone → free self.new ≡ free self.old + cond (count self.old frame.0 == 1) 1 0 }
         ensures counts { alone → CountBecomes (count self.old) (count self.new) frame.0 (count self.old frame.0 - 1) };
 
     /// Gives `n` of the seat's credits, at most as many as it has, back to the store: `n` more frames are free.
     fn give_back(&mut self, seat: &mut Self::Seat, n: usize)
-        requires fits { IsSeatOf rule self.old seat.old }
+        requires fits { IsSeatOf invariant self.old seat.old }
         requires credits { n ≤ (Self.Seat.view seat.old).credits }
         ensures view { Self.Seat.view seat.new ≡ without_credits n (Self.Seat.view seat.old) }
-        ensures keeps { KeepsSeats rule self.old seat.old self.new seat.new }
+        ensures keeps { KeepsSeats invariant self.old seat.old self.new seat.new }
         ensures free { alone → free self.new ≡ free self.old + n }
         ensures counts { alone → (f : ℕ) → count self.new f ≡ count self.old f };
 
@@ -210,18 +210,18 @@ pub trait FrameAccess {
     /// of `seat`, which is then known to be the sole holder of each frame of which one of the two was. The tallies of
     /// `other` are dropped. The store is unchanged.
     fn join(&mut self, seat: &mut Self::Seat, other: Self::Seat)
-        requires fits { (others : List Self.Seat) × rule self.old (seat.old ∷ other ∷ others) }
+        requires fits { (others : List Self.Seat) × invariant self.old (seat.old ∷ other ∷ others) }
         ensures view { Self.Seat.view seat.new ≡ joined (Self.Seat.view seat.old) (Self.Seat.view other) }
         ensures same { self.new ≡ self.old }
-        ensures keeps { (others : List Self.Seat) → rule self.old (seat.old ∷ other ∷ others) → rule self.new (seat.new ∷ others) };
+        ensures keeps { (others : List Self.Seat) → invariant self.old (seat.old ∷ other ∷ others) → invariant self.new (seat.new ∷ others) };
 
     /// Law: the order of the seats does not matter. A seat may be moved to the front of the list.
-    ghost comes_front: { (s : Self) (xs : List Self.Seat) (a : Self.Seat) (ys : List Self.Seat) → rule s (xs ++ a ∷ ys) → rule s (a ∷ xs ++ ys) };
+    ghost comes_front: { (s : Self) (xs : List Self.Seat) (a : Self.Seat) (ys : List Self.Seat) → invariant s (xs ++ a ∷ ys) → invariant s (a ∷ xs ++ ys) };
 
     /// Law: a seat may be moved from the front of the list to any place in it.
-    ghost goes_back: { (s : Self) (xs : List Self.Seat) (a : Self.Seat) (ys : List Self.Seat) → rule s (a ∷ xs ++ ys) → rule s (xs ++ a ∷ ys) };
+    ghost goes_back: { (s : Self) (xs : List Self.Seat) (a : Self.Seat) (ys : List Self.Seat) → invariant s (a ∷ xs ++ ys) → invariant s (xs ++ a ∷ ys) };
 
     /// Law: the store has at most `MOST_FRAMES` frames (`size` in each view), and a held frame is one of them.
-    ghost within: { (s : Self) (a : Self.Seat) (ys : List Self.Seat) → rule s (a ∷ ys)
+    ghost within: { (s : Self) (a : Self.Seat) (ys : List Self.Seat) → invariant s (a ∷ ys)
         → ((Self.Seat.view a).size ≤ MOST_FRAMES) × ((f : ℕ) → IsHeld (Self.Seat.view a) f → f < (Self.Seat.view a).size) };
 }

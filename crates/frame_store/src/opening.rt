@@ -25,7 +25,7 @@ pub fn opened_seat<F: FrameSupply>(
     store: &mut F,
     seat: &mut F::Seat,
 ) -> Result<F::Seat, SharersFull>
-    requires fits { IsSeatOf F.rule store.old seat.old }
+    requires fits { IsSeatOf F.invariant store.old seat.old }
     requires anchored { IsHeld (F.Seat.view seat.old) 0 }
     ensures opener { IfOk result (λ _. F.Seat.view seat.new ≡ opener (F.Seat.view seat.old)) }
     ensures opened { IfOk result (λ s. F.Seat.view s ≡ opened (F.Seat.view seat.old)) }
@@ -33,8 +33,8 @@ pub fn opened_seat<F: FrameSupply>(
     ensures anchored { IsHeld (F.Seat.view seat.new) 0 }
     ensures exact { F.alone → IsOk result ↔ (F.count store.old 0 < MOST_REFERENCES) }
     ensures keeps { IfOk result (λ s. (others : List F.Seat) →
-        F.rule store.old (seat.old ∷ others) → F.rule store.new (seat.new ∷ s ∷ others)) }
-    ensures keeps_full { IfErr result (λ _. KeepsSeats F.rule store.old seat.old store.new seat.new) }
+        F.invariant store.old (seat.old ∷ others) → F.invariant store.new (seat.new ∷ s ∷ others)) }
+    ensures keeps_full { IfErr result (λ _. KeepsSeats F.invariant store.old seat.old store.new seat.new) }
     ensures free { F.alone → F.free store.new ≡ F.free store.old }
     ensures counts { F.alone → CountBecomes (F.count store.old) (F.count store.new) 0
         (F.count store.old 0 + (if is_ok result then 1 else 0)) }

@@ -3,7 +3,7 @@
 // `PlainSeat`: a seat at it.
 
 ghost use Rattle.std.specs.Prelude.{◌≡◌, ◌+◌, ◌*◌, ◌<◌, ◌≤◌, ◌∷◌, [], count_by, IfOk, length, slice_get, slice_index, sum};
-ghost use Rattle.frame_store.specs.Plain.{PlainStateRule, held_within, is_shared, is_zero, initial_plain_state, report_of, to_back, to_front};
+ghost use Rattle.frame_store.specs.Plain.{PlainStateInvariant, held_within, is_shared, is_zero, initial_plain_state, report_of, to_back, to_front};
 ghost use Rattle.frame_store.specs.View.{opening_view};
 
 use crate::access::{FrameAccess, FrameSeat};
@@ -70,7 +70,7 @@ impl PlainFrames {
         requires few { frames ≤ MOST_FRAMES }
         ensures seat { IfOk result (λ r. r.1 ≡ opening_view frames) }
         ensures store { IfOk result (λ r. r.0 ≡ initial_plain_state frames) }
-        ensures rule { IfOk result (λ r. PlainStateRule r.0 (r.1 ∷ [])) }
+        ensures invariant { IfOk result (λ r. PlainStateInvariant r.0 (r.1 ∷ [])) }
     {
         let words = Memory::new(alloc, frames)?;
         let mut counts = Vec::from_elem(alloc, 0, frames)?;
@@ -151,7 +151,7 @@ fn total(counts: &[u16]) -> usize
 impl FrameAccess for PlainFrames {
     type Seat = PlainSeat;
 
-    ghost rule = { PlainStateRule };
+    ghost invariant = { PlainStateInvariant };
 
     ghost alone = { Unit {0} };
 

@@ -23,11 +23,11 @@ pub trait FrameSupply: FrameAccess {
     /// (`IsDry`). If nobody else changes the store (`alone`): exactly when fewer than `n` frames are free, and then no
     /// count changes.
     fn reserve(&mut self, seat: &mut Self::Seat, n: usize) -> Result<(), NoFrame>
-        requires fits { IsSeatOf Self.rule self.old seat.old }
+        requires fits { IsSeatOf Self.invariant self.old seat.old }
         ensures ok { IfOk result (λ _. Self.Seat.view seat.new ≡ with_credits n (Self.Seat.view seat.old)) }
         ensures err { IfErr result (λ _. IsDry n (Self.Seat.view seat.old) (Self.Seat.view seat.new)) }
         ensures exact { Self.alone → IsOk result ↔ (n ≤ Self.free self.old) }
-        ensures keeps { KeepsSeats Self.rule self.old seat.old self.new seat.new }
+        ensures keeps { KeepsSeats Self.invariant self.old seat.old self.new seat.new }
         ensures free { Self.alone → Self.free self.new ≡ Self.free self.old - (if is_ok result then n else 0) }
         ensures counts { Self.alone → (f : ℕ) → Self.count self.new f ≡ Self.count self.old f };
 
@@ -36,12 +36,12 @@ pub trait FrameSupply: FrameAccess {
     /// must have a credit and hold frame 0. Its tallies count the claim. If nobody else changes the store (`alone`): the
     /// frame's count was 0 and is 1, and the free count stays.
     fn claim(&mut self, seat: &mut Self::Seat) -> FrameNo
-        requires fits { IsSeatOf Self.rule self.old seat.old }
+        requires fits { IsSeatOf Self.invariant self.old seat.old }
         requires credit { 0 < (Self.Seat.view seat.old).credits }
         requires anchored { IsHeld (Self.Seat.view seat.old) 0 }
         ensures fresh { references (Self.Seat.view seat.old) result.0 ≡ 0 }
         ensures view { Self.Seat.view seat.new ≡ claimed result.0 (Self.Seat.view seat.old) }
-        ensures keeps { KeepsSeats Self.rule self.old seat.old self.new seat.new }
+        ensures keeps { KeepsSeats Self.invariant self.old seat.old self.new seat.new }
         ensures free { Self.alone → Self.free self.new ≡ Self.free self.old }
         ensures was_free { Self.alone → Self.count self.old result.0 ≡ 0 }
         ensures counts { Self.alone → CountBecomes (Self.count self.old) (Self.count self.new) result.0 1 };
@@ -54,12 +54,12 @@ pub trait FrameSupply: FrameAccess {
     /// view changes. If nobody else changes the store (`alone`): exactly when the count is not below `MOST_REFERENCES`, and
     /// then no count changes.
     fn share(&mut self, seat: &mut Self::Seat, frame: FrameNo) -> Result<(), SharersFull>
-        requires fits { IsSeatOf Self.rule self.old seat.old }
+        requires fits { IsSeatOf Self.invariant self.old seat.old }
         requires held { IsHeld (Self.Seat.view seat.old) frame.0 }
         ensures ok { IfOk result (λ _. Self.Seat.view seat.new ≡ shared frame.0 (Self.Seat.view seat.old)) }
         ensures err { IfErr result (λ _. Self.Seat.view seat.new ≡ read_full (Self.Seat.view seat.old)) }
         ensures exact { Self.alone → IsOk result ↔ (Self.count self.old frame.0 < MOST_REFERENCES) }
-        ensures keeps { KeepsSeats Self.rule self.old seat.old self.new seat.new }
+        ensures keeps { KeepsSeats Self.invariant self.old seat.old self.new seat.new }
         ensures free { Self.alone → Self.free self.new ≡ Self.free self.old }
         ensures counts { Self.alone
             → CountBecomes (Self.count self.old) (Self.count self.new) frame.0 (Self.count self.old frame.0 + (if is_ok result then 1 else 0)) };
@@ -70,7 +70,7 @@ pub trait FrameSupply: FrameAccess {
     /// sole holder. Credits and tallies stay with `seat`. The store is unchanged. `seat` must have the references, and each
     /// of the two seats must end up holding frame 0 if it holds any frame.
     fn split(&mut self, seat: &mut Self::Seat, frames: &[FrameNo]) -> Self::Seat
-        requires fits { IsSeatOf Self.rule self.old seat.old }
+        requires fits { IsSeatOf Self.invariant self.old seat.old }
         requires held { CanSplit (map (λ f. f.0) frames.now) (Self.Seat.view seat.old) }
         requires left_anchored { IsAnchored (split_off (map (λ f. f.0) frames.now) (Self.Seat.view seat.old) (empty_view (Self.Seat.view seat.old).size)).0 }
         requires right_anchored { IsAnchored (split_off (map (λ f. f.0) frames.now) (Self.Seat.view seat.old) (empty_view (Self.Seat.view seat.old).size)).1 }
@@ -79,5 +79,5 @@ pub trait FrameSupply: FrameAccess {
         ensures right { Self.Seat.view result ≡ (split_off (map (λ f.
             f.0) frames.now) (Self.Seat.view seat.old) (empty_view (Self.Seat.view seat.old).size)).1 }
         ensures same { self.new ≡ self.old }
-        ensures keeps { (others : List Self.Seat) → Self.rule self.old (seat.old ∷ others) → Self.rule self.new (seat.new ∷ result ∷ others) };
+        ensures keeps { (others : List Self.Seat) → Self.invariant self.old (seat.old ∷ others) → Self.invariant self.new (seat.new ∷ result ∷ others) };
 }

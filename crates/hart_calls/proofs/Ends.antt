@@ -29,8 +29,8 @@ use Rattle.hart_calls.specs.declared.journal_entry.JournalEntry.{JournalEntry}
 use Rattle.process_model.specs.Process.{Process}
 use Rattle.process_model.specs.declared.call.Call.{Call}
 use Rattle.shared_frames.specs.SeatsOfTable.{view_of}
-use Rattle.process_model.specs.declared.call.Outcome.{Outcome}
-use Rattle.process_model.specs.declared.call.Outcome.TheVariants as outcome
+use Rattle.process_model.specs.declared.call.ProcessEnd.{ProcessEnd}
+use Rattle.process_model.specs.declared.call.ProcessEnd.TheVariants as outcome
 use Rattle.process_model.specs.declared.reply.Refusal.{Refusal}
 use Rattle.process_model.specs.declared.reply.Refusal.TheVariants as refusal
 use Rattle.process_model.specs.declared.limits.TheConstants.{MOST_ENTRIES}
@@ -39,7 +39,7 @@ use Rattle.process_model.specs.declared.limits.TheConstants.{MOST_ENTRIES}
 pub ends_claiming_none : (v w : View) → TakesFrames v w 0 [] → ClaimsNone v w
 ends_claiming_none v w takes = ap (λ (t : Tallies). t.claims) takes.tallies ∙ omega arith
 
-pub cut_last : (t : Track) (f : Finished) (o : Outcome) → IsCause o → f.journal.items ≡ t.journal → ClaimsNone t.seat (view_of f.seat) → IsLastEntry t f o
+pub cut_last : (t : Track) (f : Finished) (o : ProcessEnd) → IsCause o → f.journal.items ≡ t.journal → ClaimsNone t.seat (view_of f.seat) → IsLastEntry t f o
 cut_last t f (outcome.Exited n) cause same none = absurd cause
 cut_last t f (outcome.Ended r) cause same none = absurd cause
 cut_last t f (outcome.Refused r) cause same none = absurd cause
@@ -48,7 +48,7 @@ cut_last t f outcome.JournalFull cause same none = (same, none)
 
 -- why it ends so
 
-pub cut_full : (w : View) (p : Process) (calls : List Call) (journal : List JournalEntry) (o : Outcome) → IsCutFor p (call_at calls (length journal)) journal o → LacksJournalRoom w p calls journal o
+pub cut_full : (w : View) (p : Process) (calls : List Call) (journal : List JournalEntry) (o : ProcessEnd) → IsCutFor p (call_at calls (length journal)) journal o → LacksJournalRoom w p calls journal o
 cut_full w p calls journal (outcome.Exited n) why = tt
 cut_full w p calls journal (outcome.Ended r) why = tt
 cut_full w p calls journal (outcome.Refused r) why = tt
@@ -67,14 +67,14 @@ cut_for p c journal a r x few maps access some could is = subst (λ (z : Refusal
 
 -- what its seat read is of no account then, if it claimed nothing
 
-seated_last : (t : Track) (seat : View) (room : ℕ) → ClaimsNone t.seat seat → (f : Finished) (o : Outcome) → IsCause o → IsLastEntry (record t { seat = seat; room = room }) f o → IsLastEntry t f o
+seated_last : (t : Track) (seat : View) (room : ℕ) → ClaimsNone t.seat seat → (f : Finished) (o : ProcessEnd) → IsCause o → IsLastEntry (record t { seat = seat; room = room }) f o → IsLastEntry t f o
 seated_last t seat room none f (outcome.Exited n) cause l = absurd cause
 seated_last t seat room none f (outcome.Ended r) cause l = absurd cause
 seated_last t seat room none f (outcome.Refused r) cause l = absurd cause
 seated_last t seat room none f outcome.Memory cause l = (l.0, l.1 ∙ none)
 seated_last t seat room none f outcome.JournalFull cause l = (l.0, l.1 ∙ none)
 
-pub cut_over : (table : TableId) (t : Track) (seat : View) (room : ℕ) → ClaimsNone t.seat seat → (f : Finished) (o : Outcome) → IsCause o → f.outcome ≡ o → IsOver table (record t { seat = seat; room = room }) f → IsOver table t f
+pub cut_over : (table : TableId) (t : Track) (seat : View) (room : ℕ) → ClaimsNone t.seat seat → (f : Finished) (o : ProcessEnd) → IsCause o → f.outcome ≡ o → IsOver table (record t { seat = seat; room = room }) f → IsOver table t f
 cut_over table t seat room none f o cause is over = record {
   name = over.name;
   seat = over.seat;
@@ -118,11 +118,11 @@ error_files t f a b error.Memory access some could moved = record { reads = []; 
 error_files t f a b error.JournalFull access some could moved = (record { reads = []; by = inl refl; becomes = moved; files = moved.files }, inr (inl (access, some, could)))
 
 pub cut_files : (t : Track) (f : Finished) (a b : ShelfState) (r : Refusal) (x : PromiseError) → CanRefuse a 1 x → 0 < length (reads_of a.files nothing t.state (next_of t)) → r ≡ refusal_of x → HasMoves a [] b → IsAccessCall (next_of t) → f.outcome ≡ cause_of r → KeepsFilesByOutcome t f f.outcome a b
-cut_files t f a b r x could some by moved access is = subst (λ (o : Outcome). KeepsFilesByOutcome t f o a b) (sym (is ∙ ap cause_of by)) (error_files t f a b x access some could moved)
+cut_files t f a b r x could some by moved access is = subst (λ (o : ProcessEnd). KeepsFilesByOutcome t f o a b) (sym (is ∙ ap cause_of by)) (error_files t f a b x access some could moved)
 
 -- ---- without files
 
-full_by : (t : Track) (f : Finished) (o : Outcome) (a b : ShelfState) → KeepsFilesByOutcome t f o a b → a.history ≡ [] → all_moves t.state ≡ [] → IsFullByOutcome t o
+full_by : (t : Track) (f : Finished) (o : ProcessEnd) (a b : ShelfState) → KeepsFilesByOutcome t f o a b → a.history ≡ [] → all_moves t.state ≡ [] → IsFullByOutcome t o
 full_by t f (outcome.Exited n) a b filed empty none = tt
 full_by t f (outcome.Ended r) a b filed empty none = tt
 full_by t f (outcome.Refused r) a b filed empty none = tt

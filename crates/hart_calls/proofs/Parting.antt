@@ -24,8 +24,8 @@ use Rattle.hart_calls.specs.CallResults.{RefusesPromise}
 use Rattle.hart_calls.specs.Shortages.{frames_at, IsForkRefusal, CanBeShort, nothing, refused, Shortage, WasAsked}
 use Rattle.hart_calls.specs.declared.journal_entry.JournalEntry.{JournalEntry}
 use Rattle.hart_calls.specs.declared.finished.Finished.{Finished}
-use Rattle.process_model.specs.declared.call.Outcome.{Outcome}
-use Rattle.process_model.specs.declared.call.Outcome.TheVariants as outcome
+use Rattle.process_model.specs.declared.call.ProcessEnd.{ProcessEnd}
+use Rattle.process_model.specs.declared.call.ProcessEnd.TheVariants as outcome
 use Rattle.hart_calls.specs.declared.fork_slot.ForkSlot.{ForkSlot}
 use Rattle.hart_calls.proofs.Journals.{one_longer}
 use Rattle.process_model.specs.Files.{File}
@@ -85,7 +85,7 @@ module _ (t : Track) (status : ℤ) (e : JournalEntry) (called : call_of e ≡ c
     replays = subst (λ (es : List JournalEntry). Replays t.opening 0 0 (calls_of t) es t.state) (sym closed.journal) (one_longer t.opening (calls_of t) t.journal e t.state t.state replays next_is (a.files, leads));
     full = subst (LacksJournalRoom (view_of f.seat) t.state (calls_of t) f.journal.items) (sym closed.outcome) tt;
     few = let long = ap (λ (es : List JournalEntry). length es) closed.journal in let both = length-append t.journal (e ∷ []) in omega (arith, long, both, room);
-    last = subst (λ (o : Outcome). IsLastEntry t f o) (sym closed.outcome) record {
+    last = subst (λ (o : ProcessEnd). IsLastEntry t f o) (sym closed.outcome) record {
       entry = e;
       files = a.files;
       after = t.state;
@@ -104,7 +104,7 @@ module _ (t : Track) (status : ℤ) (e : JournalEntry) (called : call_of e ≡ c
     replays = subst (λ (es : List JournalEntry). Replays t.opening 0 0 (calls_of t) es t.state) (sym broken.journal) replays;
     full = subst (LacksJournalRoom (view_of f.seat) t.state (calls_of t) f.journal.items) (sym broken.outcome) (broken_full broken.error broken.could broken.journal);
     few = let long = ap (λ (es : List JournalEntry). length es) broken.journal in omega (arith, long, room);
-    last = subst (λ (o : Outcome). IsLastEntry t f o) (sym broken.outcome) (broken_last broken.error broken.journal);
+    last = subst (λ (o : ProcessEnd). IsLastEntry t f o) (sym broken.outcome) (broken_last broken.error broken.journal);
   }
 
   pub exit_over : IsOver table t f
@@ -128,8 +128,8 @@ module _ (t : Track) (status : ℤ) (e : JournalEntry) (called : call_of e ≡ c
   exit_broken error.JournalFull could moved = (exit_unwritten moved, inr (inr (broken_end could)))
 
   exit_by : Closes t.state t.journal e (outcome.Exited status) f a d → KeepsFilesByOutcome t f f.outcome a d
-  exit_by (inl closed) = subst (λ (o : Outcome). KeepsFilesByOutcome t f o a d) (sym closed.outcome) (exit_end closed)
-  exit_by (inr broken) = subst (λ (o : Outcome). KeepsFilesByOutcome t f o a d) (sym broken.outcome) (exit_broken broken.error broken.could broken.moves)
+  exit_by (inl closed) = subst (λ (o : ProcessEnd). KeepsFilesByOutcome t f o a d) (sym closed.outcome) (exit_end closed)
+  exit_by (inr broken) = subst (λ (o : ProcessEnd). KeepsFilesByOutcome t f o a d) (sym broken.outcome) (exit_broken broken.error broken.could broken.moves)
 
   pub exit_filed : KeepsFilesByOutcome t f f.outcome a d
   exit_filed = exit_by closes

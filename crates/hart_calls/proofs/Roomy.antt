@@ -8,8 +8,8 @@ use Rattle.hart_calls.specs.TurnResults.{HasFilesAfter, HasTurned}
 use Rattle.hart_calls.specs.TurnCases.{IsChildOf, EndsBy, KeepsFilesAtEnd, KeepsFilesOn, KeepsFilesByOutcome, ContinuesTurn, IsOver, IsLastEntry}
 use Rattle.hart_calls.specs.declared.journal_entry.JournalEntry.{JournalEntry}
 use Rattle.hart_calls.specs.declared.finished.Finished.{Finished}
-use Rattle.process_model.specs.declared.call.Outcome.{Outcome}
-use Rattle.process_model.specs.declared.call.Outcome.TheVariants as outcome
+use Rattle.process_model.specs.declared.call.ProcessEnd.{ProcessEnd}
+use Rattle.process_model.specs.declared.call.ProcessEnd.TheVariants as outcome
 use Rattle.hart_calls.specs.declared.fork_slot.ForkSlot.{ForkSlot}
 use Rattle.hart_calls.specs.declared.fork_slot.ForkSlot.TheVariants as slot
 use Rattle.hart_calls.specs.declared.turn.Turn.{Turn}
@@ -23,7 +23,7 @@ module _ (t : Track) (room : ℕ) where
   ends_room : (f : Finished) (r : Reply) → EndsBy roomy f r → EndsBy t f r
   ends_room f r e = record { entry = e.entry; files = e.files; after = e.after; journal = e.journal; next = e.next; leads = e.leads; reply = e.reply; lack = e.lack }
 
-  last_room : (f : Finished) (o : Outcome) → IsLastEntry roomy f o → IsLastEntry t f o
+  last_room : (f : Finished) (o : ProcessEnd) → IsLastEntry roomy f o → IsLastEntry t f o
   last_room f (outcome.Exited n) l = ends_room f _ l
   last_room f (outcome.Ended r) l = ends_room f _ l
   last_room f (outcome.Refused r) l = l
@@ -53,7 +53,7 @@ module _ (t : Track) (room : ℕ) where
   end_room : (f : Finished) (a b : ShelfState) → KeepsFilesAtEnd roomy f a b → KeepsFilesAtEnd t f a b
   end_room f a b e = record { entry = e.entry; after = e.after; adds = e.adds; leads = e.leads; files = e.files; becomes = e.becomes }
 
-  over_room : (f : Finished) (o : Outcome) (a b : ShelfState) → KeepsFilesByOutcome roomy f o a b → KeepsFilesByOutcome t f o a b
+  over_room : (f : Finished) (o : ProcessEnd) (a b : ShelfState) → KeepsFilesByOutcome roomy f o a b → KeepsFilesByOutcome t f o a b
   over_room f (outcome.Exited n) a b l = end_room f a b l
   over_room f (outcome.Ended r) a b l = end_room f a b l
   over_room f (outcome.Refused r) a b l = l

@@ -1,4 +1,4 @@
--- Lemmas: the list that a fork names exists (`fork_there`); after a list's last call comes exit 0 (`behind_last`); a process
+-- Lemmas: the list that a fork names exists (`fork_boxed`); after a list's last call comes exit 0 (`behind_last`); a process
 -- has a mapping if and only if its list of mappings is not empty (`has_mapping_is`); CopyIn has the box for its reply
 -- (`no_room`).
 use Rattle.std.proofs.Common.{◌≡◌, ◌↔◌, ◌==◌, ◌∷◌, [], arith, Bool, map, not, pos, true, ℕ, ◌<◌, All, get_or, length, List, None, Option, Some, refl, ap, sym, subst, ◌∙◌, slice_get}
@@ -28,8 +28,8 @@ in_list n calls k j all is = go (slice_get calls k) refl
     go None at = absurd (no_fork (slice_get calls k) j at is)
     go (Some c) at = subst (NamesList n) (sym (ap or_exit at) ∙ is) (all_at (NamesList n) calls k c all at)
 
-pub fork_there : (lists : List (List Call)) (list k j : ℕ) → NameLists lists → call_at (list_at lists list) k ≡ call.Fork j → j < length lists
-fork_there lists list k j all is = go (slice_get lists list) refl
+pub fork_boxed : (lists : List (List Call)) (list k j : ℕ) → NameLists lists → call_at (list_at lists list) k ≡ call.Fork j → j < length lists
+fork_boxed lists list k j all is = go (slice_get lists list) refl
   where
     go : (o : Option (List Call)) → slice_get lists list ≡ o → j < length lists
     go None at = absurd (no_fork (slice_get (list_at lists list) k) j (ap (λ (z : Option (List Call)). slice_get (or_none z) k) at) is)

@@ -23,8 +23,8 @@ use Rattle.hart_calls.proofs.Full.{written_maps}
 use Rattle.hart_calls.specs.Shortages.{CanBeShort, Shortage, WasAsked}
 use Rattle.hart_calls.specs.declared.journal_entry.JournalEntry.{JournalEntry}
 use Rattle.hart_calls.specs.declared.finished.Finished.{Finished}
-use Rattle.process_model.specs.declared.call.Outcome.{Outcome}
-use Rattle.process_model.specs.declared.call.Outcome.TheVariants as outcome
+use Rattle.process_model.specs.declared.call.ProcessEnd.{ProcessEnd}
+use Rattle.process_model.specs.declared.call.ProcessEnd.TheVariants as outcome
 use Rattle.hart_calls.specs.declared.fork_slot.ForkSlot.{ForkSlot}
 use Rattle.hart_calls.proofs.Filing.{ended_files, files_told, IsEnd, only_read}
 use Rattle.hart_calls.proofs.Journals.{later_stop, no_slot, one_longer, plain_forks, plain_goes, same_told}
@@ -184,7 +184,7 @@ module _ (t : Track) (c : Call) (stays : IsPlainCall c) (a b : ShelfState) (shor
       replays = subst (λ (es : List JournalEntry). Replays t.opening 0 0 (calls_of t) es (call_outcome a.files shortage 0 t.state c).process) (sym closed.journal) (one_longer t.opening (calls_of t) t.journal e t.state _ replays next_is led);
       full = subst (LacksJournalRoom (view_of f.seat) (call_outcome a.files shortage 0 t.state c).process (calls_of t) f.journal.items) (sym closed.outcome) tt;
       few = let long = ap (λ (es : List JournalEntry). length es) closed.journal in let both = length-append t.journal (e ∷ []) in omega (arith, long, both, room);
-      last = subst (λ (o : Outcome). IsLastEntry t f o) (sym closed.outcome) record {
+      last = subst (λ (o : ProcessEnd). IsLastEntry t f o) (sym closed.outcome) record {
         entry = e;
         files = a.files;
         after = (call_outcome a.files shortage 0 t.state c).process;
@@ -203,7 +203,7 @@ module _ (t : Track) (c : Call) (stays : IsPlainCall c) (a b : ShelfState) (shor
       replays = subst (λ (es : List JournalEntry). Replays t.opening 0 0 (calls_of t) es t.state) (sym broken.journal) replays;
       full = subst (LacksJournalRoom (view_of f.seat) t.state (calls_of t) f.journal.items) (sym broken.outcome) (broken_full broken.error broken.could broken.journal);
       few = let long = ap (λ (es : List JournalEntry). length es) broken.journal in omega (arith, long, room);
-      last = subst (λ (o : Outcome). IsLastEntry t f o) (sym broken.outcome) (broken_last broken.error broken.journal);
+      last = subst (λ (o : ProcessEnd). IsLastEntry t f o) (sym broken.outcome) (broken_last broken.error broken.journal);
     }
 
     pub over : IsOver table t f
@@ -214,8 +214,8 @@ module _ (t : Track) (c : Call) (stays : IsPlainCall c) (a b : ShelfState) (shor
     broken_files error.JournalFull could none = (unwritten none, inr (inr (could_before could)))
 
     filed_by : Closes t.state t.journal e (outcome.Ended rule) f b d → KeepsFilesByOutcome t f f.outcome a d
-    filed_by (inl closed) = subst (λ (o : Outcome). KeepsFilesByOutcome t f o a d) (sym closed.outcome) (filed_end closed)
-    filed_by (inr broken) = subst (λ (o : Outcome). KeepsFilesByOutcome t f o a d) (sym broken.outcome) (broken_files broken.error broken.could broken.moves)
+    filed_by (inl closed) = subst (λ (o : ProcessEnd). KeepsFilesByOutcome t f o a d) (sym closed.outcome) (filed_end closed)
+    filed_by (inr broken) = subst (λ (o : ProcessEnd). KeepsFilesByOutcome t f o a d) (sym broken.outcome) (broken_files broken.error broken.could broken.moves)
 
     pub filed_over : KeepsFilesByOutcome t f f.outcome a d
     filed_over = filed_by closes

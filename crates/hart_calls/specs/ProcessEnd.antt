@@ -7,8 +7,8 @@ use Rattle.file_cabinet.specs.declared.promise.PromiseError.TheVariants as error
 use Rattle.file_shelf.specs.ShelfStates.{HasMoves, CanRefuse, ShelfState}
 use Rattle.hart_calls.specs.declared.journal_entry.JournalEntry.{JournalEntry}
 use Rattle.hart_calls.specs.declared.finished.Finished.{Finished}
-use Rattle.process_model.specs.declared.call.Outcome.{Outcome}
-use Rattle.process_model.specs.declared.call.Outcome.TheVariants as outcome
+use Rattle.process_model.specs.declared.call.ProcessEnd.{ProcessEnd}
+use Rattle.process_model.specs.declared.call.ProcessEnd.TheVariants as outcome
 use Rattle.process_model.specs.Mappings.{all_written_back}
 use Rattle.process_model.specs.PageMoves.{all_moves}
 use Rattle.process_model.specs.Process.{Process}
@@ -16,22 +16,22 @@ use Rattle.process_model.specs.declared.reply.Refusal.{Refusal}
 use Rattle.process_model.specs.declared.reply.Refusal.TheVariants as refusal
 
 -- the outcomes of a process that ends with no journal entry more
-abbrev pub IsCause : Outcome → Type 0
+abbrev pub IsCause : ProcessEnd → Type 0
 IsCause outcome.Memory = Unit {0}
 IsCause outcome.JournalFull = Unit {0}
 IsCause _ = ⊥
 
 -- the outcome of a process that ends because the files refused a promise
-abbrev pub cause_of : Refusal → Outcome
+abbrev pub cause_of : Refusal → ProcessEnd
 cause_of refusal.JournalFull = outcome.JournalFull
 cause_of _ = outcome.Memory
 
-abbrev pub outcome_of : PromiseError → Outcome
+abbrev pub outcome_of : PromiseError → ProcessEnd
 outcome_of error.Memory = outcome.Memory
 outcome_of error.JournalFull = outcome.JournalFull
 
 -- the journal has entry e more, and every mapping was written back
-pub record IsClosed (p : Process) (es : List JournalEntry) (e : JournalEntry) (o : Outcome) (f : Finished) (a b : ShelfState) : Type 0 where
+pub record IsClosed (p : Process) (es : List JournalEntry) (e : JournalEntry) (o : ProcessEnd) (f : Finished) (a b : ShelfState) : Type 0 where
   pub outcome : f.outcome ≡ o
   pub journal : f.journal.items ≡ es ++ e ∷ []
   pub moves : HasMoves a (all_moves p) b
@@ -47,5 +47,5 @@ pub record IsBroken (p : Process) (es : List JournalEntry) (f : Finished) (a b :
   pub moves : HasMoves a [] b
 
 -- a process ends with its last entry and write-back (`IsClosed`), or the files refused the write-back (`IsBroken`)
-abbrev pub Closes : Process → List JournalEntry → JournalEntry → Outcome → Finished → ShelfState → ShelfState → Type 0
+abbrev pub Closes : Process → List JournalEntry → JournalEntry → ProcessEnd → Finished → ShelfState → ShelfState → Type 0
 Closes p es e o f a b = IsClosed p es e o f a b ⊎ IsBroken p es f a b

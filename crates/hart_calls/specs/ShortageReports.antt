@@ -1,6 +1,6 @@
 -- `ReportsShortage`: evidence in a seat's view (what an owner's capability at a frame store holds and knows) for a call's
 -- shortage: NoFrame, the free count was read as 0 with too few frames reserved (`WasDry`; `AccessDry` and `CopyDry` add the
--- counts read); SharersFull, a reference count was read as 65,535 (`WasFull`).
+-- counts read); SharersFull, a reference count was read as `MOST_REFERENCES` (`WasFull`).
 use Rattle.std.specs.Prelude.{◌≡◌, ℕ, ◌+◌, ◌<◌, ◌==◌, ◌∷◌, ◌++◌, false, [], List, is_some, Option, option_to_list, Ok, if◌then◌else◌}
 use Rattle.fault_rules.specs.MadeResident.{is_counted, is_shared_by}
 use Rattle.frame_store.specs.View.{View}
@@ -42,7 +42,7 @@ CopyDry v w p q access first page =
     × WasDry v w (resident_need (is_shared_by count) q access page) (if first == page then 0
     else resident_need (is_shared_by before) p access first) (option_to_list before ++ option_to_list count)
 
--- exactly one reference count was read: 65,535, the greatest that can be counted
+-- exactly one reference count was read: `MOST_REFERENCES`
 abbrev pub WasFull : View → View → Type 0
 WasFull v w = w.tallies.looks ≡ v.tallies.looks ++ MOST_REFERENCES ∷ []
 

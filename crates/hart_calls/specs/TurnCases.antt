@@ -16,8 +16,8 @@ use Rattle.hart_calls.specs.Shortages.{CanBeShort, nothing, Shortage, WasAsked}
 use Rattle.hart_calls.specs.Track.{AppendsEntry, calls_of, IsChild, next_of, Track}
 use Rattle.hart_calls.specs.declared.journal_entry.JournalEntry.{JournalEntry}
 use Rattle.hart_calls.specs.declared.finished.Finished.{Finished}
-use Rattle.process_model.specs.declared.call.Outcome.{Outcome}
-use Rattle.process_model.specs.declared.call.Outcome.TheVariants as outcome
+use Rattle.process_model.specs.declared.call.ProcessEnd.{ProcessEnd}
+use Rattle.process_model.specs.declared.call.ProcessEnd.TheVariants as outcome
 use Rattle.hart_calls.specs.declared.fork_slot.ForkSlot.{ForkSlot}
 use Rattle.hart_calls.specs.declared.fork_slot.ForkSlot.TheVariants as slot
 use Rattle.process_model.specs.Files.{File}
@@ -61,7 +61,8 @@ NeedsFiles t = IsMmap (next_of t) ⊎ HasMapping t.state.mappings
 abbrev pub ForkAnswer : ForkSlot → Reply → Type 0
 ForkAnswer slot.NoSlot r = r ≡ reply.Scalar (scalar.Refused refusal.NoSlot)
 ForkAnswer slot.Memory r = r ≡ reply.Scalar (scalar.Refused refusal.Memory)
-ForkAnswer (slot.Free v place) r = (forked r ≡ 1) ⊎ ((r ≡ reply.Scalar (scalar.Refused refusal.NoFrame)) ⊎ (r ≡ reply.Scalar (scalar.Refused refusal.SharersFull)))
+ForkAnswer (slot.Free v place) r =
+    (forked r ≡ 1) ⊎ ((r ≡ reply.Scalar (scalar.Refused refusal.NoFrame)) ⊎ (r ≡ reply.Scalar (scalar.Refused refusal.SharersFull)))
 
 -- if the call is a fork, its reply is as `ForkAnswer` says for the slot
 abbrev pub BySlot : ForkSlot → Call → Reply → Type 0
@@ -111,7 +112,7 @@ EndsUntold t f = (f.journal.items ≡ t.journal) × ClaimsNone t.seat (view_of f
 
 -- the journal by the outcome: after an exit or an end by a rule one entry more says so; after Memory or JournalFull there is
 -- none more (`EndsUntold`). No call has the outcome Refused
-abbrev pub IsLastEntry : Track → Finished → Outcome → Type 0
+abbrev pub IsLastEntry : Track → Finished → ProcessEnd → Type 0
 IsLastEntry t f (outcome.Exited status) = EndsBy t f (reply.Scalar (scalar.Exited status))
 IsLastEntry t f (outcome.Ended rule) = EndsBy t f (reply.Scalar (scalar.Ended rule))
 IsLastEntry t f (outcome.Refused r) = ⊥
@@ -141,15 +142,15 @@ abbrev pub AsksMoreRoom : View → Process → Call → Type 0
 AsksMoreRoom w p c = HasMapping p.mappings × ((v : View) × (a : ShelfState) × (LacksPageRoom p c a ⊎ LacksEndRoom v w p c a))
 
 -- The process p has a journal of the first of these calls, and ends with no entry more. After JournalFull the journal has
--- 10,000 entries, or the next call asks a promise for which a history has no room; after Memory it has fewer. w is the
+-- `MOST_ENTRIES` entries, or the next call asks a promise for which a history has no room; after Memory it has fewer. w is the
 -- seat's view at the end
-abbrev pub LacksJournalRoom : View → Process → List Call → List JournalEntry → Outcome → Type 0
+abbrev pub LacksJournalRoom : View → Process → List Call → List JournalEntry → ProcessEnd → Type 0
 LacksJournalRoom w p calls journal outcome.JournalFull = (length journal ≡ MOST_ENTRIES) ⊎ AsksMoreRoom w p (call_at calls (length journal))
 LacksJournalRoom w p calls journal outcome.Memory = length journal < MOST_ENTRIES
 LacksJournalRoom w p calls journal o = Unit {0}
 
 -- the same before the process ends, for a call that is not made
-abbrev pub IsCutFor : Process → Call → List JournalEntry → Outcome → Type 0
+abbrev pub IsCutFor : Process → Call → List JournalEntry → ProcessEnd → Type 0
 IsCutFor p c journal outcome.JournalFull = (length journal ≡ MOST_ENTRIES) ⊎ (HasMapping p.mappings × ((a : ShelfState) × LacksPageRoom p c a))
 IsCutFor p c journal outcome.Memory = length journal < MOST_ENTRIES
 IsCutFor p c journal o = Unit {0}
@@ -201,14 +202,14 @@ abbrev pub HasNoRoom : Track → Finished → ShelfState → Type 0
 HasNoRoom t f a = LacksPageRoom t.state (next_of t) a ⊎ LacksEndRoom t.seat (view_of f.seat) t.state (next_of t) a
 
 -- the files after the end of a process, by its outcome
-abbrev pub KeepsFilesByOutcome : Track → Finished → Outcome → ShelfState → ShelfState → Type 0
+abbrev pub KeepsFilesByOutcome : Track → Finished → ProcessEnd → ShelfState → ShelfState → Type 0
 KeepsFilesByOutcome t f (outcome.Exited status) a b = KeepsFilesAtEnd t f a b
 KeepsFilesByOutcome t f (outcome.Ended rule) a b = KeepsFilesAtEnd t f a b
 KeepsFilesByOutcome t f (outcome.Refused r) a b = ⊥
 KeepsFilesByOutcome t f outcome.Memory a b = Unwritten t.state (next_of t) a b
 KeepsFilesByOutcome t f outcome.JournalFull a b = Unwritten t.state (next_of t) a b × ((length t.journal ≡ MOST_ENTRIES) ⊎ HasNoRoom t f a)
 
--- without a shelf, JournalFull ends a process only if its journal has 10,000 entries
-abbrev pub IsFullByOutcome : Track → Outcome → Type 0
+-- without a shelf, JournalFull ends a process only if its journal has `MOST_ENTRIES` entries
+abbrev pub IsFullByOutcome : Track → ProcessEnd → Type 0
 IsFullByOutcome t outcome.JournalFull = length t.journal ≡ MOST_ENTRIES
 IsFullByOutcome t o = Unit {0}

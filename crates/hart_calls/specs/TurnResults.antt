@@ -1,6 +1,6 @@
 -- What `next_call` promises, by the `Turn` (what one call leaves) that it returns: of the process, at the frame table of a
 -- run (`HasTurned`), of a shelf that the call was lent (files that threads share, and their history: `HasFilesAfter`) and,
--- of a call without a shelf, that JournalFull ends it only if its journal has 10,000 entries (`IsFullWithoutShelf`).
+-- of a call without a shelf, that JournalFull ends it only if its journal has `MOST_ENTRIES` entries (`IsFullWithoutShelf`).
 use Rattle.atomic_table.specs.Seated.{TableId}
 use Rattle.hart_calls.specs.Track.{Track}
 use Rattle.hart_calls.specs.TurnCases.{KeepsFilesOn, KeepsFilesByOutcome, IsFullByOutcome, ContinuesTurn, IsOver}

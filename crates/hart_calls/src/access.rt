@@ -16,7 +16,7 @@ ghost use Rattle.table_walk.specs.Tables.{Tables};
 
 use crate::call_result::CallResult;
 use crate::journal_reply::JournalReply;
-use address_space::{AccessRequest, Space, walks_grant_what_is_resident};
+use address_space::{AccessRequest, Space, misalignment, walks_grant_what_is_resident};
 use fault_rules::{Served, serve};
 use file_cabinet::Files;
 use frame_store::{FrameAccess, FrameSeat, FrameSupply};
@@ -33,12 +33,12 @@ pub(crate) fn access<S: FrameSeat, F: FrameSupply<Seat = S>, C: Files>(
     files: &mut C,
     request: AccessRequest,
 ) -> CallResult
-    requires fits { IsSeatOf F.FrameAccess.rule store.old space.old.seat }
+    requires fits { IsSeatOf F.FrameAccess.invariant store.old space.old.seat }
     requires ready { IsAlive (body_of S.view space.old) }
     ensures call_result { (c : declared.Call) → IsAccess c (request_of request)
         → GivesCallResult (body_of S.view space.old) (body_of S.view space.new) (C.files files.old) (λ moves.
         C.becomes files.old moves files.new) (RefusesPromise C.becomes C.can_refuse files.old) (λ n. n ≤ C.room files.new) c result }
-    ensures keeps { KeepsSeats F.FrameAccess.rule store.old space.old.seat store.new space.new.seat }
+    ensures keeps { KeepsSeats F.FrameAccess.invariant store.old space.old.seat store.new space.new.seat }
 {
     if !is_width(request.width) {
         return CallResult::Answered(JournalReply::scalar(ScalarReply::Refused(
@@ -69,7 +69,7 @@ pub(crate) fn is_permitted(walk: &Walk, request: &AccessRequest) -> bool
     requires width { IsTrue (is_width request.now.width) }
     ensures { result ≡ (request.now.va.0 % request.now.width == 0 && gives_leaf walk.now) }
 {
-    request.va.0 % request.width == 0 && matches!(walk, Walk::Leaf { .. })
+    misalignment(request.va.0, request.width) == 0 && matches!(walk, Walk::Leaf { .. })
 }
 
 /// Walks the page table for a user access and makes it, without service: it replies `Fault` if a rule denies it or its page
@@ -79,13 +79,13 @@ fn without_service<S: FrameSeat, F: FrameAccess<Seat = S>>(
     store: &mut F,
     request: AccessRequest,
 ) -> JournalReply
-    requires fits { IsSeatOf F.rule store.old space.old.seat }
+    requires fits { IsSeatOf F.invariant store.old space.old.seat }
     requires ready { IsAlive (body_of S.view space.old) }
     requires width { IsTrue (is_width request.width) }
     ensures reply { (t : Tables) (p : Process) → IsSpace (body_of S.view space.old) t p → result ≡ (service.user_access p (request_of request)).reply }
     ensures after { (t : Tables) (p : Process) → IsSpace (body_of S.view space.old) t p
         → IsSpace (body_of S.view space.new) t (service.user_access p (request_of request)).process }
-    ensures keeps { KeepsSeats F.rule store.old space.old.seat store.new space.new.seat }
+    ensures keeps { KeepsSeats F.invariant store.old space.old.seat store.new space.new.seat }
 {
     let walk = space.translate(store, request.va, request.access, Mode::User);
     accessed(space, store, walk, request)
@@ -98,14 +98,14 @@ pub(crate) fn accessed<S: FrameSeat, F: FrameAccess<Seat = S>>(
     walk: Walk,
     request: AccessRequest,
 ) -> JournalReply
-    requires fits { IsSeatOf F.rule store.old space.old.seat }
+    requires fits { IsSeatOf F.invariant store.old space.old.seat }
     requires ready { (t : Tables) × (p : Process) × IsSpace (body_of S.view space.old) t p × IsWalkOf p.scheme t request walk }
     requires width { IsTrue (is_width request.width) }
     ensures reply { (t : Tables) (p : Process) → IsSpace (body_of S.view space.old) t p → IsWalkOf p.scheme t request walk
         → result ≡ (service.user_access p (request_of request)).reply }
     ensures after { (t : Tables) (p : Process) → IsSpace (body_of S.view space.old) t p → IsWalkOf p.scheme t request walk
         → IsSpace (body_of S.view space.new) t (service.user_access p (request_of request)).process }
-    ensures keeps { KeepsSeats F.rule store.old space.old.seat store.new space.new.seat }
+    ensures keeps { KeepsSeats F.invariant store.old space.old.seat store.new space.new.seat }
 {
     JournalReply::scalar(space.user_access(store, walk, request))
 }

@@ -19,7 +19,7 @@ ghost use Rattle.table_walk.specs.Tables.{Tables};
 
 use crate::access::{accessed, is_permitted};
 use crate::call_result::CallResult;
-use crate::calls::make_there;
+use crate::calls::make_boxed;
 use crate::journal_entry::{JournalEntry, PagesRead};
 use crate::journal_reply::JournalReply;
 use crate::model_process::{ModelProcess, begun};
@@ -58,7 +58,7 @@ impl<'a, B: RunBrand> Tracked<'a, B> {
             return false;
         };
         let listed = self.listed();
-        let reply = match permitted_there(&mut self.parts.space, store, request) {
+        let reply = match permitted_boxed(&mut self.parts.space, store, request) {
             Some(reply) => reply,
             None => return false,
         };
@@ -99,7 +99,7 @@ impl<'a, B: RunBrand> Tracked<'a, B> {
         };
         let mut shelf = Shelf::new(alloc, cabinet);
         let before = Snapshot::of(&shelf);
-        let call_result = make_there(&mut self.parts.space, store, &mut shelf, call, None);
+        let call_result = make_boxed(&mut self.parts.space, store, &mut shelf, call, None);
         match call_result {
             CallResult::Answered(reply) => {
                 let present = state_after(&self.parts.present, before, call, &reply, None);
@@ -144,18 +144,18 @@ fn asked(call: Call<'_>) -> Option<AccessRequest>
 }
 
 /// `permitted`, for a space in a box.
-fn permitted_there<S: FrameSeat, F: FrameAccess<Seat = S>>(
+fn permitted_boxed<S: FrameSeat, F: FrameAccess<Seat = S>>(
     space: &mut Box<Space<S>>,
     store: &mut F,
     request: AccessRequest,
 ) -> Option<JournalReply>
-    requires fits { IsSeatOf F.rule store.old space.old.value.seat }
+    requires fits { IsSeatOf F.invariant store.old space.old.value.seat }
     requires ready { IsAlive (body_of S.view space.old.value) }
     ensures made { (c : declared.Call) → IsAccess c (request_of request) → (t : Tables) (p : Process)
         → IsSpace (body_of S.view space.old.value) t p
         → IfSome result (IsMadeAtOnce (body_of S.view space.old.value) (body_of S.view space.new.value) p (request_of request) c) }
     ensures none { IsNone result → body_of S.view space.new.value ≡ body_of S.view space.old.value }
-    ensures keeps { KeepsSeats F.rule store.old space.old.value.seat store.new space.new.value.seat }
+    ensures keeps { KeepsSeats F.invariant store.old space.old.value.seat store.new space.new.value.seat }
 {
     permitted(space, store, request)
 }
@@ -166,12 +166,12 @@ fn permitted<S: FrameSeat, F: FrameAccess<Seat = S>>(
     store: &mut F,
     request: AccessRequest,
 ) -> Option<JournalReply>
-    requires fits { IsSeatOf F.rule store.old space.old.seat }
+    requires fits { IsSeatOf F.invariant store.old space.old.seat }
     requires ready { IsAlive (body_of S.view space.old) }
     ensures made { (c : declared.Call) → IsAccess c (request_of request) → (t : Tables) (p : Process)
         → IsSpace (body_of S.view space.old) t p → IfSome result (IsMadeAtOnce (body_of S.view space.old) (body_of S.view space.new) p (request_of request) c) }
     ensures none { IsNone result → body_of S.view space.new ≡ body_of S.view space.old }
-    ensures keeps { KeepsSeats F.rule store.old space.old.seat store.new space.new.seat }
+    ensures keeps { KeepsSeats F.invariant store.old space.old.seat store.new space.new.seat }
 {
     if !is_width(request.width) {
         return None;

@@ -1,4 +1,4 @@
-// `make`, `make_there`: dispatch a call that is neither fork nor exit (access, exec, sbrk, mmap, munmap, CopyIn, CopyOut) to
+// `make`, `make_boxed`: dispatch a call that is neither fork nor exit (access, exec, sbrk, mmap, munmap, CopyIn, CopyOut) to
 // the function that makes it in the process's space, and turn the result into a `CallResult`; exec itself (`exec`).
 
 ghost use Rattle.std.specs.Prelude.{◌≡◌, ◌≤◌};
@@ -29,13 +29,13 @@ fn make<S: FrameSeat, F: FrameSupply<Seat = S>, C: Files>(
     call: Call<'_>,
     room: Option<Box<Reply>>,
 ) -> CallResult
-    requires fits { IsSeatOf F.FrameAccess.rule store.old space.old.seat }
+    requires fits { IsSeatOf F.FrameAccess.invariant store.old space.old.seat }
     requires ready { IsAlive (body_of S.view space.old) }
     requires plain { IsPlainCall call }
     requires room { HasRoomFor call room }
     ensures call_result { GivesCallResult (body_of S.view space.old) (body_of S.view space.new) (C.files files.old) (λ moves.
         C.becomes files.old moves files.new) (RefusesPromise C.becomes C.can_refuse files.old) (λ n. n ≤ C.room files.new) call.entry result }
-    ensures keeps { KeepsSeats F.FrameAccess.rule store.old space.old.seat store.new space.new.seat }
+    ensures keeps { KeepsSeats F.FrameAccess.invariant store.old space.old.seat store.new space.new.seat }
 {
     match call {
         Call::Fetch { address } => access(
@@ -82,20 +82,20 @@ fn make<S: FrameSeat, F: FrameSupply<Seat = S>, C: Files>(
 }
 
 /// `make`, for a space in a box.
-pub(crate) fn make_there<S: FrameSeat, F: FrameSupply<Seat = S>, C: Files>(
+pub(crate) fn make_boxed<S: FrameSeat, F: FrameSupply<Seat = S>, C: Files>(
     space: &mut Box<Space<S>>,
     store: &mut F,
     files: &mut C,
     call: Call<'_>,
     room: Option<Box<Reply>>,
 ) -> CallResult
-    requires fits { IsSeatOf F.FrameAccess.rule store.old space.old.value.seat }
+    requires fits { IsSeatOf F.FrameAccess.invariant store.old space.old.value.seat }
     requires ready { IsAlive (body_of S.view space.old.value) }
     requires plain { IsPlainCall call }
     requires room { HasRoomFor call room }
     ensures call_result { GivesCallResult (body_of S.view space.old.value) (body_of S.view space.new.value) (C.files files.old) (λ moves.
         C.becomes files.old moves files.new) (RefusesPromise C.becomes C.can_refuse files.old) (λ n. n ≤ C.room files.new) call.entry result }
-    ensures keeps { KeepsSeats F.FrameAccess.rule store.old space.old.value.seat store.new space.new.value.seat }
+    ensures keeps { KeepsSeats F.FrameAccess.invariant store.old space.old.value.seat store.new space.new.value.seat }
 {
     make(space, store, files, call, room)
 }
@@ -108,11 +108,11 @@ fn exec<S: FrameSeat, F: FrameSupply<Seat = S>, C: Files>(
     files: &mut C,
     image: process_model::Image<'_>,
 ) -> CallResult
-    requires fits { IsSeatOf F.FrameAccess.rule store.old space.old.seat }
+    requires fits { IsSeatOf F.FrameAccess.invariant store.old space.old.seat }
     requires ready { IsAlive (body_of S.view space.old) }
     ensures call_result { GivesCallResult (body_of S.view space.old) (body_of S.view space.new) (C.files files.old) (λ moves.
         C.becomes files.old moves files.new) (RefusesPromise C.becomes C.can_refuse files.old) (λ n. n ≤ C.room files.new) (call.Exec image.entry) result }
-    ensures keeps { KeepsSeats F.FrameAccess.rule store.old space.old.seat store.new space.new.seat }
+    ensures keeps { KeepsSeats F.FrameAccess.invariant store.old space.old.seat store.new space.new.seat }
 {
     let scheme = space.layout.scheme();
     match Image::judged(scheme, image) {

@@ -28,11 +28,11 @@ pub(crate) fn copy_in<S: FrameSeat, F: FrameSupply<Seat = S>, C: Files>(
     count: usize,
     room: Box<Reply>,
 ) -> CallResult
-    requires fits { IsSeatOf F.FrameAccess.rule store.old space.old.seat }
+    requires fits { IsSeatOf F.FrameAccess.invariant store.old space.old.seat }
     requires ready { IsAlive (body_of S.view space.old) }
     ensures call_result { GivesCallResult (body_of S.view space.old) (body_of S.view space.new) (C.files files.old) (λ moves.
         C.becomes files.old moves files.new) (RefusesPromise C.becomes C.can_refuse files.old) (λ n. n ≤ C.room files.new) (call.CopyIn va.0 count) result }
-    ensures keeps { KeepsSeats F.FrameAccess.rule store.old space.old.seat store.new space.new.seat }
+    ensures keeps { KeepsSeats F.FrameAccess.invariant store.old space.old.seat store.new space.new.seat }
 {
     if count > LONGEST_COPY {
         return CallResult::Answered(JournalReply::scalar(ScalarReply::Refused(
@@ -60,12 +60,12 @@ pub(crate) fn copy_out<S: FrameSeat, F: FrameSupply<Seat = S>, C: Files>(
     va: Va,
     bytes: &[u8],
 ) -> CallResult
-    requires fits { IsSeatOf F.FrameAccess.rule store.old space.old.seat }
+    requires fits { IsSeatOf F.FrameAccess.invariant store.old space.old.seat }
     requires ready { IsAlive (body_of S.view space.old) }
     ensures call_result { GivesCallResult (body_of S.view space.old) (body_of S.view space.new) (C.files files.old) (λ moves.
         C.becomes files.old moves files.new) (RefusesPromise C.becomes C.can_refuse files.old) (λ n.
         n ≤ C.room files.new) (call.CopyOut va.0 bytes.entry) result }
-    ensures keeps { KeepsSeats F.FrameAccess.rule store.old space.old.seat store.new space.new.seat }
+    ensures keeps { KeepsSeats F.FrameAccess.invariant store.old space.old.seat store.new space.new.seat }
 {
     if bytes.len() > LONGEST_COPY {
         return CallResult::Answered(JournalReply::scalar(ScalarReply::Refused(

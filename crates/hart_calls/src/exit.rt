@@ -10,7 +10,7 @@ ghost use Rattle.hart_calls.specs.ProcessEnd.{Closes, IsCause, outcome_of};
 ghost use Rattle.hart_calls.specs.Replay.{call_of, listed_call};
 ghost use Rattle.hart_calls.specs.Track.{next_of};
 ghost use Rattle.hart_calls.specs.TurnCases.{IsCutFor, IsOver, KeepsFilesByOutcome};
-ghost use Rattle.process_model.specs.declared.call.Outcome.TheVariants as outcome;
+ghost use Rattle.process_model.specs.declared.call.ProcessEnd.TheVariants as outcome;
 ghost use Rattle.process_model.specs.Mappings.{all_written_back};
 ghost use Rattle.process_model.specs.PageMoves.{all_moves};
 ghost use Rattle.process_model.specs.Process.{Process};
@@ -31,7 +31,7 @@ use address_space::Space;
 use file_cabinet::PromiseError;
 use file_shelf::Shelf;
 use mmap_regions::{promise_write_back, write_back};
-use process_model::{Call, Outcome, ScalarReply};
+use process_model::{Call, ProcessEnd, ScalarReply};
 use shared_frames::{SharedSeat, SharedSupply};
 use std::sync::Wait;
 
@@ -41,7 +41,7 @@ impl<'a, B: RunBrand> Tracked<'a, B> {
     pub(crate) fn cut<R: Wait>(
         self,
         store: &mut SharedSupply<'_, R>,
-        outcome: Outcome,
+        outcome: ProcessEnd,
     ) -> Finished<'a>
         requires store { store.old ≡ B.table }
         requires cause { IsCause outcome }
@@ -108,10 +108,10 @@ fn exit_entry<'a>(listed: Listed<'a>, status: i32, before: ModelProcess) -> Jour
 }
 
 /// The outcome of a process that exits.
-fn exited(status: i32) -> Outcome
+fn exited(status: i32) -> ProcessEnd
     ensures { result ≡ outcome.Exited status }
 {
-    Outcome::Exited(status)
+    ProcessEnd::Exited(status)
 }
 
 /// Ends a process: writes every mapping back, in order of address, releases all its frames and appends `entry` to its
@@ -123,7 +123,7 @@ pub(crate) fn close<'a, B: RunBrand, R: Wait>(
     store: &mut SharedSupply<'_, R>,
     shelf: &mut Shelf,
     entry: JournalEntry<'a>,
-    outcome: Outcome,
+    outcome: ProcessEnd,
 ) -> Finished<'a>
     requires store { store.old ≡ B.table }
     requires fits { FitsIn B.table parts.space.value.seat }
@@ -142,7 +142,7 @@ pub(crate) fn close<'a, B: RunBrand, R: Wait>(
         mut space,
         ..
     } = parts;
-    let written = write_there::<B, R>(&mut space, store, shelf);
+    let written = write_boxed::<B, R>(&mut space, store, shelf);
     let seat = leave::<B, R>(space, store);
     match written {
         Ok(()) => {
@@ -164,17 +164,17 @@ pub(crate) fn close<'a, B: RunBrand, R: Wait>(
 }
 
 /// The outcome of a process that ends because the files refused to promise its write-back.
-pub(crate) fn outcome_of(error: PromiseError) -> Outcome
+pub(crate) fn outcome_of(error: PromiseError) -> ProcessEnd
     ensures { result ≡ outcome_of error }
 {
     match error {
-        PromiseError::Memory => Outcome::Memory,
-        PromiseError::JournalFull => Outcome::JournalFull,
+        PromiseError::Memory => ProcessEnd::Memory,
+        PromiseError::JournalFull => ProcessEnd::JournalFull,
     }
 }
 
 /// `write_all_back`, for a space in a box.
-fn write_there<B: RunBrand, R: Wait>(
+fn write_boxed<B: RunBrand, R: Wait>(
     space: &mut Box<Space<SharedSeat>>,
     store: &mut SharedSupply<'_, R>,
     shelf: &mut Shelf,

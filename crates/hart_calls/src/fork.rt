@@ -55,7 +55,7 @@ impl<'a, B: RunBrand> Tracked<'a, B> {
         ensures same { self.new ≡ self.old }
     {
         room_for_list(self.parts.alloc, &mut self.parts.settled)?;
-        let bare = split_empty_there(&mut self.parts.space, store);
+        let bare = split_empty_boxed(&mut self.parts.space, store);
         ChildRoom::new(self.parts.alloc, bare)
     }
 
@@ -111,7 +111,7 @@ impl<'a, B: RunBrand> Tracked<'a, B> {
         let mut parts = self.parts;
         let mut settled = mem::replace(&mut parts.settled, None);
         let before = parts.present.kept();
-        let forked = fork_there(&mut parts.space, store, &mut settled);
+        let forked = fork_boxed(&mut parts.space, store, &mut settled);
         parts.settled = settled;
         match forked {
             Ok(child) => {
@@ -165,12 +165,12 @@ fn room_for_list(alloc: Global, list: &mut Option<Box<PageList>>) -> Result<(), 
 }
 
 /// `fork_with`, for a space in a box. The settled pages are listed in `list`, if there is one.
-fn fork_there<S: FrameSeat, F: FrameSupply<Seat = S>>(
+fn fork_boxed<S: FrameSeat, F: FrameSupply<Seat = S>>(
     space: &mut Box<Space<S>>,
     store: &mut F,
     list: &mut Option<Box<PageList>>,
 ) -> Result<Child<S>, ForkError>
-    requires fits { IsSeatOf F.FrameAccess.rule store.old space.old.value.seat }
+    requires fits { IsSeatOf F.FrameAccess.invariant store.old space.old.value.seat }
     requires ready { IsAlive (body_of S.view space.old.value) }
     ensures forked { IfOk result (λ child.
         HasForked (body_of S.view space.old.value) (body_of S.view space.new.value)
@@ -181,9 +181,9 @@ fn fork_there<S: FrameSeat, F: FrameSupply<Seat = S>>(
         → RunsDry (S.view space.old.value.seat) (S.view space.new.value.seat) (model.fork_need p) [] }
     ensures full { IsSharersFullError result → TakesFrames (S.view space.old.value.seat) (S.view space.new.value.seat) 0 (MOST_REFERENCES ∷ []) }
     ensures layout { space.new.value.layout ≡ space.old.value.layout }
-    ensures keeps { IfOk result (λ child. (others : List S) → F.FrameAccess.rule store.old (space.old.value.seat ∷ others)
-        → F.FrameAccess.rule store.new (space.new.value.seat ∷ child.seat ∷ others)) }
-    ensures keeps_refused { IfErr result (λ _. KeepsSeats F.FrameAccess.rule store.old space.old.value.seat store.new space.new.value.seat) }
+    ensures keeps { IfOk result (λ child. (others : List S) → F.FrameAccess.invariant store.old (space.old.value.seat ∷ others)
+        → F.FrameAccess.invariant store.new (space.new.value.seat ∷ child.seat ∷ others)) }
+    ensures keeps_refused { IfErr result (λ _. KeepsSeats F.FrameAccess.invariant store.old space.old.value.seat store.new space.new.value.seat) }
 {
     match list {
         Some(list) => fork_with(space, store, list),
@@ -198,7 +198,7 @@ fn fork_unlisted<S: FrameSeat, F: FrameSupply<Seat = S>>(
     space: &mut Space<S>,
     store: &mut F,
 ) -> Result<Child<S>, ForkError>
-    requires fits { IsSeatOf F.FrameAccess.rule store.old space.old.seat }
+    requires fits { IsSeatOf F.FrameAccess.invariant store.old space.old.seat }
     requires ready { IsAlive (body_of S.view space.old) }
     ensures forked { IfOk result (λ child.
         HasForked (body_of S.view space.old) (body_of S.view space.new) (body (S.view child.seat) child.root.0 child.trapframe.0 space.old.layout)) }
@@ -207,16 +207,16 @@ fn fork_unlisted<S: FrameSeat, F: FrameSupply<Seat = S>>(
         → RunsDry (S.view space.old.seat) (S.view space.new.seat) (model.fork_need p) [] }
     ensures full { IsSharersFullError result → TakesFrames (S.view space.old.seat) (S.view space.new.seat) 0 (MOST_REFERENCES ∷ []) }
     ensures layout { space.new.layout ≡ space.old.layout }
-    ensures keeps { IfOk result (λ child. (others : List S) → F.FrameAccess.rule store.old (space.old.seat ∷ others)
-        → F.FrameAccess.rule store.new (space.new.seat ∷ child.seat ∷ others)) }
-    ensures keeps_refused { IfErr result (λ _. KeepsSeats F.FrameAccess.rule store.old space.old.seat store.new space.new.seat) }
+    ensures keeps { IfOk result (λ child. (others : List S) → F.FrameAccess.invariant store.old (space.old.seat ∷ others)
+        → F.FrameAccess.invariant store.new (space.new.seat ∷ child.seat ∷ others)) }
+    ensures keeps_refused { IfErr result (λ _. KeepsSeats F.FrameAccess.invariant store.old space.old.seat store.new space.new.seat) }
 {
     let mut list = PageList::new();
     fork_with(space, store, &mut list)
 }
 
 /// Splits an empty seat off the seat of a space in a box.
-fn split_empty_there<R: Wait>(
+fn split_empty_boxed<R: Wait>(
     space: &mut Box<Space<SharedSeat>>,
     store: &mut SharedSupply<'_, R>,
 ) -> SharedSeat

@@ -18,7 +18,7 @@ ghost use Rattle.shared_frames.specs.SeatsOfTable.{FitsIn, view_of};
 ghost use Rattle.table_walk.specs.Tables.{Tables};
 
 use crate::call_result::CallResult;
-use crate::calls::make_there;
+use crate::calls::make_boxed;
 use crate::exit::close;
 use crate::fork_slot::ForkSlot;
 use crate::journal_entry::{JournalEntry, Listed, PagesRead};
@@ -29,7 +29,7 @@ use crate::tracked::{Tracked, TrackedParts};
 use crate::turn::Turn;
 use file_cabinet::Files;
 use file_shelf::{PageUse, Shelf};
-use process_model::{Call, Outcome, Refusal, Reply, ScalarReply};
+use process_model::{Call, ProcessEnd, Refusal, Reply, ScalarReply};
 use shared_frames::SharedSupply;
 use std::marker::PhantomData;
 use std::snapshot::Snapshot;
@@ -67,7 +67,7 @@ impl<'a, B: RunBrand> Tracked<'a, B> {
         let before = Snapshot::of(&*shelf);
         let mark = uses(shelf);
         let file = mapped_file(shelf, call);
-        let call_result = make_there(&mut parts.space, store, shelf, call, room);
+        let call_result = make_boxed(&mut parts.space, store, shelf, call, room);
         let pages = pages_read(shelf, mark, call, pages, &mut parts.spare);
         match call_result {
             CallResult::Answered(reply) => {
@@ -83,7 +83,7 @@ impl<'a, B: RunBrand> Tracked<'a, B> {
             }
             CallResult::Ended(rule) => {
                 let entry = last_entry(listed, rule, pages, file, was);
-                Turn::Over(close::<B, R>(parts, store, shelf, entry, Outcome::Ended(rule)))
+                Turn::Over(close::<B, R>(parts, store, shelf, entry, ProcessEnd::Ended(rule)))
             }
             CallResult::Unserved(refusal) => {
                 let tracked: Tracked<'a, B> = Tracked {
@@ -260,11 +260,11 @@ fn may_read(call: Call<'_>) -> bool
 }
 
 /// The outcome of a process that ends because the files refused a promise.
-fn cause_of(refusal: Refusal) -> Outcome
+fn cause_of(refusal: Refusal) -> ProcessEnd
     ensures { result ≡ cause_of refusal }
 {
     match refusal {
-        Refusal::JournalFull => Outcome::JournalFull,
-        _ => Outcome::Memory,
+        Refusal::JournalFull => ProcessEnd::JournalFull,
+        _ => ProcessEnd::Memory,
     }
 }

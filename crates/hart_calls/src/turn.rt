@@ -16,7 +16,7 @@ use crate::run_brand::RunBrand;
 use crate::tracked::Tracked;
 use file_cabinet::Cabinet;
 use file_shelf::{PageUse, Shelf};
-use process_model::{Call, MOST_ENTRIES, Outcome, Reply};
+use process_model::{Call, MOST_ENTRIES, ProcessEnd, Reply};
 use shared_frames::SharedSupply;
 use std::alloc::{AllocError, Global};
 use std::mem;
@@ -92,9 +92,9 @@ impl<'a, B: RunBrand> Tracked<'a, B> {
         let alloc = self.parts.alloc;
         let Ok(cabinet) = Cabinet::new(alloc, &[]) else {
             if self.made() < MOST_ENTRIES {
-                return Turn::Over(self.cut(store, Outcome::Memory));
+                return Turn::Over(self.cut(store, ProcessEnd::Memory));
             }
-            return Turn::Over(self.cut(store, Outcome::JournalFull));
+            return Turn::Over(self.cut(store, ProcessEnd::JournalFull));
         };
         let mut shelf = Shelf::new(alloc, cabinet);
         self.turn(store, &mut shelf, slot)
@@ -116,10 +116,10 @@ impl<'a, B: RunBrand> Tracked<'a, B> {
         ensures files { HasFilesAfter self.entry result shelf.old shelf.new }
     {
         if self.made() == MOST_ENTRIES {
-            return Turn::Over(self.cut(store, Outcome::JournalFull));
+            return Turn::Over(self.cut(store, ProcessEnd::JournalFull));
         }
         let Ok(()) = self.with_entry() else {
-            return Turn::Over(self.cut(store, Outcome::Memory));
+            return Turn::Over(self.cut(store, ProcessEnd::Memory));
         };
         match self.next() {
             Call::Fork { list } => {
@@ -129,7 +129,7 @@ impl<'a, B: RunBrand> Tracked<'a, B> {
             Call::Exit { status } => Turn::Over(self.exit(store, shelf, status)),
             call => {
                 let Ok((pages, room)) = self.with_room() else {
-                    return Turn::Over(self.cut(store, Outcome::Memory));
+                    return Turn::Over(self.cut(store, ProcessEnd::Memory));
                 };
                 self.plain_call(store, shelf, call, pages, room, &slot)
             }

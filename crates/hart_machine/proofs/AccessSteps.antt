@@ -18,7 +18,7 @@ use Rattle.process_model.specs.declared.reply.ScalarReply.TheVariants.{Fault, Re
 use Rattle.process_model.specs.declared.reply.Reply.TheVariants.{Scalar}
 use Rattle.sv39_entry.specs.declared.access.Access.{Access}
 use Rattle.hart_machine.specs.Harts.{hart_of}
-use Rattle.hart_machine.specs.Worlds.{IsWorld, IsModelOutcome}
+use Rattle.hart_machine.specs.Worlds.{IsWorldButBuffers, IsModelOutcome}
 use Rattle.hart_machine.specs.declared.hart.Hart.{Hart}
 use Rattle.hart_machine.specs.declared.machine.Machine.{Machine}
 use Rattle.hart_machine.proofs.AccessingPages.{access_answers, IsAnswer}
@@ -39,7 +39,7 @@ module _ (w : World) (h : ℕ) (hart : model.Hart) (s : ℕ) (x : Answer) where
   by_other (inr (inl answer)) apart = ap (access_outcome_if w h hart s x) (ap is_fault answer.1)
   by_other (inr (inr stored)) apart = ap (access_outcome_if w h hart s x) (ap is_fault stored)
 
-module _ (m : Machine) (w : World) (is : IsWorld m w) (h : ℕ) (access : Access) (a width value : ℕ) (via : Option ℕ) where
+module _ (m : Machine) (w : World) (is : IsWorldButBuffers m w) (h : ℕ) (access : Access) (a width value : ℕ) (via : Option ℕ) where
   pub no_width : is_width width ≡ false → IsModelOutcome m (Scalar (Refused BadArgument)) (access_step w h access a width value via)
   no_width fails = refused m w is BadArgument _ (improper w h (is_width width) _ _ _ fails)
 
@@ -58,7 +58,7 @@ module _ (m : Machine) (w : World) (is : IsWorld m w) (h : ℕ) (access : Access
       pub in_user : has.hart.phase ≡ phase.User
       in_user = has.phased ∙ user_is p user
 
-      pub no_entry : (n : Machine) → IsWorld n w → entry_serves m.policy (hart_of has.hart) a via ≡ false → IsModelOutcome n (Scalar (Refused NoEntry)) (access_step w h access a width value via)
+      pub no_entry : (n : Machine) → IsWorldButBuffers n w → entry_serves m.policy (hart_of has.hart) a via ≡ false → IsModelOutcome n (Scalar (Refused NoEntry)) (access_step w h access a width value via)
       no_entry n after fails = refused n w after NoEntry _ (without_entry w h (is_width width) (λ x. model.is_user x.phase) (λ x. entry_serves w.policy x a via) _ (hart_of has.hart) has.in_model well can
           (ap (λ q. entry_serves q (hart_of has.hart) a via) (sym is.policy) ∙ fails))
 
@@ -70,7 +70,7 @@ module _ (m : Machine) (w : World) (is : IsWorld m w) (h : ℕ) (access : Access
         step_is = runs w h (is_width width) (λ x. model.is_user x.phase) (λ x. entry_serves w.policy x a via) _ (hart_of has.hart) has.in_model well can (ap (λ z. entry_serves z (hart_of has.hart) a via) (sym is.policy) ∙ serves)
             ∙ its_process w (hart_of has.hart) _ s q on at
 
-        module _ (n : Machine) (same : n.harts ≡ m.harts) (r : Reply) (made : (r ≡ comes.reply) × IsWorld n (with_process w s comes.process)) where
+        module _ (n : Machine) (same : n.harts ≡ m.harts) (r : Reply) (made : (r ≡ comes.reply) × IsWorldButBuffers n (with_process w s comes.process)) where
           pub answers_access : ((cause : ℕ) → r ≡ Scalar (Fault cause) → ⊥) → IsModelOutcome n r (access_step w h access a width value via)
           answers_access apart = subst (λ (o : StepOutcome). IsModelOutcome n r o)
               (sym (step_is ∙ by_other w h (hart_of has.hart) s comes (access_answers q (asks access a width value)) (λ cause fault. apart cause (made.0 ∙ fault)))) made
@@ -82,7 +82,7 @@ module _ (m : Machine) (w : World) (is : IsWorld m w) (h : ℕ) (access : Access
               let there : slice_get n.harts.items h ≡ Some has.hart = ap (λ hs. slice_get hs.items h) same ∙ has.there in
               subst (λ (o : StepOutcome). IsModelOutcome (record n { harts = with_item n.harts h (record x { phase = phase.Enter0 }) }) r o) (sym (step_is ∙ by_fault w h (hart_of has.hart) s comes cause (sym made.0 ∙ fault))) (
                 made.0,
-                subst (λ (z : Hart). IsWorld (record n { harts = with_item n.harts h (record z { phase = phase.Enter0 }) }) (with_hart (with_process w s comes.process) h (record (hart_of has.hart) { phase = phase.Enter0 })))
+                subst (λ (z : Hart). IsWorldButBuffers (record n { harts = with_item n.harts h (record z { phase = phase.Enter0 }) }) (with_hart (with_process w s comes.process) h (record (hart_of has.hart) { phase = phase.Enter0 })))
                     (sym (read ∙ get_or_from_slice_get n.harts.items h has.hart x there))
                     (hart_changes n _ after h has.hart (record has.hart { phase = phase.Enter0 }) there (λ k on. after.hosted h k has.hart there on) (λ r on k z at also. after.alone r k h z has.hart at there also on) (λ none. absurd (user_has_slot m w is h p has user none))
                     (λ e. after.local h has.hart e there)),

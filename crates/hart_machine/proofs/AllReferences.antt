@@ -6,20 +6,20 @@ use Rattle.std.proofs.lemmas.Bool.{cases_lt}
 use Rattle.std.proofs.lemmas.List.{get_or_past, length-append}
 use Rattle.process_model.specs.Frames.{kernel_frames, live, references_of}
 use Rattle.process_model.specs.World.{World}
-use Rattle.hart_machine.specs.Worlds.{IsWorld}
+use Rattle.hart_machine.specs.Worlds.{IsWorldButBuffers}
 use Rattle.hart_machine.specs.declared.machine.Machine.{Machine}
 use Rattle.hart_machine.proofs.CountedLists.{sum_is}
 use Rattle.hart_machine.proofs.KernelFrames.{HasKernel, kernel_has}
 use Rattle.hart_machine.proofs.NumberLists.{times, times_append}
 use Rattle.hart_machine.proofs.PlaceFrames.{HasAll, places_have, sum_kinds}
 
-module _ (m : Machine) (w : World) (is : IsWorld m w) where
+module _ (m : Machine) (w : World) (is : IsWorldButBuffers m w) where
   abbrev counts : List ℕ
   counts = m.frames.counts
 
   -- the kernel's seat tells how many frames there are
   pub sized : length counts ≡ w.frames
-  sized = sym is.rule.sizes.0 ∙ is.frames
+  sized = sym is.invariant.sizes.0 ∙ is.frames
 
   -- and it has frame 0, so that there is one
   some_frame : 0 < w.frames
@@ -27,7 +27,7 @@ module _ (m : Machine) (w : World) (is : IsWorld m w) where
     | inl some ↦ omega (arith, some, sized)
     | inr none ↦ absurd (
         let past = get_or_past counts 0 0 none in
-        let all = is.rule.counted 0 in
+        let all = is.invariant.counted 0 in
         let code = is.of_kernel.maps.holds.code in
         omega (arith, past, all, code))
   ]
@@ -36,14 +36,14 @@ module _ (m : Machine) (w : World) (is : IsWorld m w) where
   kernel = kernel_has m.kernel.scheme m.kernel.seat m.kernel.root.0 w.frames (length w.slots) is.stacks is.kernel some_frame is.of_kernel
 
   pub places : HasAll counts m.slots.items w.slots is.tables
-  places = places_have m.frames.words counts m.slots.items w.slots is.tables is.places is.rule.agrees.1
+  places = places_have m.frames.words counts m.slots.items w.slots is.tables is.places is.invariant.agrees.1
 
   -- each count, by kinds
   pub count_kinds : (f : ℕ) → times f (0 ∷ kernel.own) + times f places.code + times f places.own + times f places.pages ≡ slice_index counts f
   count_kinds f =
       let of_kernel = kernel.all f in
       let of_places = places.all f in
-      let all = is.rule.counted f in
+      let all = is.invariant.counted f in
       omega (arith, of_kernel, of_places, all)
 
   abbrev every : List ℕ

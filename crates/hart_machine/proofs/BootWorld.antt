@@ -5,11 +5,11 @@ use Rattle.std.specs.Prelude.{Contains, slice_get}
 use Rattle.std.proofs.lemmas.List.{length-replicate}
 use Rattle.std.proofs.lemmas.Option.{same_Some, slice_get-map}
 use Rattle.address_space.specs.Kernel.{IsKernelTable}
-use Rattle.frame_store.specs.Plain.{PlainStateRule}
+use Rattle.frame_store.specs.Plain.{PlainStateInvariant}
 use Rattle.frame_store.specs.Seats.{present}
 use Rattle.hart_machine.specs.Harts.{hart_of, key_of}
 use Rattle.hart_machine.specs.BufferEntries.{IsInWorld}
-use Rattle.hart_machine.specs.Worlds.{IsSlotContent, IsWorld, seats_of}
+use Rattle.hart_machine.specs.Worlds.{IsSlotContent, IsWorldButBuffers, seats_of}
 use Rattle.hart_machine.specs.declared.hart.Hart.{Hart}
 use Rattle.hart_machine.specs.declared.machine.Machine.{Machine}
 use Rattle.hart_machine.specs.declared.slot_process.SlotProcess.{SlotProcess}
@@ -61,12 +61,12 @@ few_slots c is =
     grind (arith, nat_tests, low.1)
 
 module _ (m : Machine) (c : Config) (files : List File) (ruled : m.policy ≡ c.policy) (schemed : m.kernel.scheme ≡ c.scheme) (small : c.slots ≤ MOST_SLOTS) (sized : m.kernel.seat.size ≡ c.frames) (stacks : List ℕ) (t : Tables)
-    (table : IsKernelTable m.kernel.scheme m.kernel.seat m.kernel.root.0 c.frames c.slots stacks t) (rule : PlainStateRule m.frames (m.kernel.seat ∷ []))
+    (table : IsKernelTable m.kernel.scheme m.kernel.seat m.kernel.root.0 c.frames c.slots stacks t) (rule : PlainStateInvariant m.frames (m.kernel.seat ∷ []))
     (slots : m.slots.items ≡ replicate c.slots None) (harts : map hart_of m.harts.items ≡ replicate c.harts model.idle_hart) (filed : m.files ≡ files) where
   idle_at : (h : ℕ) (x : Hart) → slice_get m.harts.items h ≡ Some x → hart_of x ≡ model.idle_hart
   idle_at h x is = hart_idle c.harts m.harts.items harts h x is
 
-  pub boots : IsWorld m (booted c files)
+  pub boots : IsWorldButBuffers m (booted c files)
   boots = record {
     tables = λ _. t;
     kernel = t;
@@ -76,7 +76,7 @@ module _ (m : Machine) (c : Config) (files : List File) (ruled : m.policy ≡ c.
     schemes = λ s p at. absurd (none_there c.slots s p at);
     few = subst (λ n. n ≤ MOST_SLOTS) (sym (length-replicate c.slots None)) small;
     frames = sized;
-    rule = subst (λ ts. PlainStateRule m.frames (m.kernel.seat ∷ seats_of ts)) (sym slots) (rw (present_none {A = SlotProcess} c.slots) rule);
+    invariant = subst (λ ts. PlainStateInvariant m.frames (m.kernel.seat ∷ seats_of ts)) (sym slots) (rw (present_none {A = SlotProcess} c.slots) rule);
     of_kernel = subst (λ n. IsKernelTable m.kernel.scheme m.kernel.seat m.kernel.root.0 c.frames n stacks t) (sym (length-replicate c.slots None)) table;
     places = λ s. subst (λ ts. IsSlotContent (slice_get ts s) (slice_get (replicate c.slots None) s) t) (sym slots) (empty_place c.slots s t);
     copies = λ i j a b f g p q x y at. absurd (none_there c.slots i p at);

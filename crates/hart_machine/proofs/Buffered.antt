@@ -34,7 +34,7 @@ use Rattle.hart_machine.specs.BufferEntries.{AreEntriesCurrent, HasNoStaleMark, 
 use Rattle.hart_machine.specs.Slots.{marks_of}
 use Rattle.hart_machine.specs.SlotProcesses.{IsSlotProcess, view_of}
 use Rattle.hart_machine.specs.WalkEntries.{entry_for, IsEntryOf}
-use Rattle.hart_machine.specs.Worlds.{HaveSameLeaves, IsSlotContent, IsWorld, KeepsTables}
+use Rattle.hart_machine.specs.Worlds.{HaveSameLeaves, IsSlotContent, IsWorldButBuffers, KeepsTables}
 use Rattle.hart_machine.specs.declared.hart.Hart.{Hart}
 use Rattle.hart_machine.specs.declared.machine.Machine.{Machine}
 use Rattle.hart_machine.specs.declared.slot_process.SlotProcess.{SlotProcess}
@@ -129,10 +129,10 @@ fence_takes x local e r marked gone left own = go (is_before_user x.phase) x.slo
   go true None gone left = never gone
   go true (Some s) gone left = if_marked s (marks_of x.stale s) gone left
 
-module _ (m n : Machine) (w : World) (s : Step) (inn : IsInWorld m w) (after : IsWorld n (with_stale_slots w.policy w (plain_step w s)).world) (ruled : n.policy ≡ m.policy)
+module _ (m n : Machine) (w : World) (s : Step) (inn : IsInWorld m w) (after : IsWorldButBuffers n (with_stale_slots w.policy w (plain_step w s)).world) (ruled : n.policy ≡ m.policy)
     (keeps : KeepsTables m n w.slots ((plain_step w s).world).slots) (reply : Reply) (told : reply ≡ (plain_step w s).reply)
     (are : BuffersAre m n (inn.world).tables (inn.world).kernel s reply) where
-  abbrev is : IsWorld m w
+  abbrev is : IsWorldButBuffers m w
   is = inn.world
 
   abbrev o : StepOutcome

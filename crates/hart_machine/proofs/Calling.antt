@@ -12,7 +12,7 @@ use Rattle.process_model.specs.declared.phase.Phase.TheVariants as phase
 use Rattle.process_model.specs.declared.reply.Refusal.TheVariants.{Impossible}
 use Rattle.hart_machine.specs.Calls.{call_while, IsInKernel, waits_as}
 use Rattle.hart_machine.specs.Harts.{hart_of}
-use Rattle.hart_machine.specs.Worlds.{IsWorld}
+use Rattle.hart_machine.specs.Worlds.{IsWorldButBuffers}
 use Rattle.hart_machine.specs.declared.machine.Machine.{Machine}
 use Rattle.hart_machine.proofs.HartSteps.{HasHart, impossible, its_process, process_at, runs}
 
@@ -41,7 +41,7 @@ not_differing true false e = absurd (cc)
 not_differing false true e = absurd (cc)
 not_differing false false e = refl
 
-module _ (m : Machine) (w : World) (is : IsWorld m w) (h : ℕ) (p : Phase) (has : HasHart m w h p) (waits : Bool) where
+module _ (m : Machine) (w : World) (is : IsWorldButBuffers m w) (h : ℕ) (p : Phase) (has : HasHart m w h p) (waits : Bool) where
   pub not_in_kernel : (run : model.Hart → ℕ → Process → StepOutcome) → (model.is_kernel p ≡ false) ⊎ (not (beq (awaits_service w (hart_of has.hart)) waits) ≡ true)
       → call_while w h waits run ≡ refuses w (Impossible p)
   not_in_kernel run fails =
@@ -69,7 +69,7 @@ module _ (m : Machine) (w : World) (is : IsWorld m w) (h : ℕ) (p : Phase) (has
         unserved = ap (λ o. is_unserved (flat o)) (sym q.1) ∙ ap (λ o. is_unserved (process_of_slot w o)) (sym on) ∙ awaits;
       }
 
-module _ (m : Machine) (w : World) (is : IsWorld m w) (h s : ℕ) (waits : Bool) (k : IsInKernel m w h s waits) where
+module _ (m : Machine) (w : World) (is : IsWorldButBuffers m w) (h s : ℕ) (waits : Bool) (k : IsInKernel m w h s waits) where
   pub in_model : slice_get w.harts h ≡ Some (hart_of k.hart)
   in_model = ap (λ hs. slice_get hs h) (sym is.harts) ∙ slice_get-map hart_of m.harts.items h ∙ ap (option_map hart_of) k.there
 

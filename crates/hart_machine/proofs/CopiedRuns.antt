@@ -24,8 +24,8 @@ use Rattle.user_copy.specs.FirstPageBytes.{is_near}
 use Rattle.user_copy.specs.Runs.{CopiesIn, CopiesOut, IsRead, near, runs, runs_of, some_bytes, some_run}
 use Rattle.user_copy.specs.declared.short.Stop.TheVariants.{Denied, Unpromised}
 use Rattle.hart_machine.specs.Calls.{IsCaller}
-use Rattle.hart_machine.specs.CopyEffect.{plain_words}
-use Rattle.hart_machine.specs.Worlds.{IsWorld}
+use Rattle.hart_machine.specs.CopyEffect.{plain_store}
+use Rattle.hart_machine.specs.Worlds.{IsWorldButBuffers}
 use Rattle.hart_machine.specs.declared.machine.Machine.{Machine}
 use Rattle.hart_machine.proofs.CopiedWorlds.{IsCopied, IsUnderWay, puts, reaches, stops, slot_process}
 
@@ -147,24 +147,24 @@ option_some (Some q) r is = cc
 
 -- files in memory promise all that is asked
 
-pub never_in : (rs : List (ℕ × ℕ)) (a c : Moment View PlainState (List File)) (done bytes : List ℕ) (e : Refusal) → CopiesIn plain_words rs a c done bytes (Some (Unpromised e)) → ⊥
+pub never_in : (rs : List (ℕ × ℕ)) (a c : Moment View PlainState (List File)) (done bytes : List ℕ) (e : Refusal) → CopiesIn plain_store rs a c done bytes (Some (Unpromised e)) → ⊥
 never_in [] a c done bytes e (at, same, none) = cc
 never_in (r ∷ rs) a c done bytes e (b, Ok tt, reached, (d, got, read, rest)) = never_in rs d c (done ++ got) bytes e rest
 never_in (r ∷ rs) a c done bytes e (b, Err (Denied rule), reached, (at, same, told)) = cc
 never_in (r ∷ rs) a c done bytes e (b, Err (Unpromised x), reached, stopped) = (reached.unpromised x refl).1
 
-pub never_out : (rs : List (ℕ × List ℕ)) (a c : Moment View PlainState (List File)) (done count : ℕ) (e : Refusal) → CopiesOut plain_words rs a c done count (Some (Unpromised e)) → ⊥
+pub never_out : (rs : List (ℕ × List ℕ)) (a c : Moment View PlainState (List File)) (done count : ℕ) (e : Refusal) → CopiesOut plain_store rs a c done count (Some (Unpromised e)) → ⊥
 never_out [] a c done count e (at, same, none) = cc
 never_out (r ∷ rs) a c done count e (b, Ok tt, reached, (d, put, rest)) = never_out rs d c (done + length r.1) count e rest
 never_out (r ∷ rs) a c done count e (b, Err (Denied rule), reached, (at, same, told)) = cc
 never_out (r ∷ rs) a c done count e (b, Err (Unpromised x), reached, stopped) = (reached.unpromised x refl).1
 
-module _ (m : Machine) (w : World) (is : IsWorld m w) (h s : ℕ) (k : IsCaller m w h s) where
+module _ (m : Machine) (w : World) (is : IsWorldButBuffers m w) (h s : ℕ) (k : IsCaller m w h s) where
   abbrev Spot : Type 0
   Spot = Moment View PlainState (List File)
 
   -- reading changes nothing
-  same_spot : (a d : Spot) (address n : ℕ) (got : List ℕ) → IsRead plain_words a d address n got → a ≡ d
+  same_spot : (a d : Spot) (address n : ℕ) (got : List ℕ) → IsRead plain_store a d address n got → a ≡ d
   same_spot a d address n got read = λ i. record {
     space = record { seat = (sym read.view) i; root = (sym read.root) i; trapframe = (sym read.trapframe) i; layout = (sym read.layout) i };
     store = (sym read.store) i;
@@ -172,7 +172,7 @@ module _ (m : Machine) (w : World) (is : IsWorld m w) (h s : ℕ) (k : IsCaller 
   }
 
   pub runs_end_in : (rs : List (ℕ × ℕ)) → AreRuns rs → (a : Spot) (g : Progress) → IsUnderWay m w is h s k a g → (c : Spot) (done bytes : List ℕ) (stop : Option Rule)
-      → CopiesIn plain_words rs a c done bytes (option_map Denied stop)
+      → CopiesIn plain_store rs a c done bytes (option_map Denied stop)
       → (j : Progress) × (runs_in (environment_of w s) (so_far g done None) rs ≡ so_far j bytes stop) × IsCopied m w is h s k c j
   runs_end_in [] are a g u c done bytes stop (at, same, none) =
       let never = option_none stop none in
@@ -202,7 +202,7 @@ module _ (m : Machine) (w : World) (is : IsWorld m w) (h s : ℕ) (k : IsCaller 
   runs_end_in (r ∷ rs) are a g u c done bytes stop (b, Err (Unpromised refusal), e, stopped) = absurd ((e.unpromised refusal refl).1)
 
   pub runs_end_out : (rs : List (ℕ × List ℕ)) → AreGiven rs → (a : Spot) (g : Progress) → IsUnderWay m w is h s k a g → (c : Spot) (done : List ℕ) (count : ℕ) (stop : Option Rule)
-      → CopiesOut plain_words rs a c (length done) count (option_map Denied stop)
+      → CopiesOut plain_store rs a c (length done) count (option_map Denied stop)
       → (j : Progress) × (sent : List ℕ) × (runs_out (environment_of w s) (so_far g done None) rs ≡ so_far j sent stop) × (length sent ≡ count) × IsCopied m w is h s k c j
   runs_end_out [] are a g u c done count stop (at, same, none) =
       let never = option_none stop none in
@@ -216,7 +216,7 @@ module _ (m : Machine) (w : World) (is : IsWorld m w) (h s : ℕ) (k : IsCaller 
       let shown = own.agrees.stands.shows.settled (page_of r.0) page.0 page.1 in
       let run = run_out (environment_of w s) g j done r.0 page.0 r.1 some inside to.1 page.1 (shown.bytes).length in
       let still = puts m w is h s k b j to.2 d r.0 r.1 page.0 page.1 serves.resident (granted_again (environment_of w s) Store g j r.0 r.0 to.1 refl) put in
-      let last = runs_end_out rs are d _ still c (done ++ r.1) count stop (subst (λ (n : ℕ). CopiesOut plain_words rs d c n count (option_map Denied stop)) (sym (length-append done r.1)) rest) in
+      let last = runs_end_out rs are d _ still c (done ++ r.1) count stop (subst (λ (n : ℕ). CopiesOut plain_store rs d c n count (option_map Denied stop)) (sym (length-append done r.1)) rest) in
       (last.0, last.1, ap (λ (x : Copied). runs_out (environment_of w s) x rs) run ∙ last.2, last.3, last.4)
   runs_end_out (r ∷ rs) (some, inside, are) a g u c done count stop (b, Err (Denied rule), e, (at, same, told)) =
       let is_stop = option_some stop rule told in

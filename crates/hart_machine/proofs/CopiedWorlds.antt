@@ -38,10 +38,10 @@ use Rattle.user_copy.specs.ReachedPage.{Reaches}
 use Rattle.user_copy.specs.Runs.{Puts}
 use Rattle.user_copy.specs.declared.short.Stop.TheVariants.{Denied}
 use Rattle.hart_machine.specs.Calls.{Follows, IsCaller}
-use Rattle.hart_machine.specs.CopyEffect.{plain_words}
+use Rattle.hart_machine.specs.CopyEffect.{plain_store}
 use Rattle.hart_machine.specs.ServeEffect.{HasServed, MustEnd, rule_of, WhenShared}
 use Rattle.hart_machine.specs.SlotProcesses.{body_in, HasPageBytes, IsSlotProcess}
-use Rattle.hart_machine.specs.Worlds.{HaveSameLeaves, IsWorld}
+use Rattle.hart_machine.specs.Worlds.{HaveSameLeaves, IsWorldButBuffers}
 use Rattle.hart_machine.specs.declared.machine.Machine.{Machine}
 use Rattle.hart_machine.specs.declared.slot_process.SlotProcess.{SlotProcess}
 use Rattle.hart_machine.proofs.AccessingPages.{has_copies}
@@ -54,7 +54,7 @@ use Rattle.hart_machine.proofs.ServedProcesses.{only_reads}
 use Rattle.hart_machine.proofs.ServedWorlds.{is_reached, reached_follows, reaches_not, unreached}
 
 -- whose list of places is the same
-same_slots : (m n : Machine) (w : World) → m.frames ≡ n.frames → m.kernel ≡ n.kernel → m.slots.items ≡ n.slots.items → m.files ≡ n.files → m.harts ≡ n.harts → m.policy ≡ n.policy → IsWorld m w → IsWorld n w
+same_slots : (m n : Machine) (w : World) → m.frames ≡ n.frames → m.kernel ≡ n.kernel → m.slots.items ≡ n.slots.items → m.files ≡ n.files → m.harts ≡ n.harts → m.policy ≡ n.policy → IsWorldButBuffers m w → IsWorldButBuffers n w
 same_slots m n w frames kernel slots files harts ruled is = record {
   tables = is.tables;
   kernel = is.kernel;
@@ -64,7 +64,7 @@ same_slots m n w frames kernel slots files harts ruled is = record {
   schemes = is.schemes;
   few = is.few;
   frames = rw (← kernel) is.frames;
-  rule = rw (← frames, ← kernel, ← slots) is.rule;
+  invariant = rw (← frames, ← kernel, ← slots) is.invariant;
   of_kernel = rw (← kernel) is.of_kernel;
   places = rw (← slots) is.places;
   copies = is.copies;
@@ -102,7 +102,7 @@ module _ (a : Environment) (kind : Access) (g h : Progress) where
 abbrev pub request : Access → ℕ → Pending
 request a address = record { access = a; address = address; width = 1; served = false }
 
-module _ (m : Machine) (w : World) (is : IsWorld m w) (h s : ℕ) (k : IsCaller m w h s) where
+module _ (m : Machine) (w : World) (is : IsWorldButBuffers m w) (h s : ℕ) (k : IsCaller m w h s) where
   abbrev pub Spot : Type 0
   Spot = Moment View PlainState (List File)
 
@@ -118,18 +118,18 @@ module _ (m : Machine) (w : World) (is : IsWorld m w) (h s : ℕ) (k : IsCaller 
 
   -- the machine is in the world of some moment of a copy
   pub record IsCopied (a : Spot) (g : Progress) : Type 0 where
-    pub world : IsWorld (machine_at a) (with_progress w s g)
+    pub world : IsWorldButBuffers (machine_at a) (with_progress w s g)
     pub old : AreOld (world.tables s) g.process
 
   -- a copy is under way: it has come so far, and the machine is in the world of that moment
   pub record IsUnderWay (a : Spot) (g : Progress) : Type 0 where
-    pub world : IsWorld (machine_at a) (with_progress w s g)
+    pub world : IsWorldButBuffers (machine_at a) (with_progress w s g)
     pub left : a.store.free + g.taken ≡ m.frames.free
     pub quiet : g.process.pending ≡ None
     pub order : w.counter ≤ g.fresh
     pub old : AreOld (world.tables s) g.process
 
-  module _ (a : Spot) (g : Progress) (v : IsWorld (machine_at a) (with_progress w s g)) where
+  module _ (a : Spot) (g : Progress) (v : IsWorldButBuffers (machine_at a) (with_progress w s g)) where
     -- the process has the tables that the world tells
     pub tenant_in : IsSlotProcess (tenant_at a) (v.tables s) g.process
     tenant_in =
@@ -202,7 +202,7 @@ module _ (m : Machine) (w : World) (is : IsWorld m w) (h s : ℕ) (k : IsCaller 
           (λ page need. lt_shift (free there) need g.taken ∙ ap (λ n. nat_lt n (g.taken + need)) (sym frees)) g.process g.fresh kind address (copy_rule g.process.scheme (regions g.process) kind address)
           ∙ ap (shifted g.taken) (ap (resident_at_address (environment_of there s) kind address (initial_progress there g.process)) (sym (no_alignment g.process.scheme (regions g.process) kind address)) ∙ e)
 
-      module _ (e : Reaches plain_words a b kind address (Ok tt)) where
+      module _ (e : Reaches plain_store a b kind address (Ok tt)) where
         allowed : rule_of g.process waiting ≡ None
         allowed = no_alignment g.process.scheme (regions g.process) kind address ∙ by (copy_rule g.process.scheme (regions g.process) kind address) (e.ended (u.world.tables s) g.process slot_process.agrees)
           where
@@ -244,7 +244,7 @@ module _ (m : Machine) (w : World) (is : IsWorld m w) (h s : ℕ) (k : IsCaller 
             let quiet : i.process.pending ≡ None = (reached_serves (environment_of w s) kind g j address reached_j).pending ∙ u.quiet in
             let gone = made.3 in
             let before = u.left in
-            let world : IsWorld (machine_at b) (with_progress w s j) = same_slots between (machine_at b) (with_progress w s j)
+            let world : IsWorldButBuffers (machine_at b) (with_progress w s j) = same_slots between (machine_at b) (with_progress w s j)
             refl refl (set-set m.slots.items s (Some (tenant_at a)) (Some (tenant_at b))) (sym files_stay) refl refl (same_world i quiet made.2) in
             let grown = reached_grows (environment_of w s) kind g j address reached_j in
             let began = u.order in
@@ -262,14 +262,14 @@ module _ (m : Machine) (w : World) (is : IsWorld m w) (h s : ℕ) (k : IsCaller 
               },
             )
           where
-            same_world : (i : Progress) → i.process.pending ≡ None → IsWorld between (with_progress there s (record i { process = record i.process { pending = None } }))
-                → IsWorld between (with_progress w s i)
+            same_world : (i : Progress) → i.process.pending ≡ None → IsWorldButBuffers between (with_progress there s (record i { process = record i.process { pending = None } }))
+                → IsWorldButBuffers between (with_progress w s i)
             same_world i quiet it =
-                subst (λ (q : Process). IsWorld between (with_progress w s (record i { process = q }))) (ap (λ (o : Option Pending). let q : Process = record i.process { pending = o } in q) (sym quiet))
-                (subst (λ (ps : List (Option Process)). let v : World = record w { slots = ps; counter = i.fresh } in IsWorld between v)
+                subst (λ (q : Process). IsWorldButBuffers between (with_progress w s (record i { process = q }))) (ap (λ (o : Option Pending). let q : Process = record i.process { pending = o } in q) (sym quiet))
+                (subst (λ (ps : List (Option Process)). let v : World = record w { slots = ps; counter = i.fresh } in IsWorldButBuffers between v)
                 (set-set w.slots s (Some g.process) (let q : Process = record i.process { pending = None } in Some q)) it)
 
-      module _ (rule : Rule) (e : Reaches plain_words a b kind address (Err (Denied rule))) where
+      module _ (rule : Rule) (e : Reaches plain_store a b kind address (Err (Denied rule))) where
         must : MustEnd (tenant_at b) (u.world.tables s) g.process waiting a.store rule
         must = record {
           slot_process = record {
@@ -303,7 +303,7 @@ module _ (m : Machine) (w : World) (is : IsWorld m w) (h s : ℕ) (k : IsCaller 
         stops =
             let not = reaches_not (machine_at a) there u.world h s false caller (tenant_at a) (tenant_at b) placed b.store e.keeps waiting rule must in
             let still = unreached (machine_at a) there u.world h s false caller (tenant_at a) (tenant_at b) placed b.store e.keeps waiting rule must in
-            let world : IsWorld (machine_at b) there = same_slots between (machine_at b) there
+            let world : IsWorldButBuffers (machine_at b) there = same_slots between (machine_at b) there
             refl refl (set-set m.slots.items s (Some (tenant_at a)) (Some (tenant_at b))) (sym files_stop) refl refl still in
             (shift (Err rule) not, record { world = world; old = old_in b g world (u.world.tables s) g.process must.slot_process u.old })
           where
@@ -313,7 +313,7 @@ module _ (m : Machine) (w : World) (is : IsWorld m w) (h s : ℕ) (k : IsCaller 
     -- bytes are put into a page that was reached for a store
 
     module _ (d : Spot) (address : ℕ) (given : List ℕ) (x : Page) (settled : get g.process.settled (page_of address) ≡ Some x) (resident : is_resident g.process access.Store (page_of address) ≡ true)
-        (allowed : copy_rule g.process.scheme (regions g.process) access.Store address ≡ None) (put : Puts plain_words a d address given) where
+        (allowed : copy_rule g.process.scheme (regions g.process) access.Store address ≡ None) (put : Puts plain_store a d address given) where
       abbrev after : Process
       after = with_page g.process (page_of address) (stored x (address % 4096) given)
 
@@ -354,9 +354,9 @@ module _ (m : Machine) (w : World) (is : IsWorld m w) (h s : ℕ) (k : IsCaller 
           let changed = bytes_change (machine_at a) there u.world s (tenant_at a) (tenant_at d) g.process after placed at slot_process put_tenant d.store put.keeps copies refl in
           let free = put.free tt in
           let before = u.left in
-          let world : IsWorld (machine_at d) (with_progress w s (record g { process = after })) =
+          let world : IsWorldButBuffers (machine_at d) (with_progress w s (record g { process = after })) =
           same_slots put_between (machine_at d) (with_progress w s (record g { process = after })) refl refl (set-set m.slots.items s (Some (tenant_at a)) (Some (tenant_at d))) (sym put.files) refl refl
-          (subst (λ (ps : List (Option Process)). let v : World = record w { slots = ps; counter = g.fresh } in IsWorld put_between v) (set-set w.slots s (Some g.process) (Some after)) changed) in
+          (subst (λ (ps : List (Option Process)). let v : World = record w { slots = ps; counter = g.fresh } in IsWorldButBuffers put_between v) (set-set w.slots s (Some g.process) (Some after)) changed) in
           let old_then : AreOld (u.world.tables s) after = λ n f z there below on.
           let one = copies n z there in let copy = one.2 in u.old n f one.0 one.1 (omega (arith, copy, below)) on in
           record {

@@ -32,7 +32,7 @@ use Rattle.hart_machine.specs.Calls.{IsCaller}
 use Rattle.hart_machine.specs.CopyEffect.{CopiesFrom, CopiesTo, moment_of, sent_reply}
 use Rattle.hart_machine.specs.Marks.{AreMarked, slot_if, TellsResidence}
 use Rattle.hart_machine.specs.SlotProcesses.{IsSlotProcess}
-use Rattle.hart_machine.specs.Worlds.{IsWorld, KeepsTables, IsModelOutcome}
+use Rattle.hart_machine.specs.Worlds.{IsWorldButBuffers, KeepsTables, IsModelOutcome}
 use Rattle.hart_machine.specs.declared.machine.Machine.{Machine}
 use Rattle.hart_machine.specs.declared.slot_process.Pending.{Pending}
 use Rattle.hart_machine.specs.declared.slot_process.SlotProcess.{SlotProcess}
@@ -54,7 +54,7 @@ sent_is sent (Some rule) = refl
 tells_quiet : (flag : Bool) (p q : Process) (kind : Access) (address : ℕ) → TellsResidence flag p q kind address → TellsResidence flag (without_pending p) q kind address
 tells_quiet flag p q kind address tells = record { some = tells.some; none = tells.none }
 
-module _ (m : Machine) (w : World) (is : IsWorld m w) (h s : ℕ) (k : IsCaller m w h s) (x y : SlotProcess) (place : slice_get m.slots.items s ≡ Some (Some x)) (b : PlainState) (fs : List File) where
+module _ (m : Machine) (w : World) (is : IsWorldButBuffers m w) (h s : ℕ) (k : IsCaller m w h s) (x y : SlotProcess) (place : slice_get m.slots.items s ≡ Some (Some x)) (b : PlainState) (fs : List File) where
   abbrev spot : Moment View PlainState (List File)
   spot = moment_of x m.frames m.files
 
@@ -69,7 +69,7 @@ module _ (m : Machine) (w : World) (is : IsWorld m w) (h s : ℕ) (k : IsCaller 
         pending = refl;
         wide = tt;
       } in
-      let world : IsWorld (machine_at m w is h s k spot) (with_progress w s (initial_progress w (without_pending k.process))) =
+      let world : IsWorldButBuffers (machine_at m w is h s k spot) (with_progress w s (initial_progress w (without_pending k.process))) =
       bytes_change m w is s x z k.process (without_pending k.process) place k.in_slot own quiet m.frames (λ others r. r) (λ n a there. (a, there, refl)) refl in
       record {
         world = world;
@@ -82,9 +82,9 @@ module _ (m : Machine) (w : World) (is : IsWorld m w) (h s : ℕ) (k : IsCaller 
   abbrev after : Machine
   after = record m { frames = b; slots = with_item m.slots s (Some y); files = fs }
 
-  quiet_after : (v : World) → y.pending ≡ None → IsWorld (record m { frames = b; slots = with_item m.slots s (let z : SlotProcess = record { space = y.space; pending = None } in Some z); files = fs }) v → IsWorld after v
+  quiet_after : (v : World) → y.pending ≡ None → IsWorldButBuffers (record m { frames = b; slots = with_item m.slots s (let z : SlotProcess = record { space = y.space; pending = None } in Some z); files = fs }) v → IsWorldButBuffers after v
   quiet_after v quiet it =
-      subst (λ (o : Option Pending). IsWorld (record m { frames = b; slots = with_item m.slots s (let z : SlotProcess = record { space = y.space; pending = o } in Some z); files = fs }) v) (sym quiet) it
+      subst (λ (o : Option Pending). IsWorldButBuffers (record m { frames = b; slots = with_item m.slots s (let z : SlotProcess = record { space = y.space; pending = o } in Some z); files = fs }) v) (sym quiet) it
 
   own : IsSlotProcess x (is.tables s) k.process
   own = tenant_is m w is s x k.process place k.in_slot
@@ -169,7 +169,7 @@ module _ (m : Machine) (w : World) (is : IsWorld m w) (h s : ℕ) (k : IsCaller 
 
 -- the step is the copy
 
-module _ (m : Machine) (w : World) (is : IsWorld m w) (h : ℕ) where
+module _ (m : Machine) (w : World) (is : IsWorldButBuffers m w) (h : ℕ) where
   -- a copy that is too long is refused
   pub long_in : (address n : ℕ) → LONGEST_COPY < n → plain_step w (step.CopyIn h address n) ≡ refuses w BadArgument
   long_in address n long = improper w h _ _ _ _ (lt-leb n LONGEST_COPY long)

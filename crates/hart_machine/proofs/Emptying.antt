@@ -8,7 +8,7 @@ use Rattle.std.proofs.lemmas.List.{length-set}
 use Rattle.std.proofs.lemmas.Option.{same_Some, slice_get_within}
 use Rattle.address_space.specs.Kernel.{IsKernelTable}
 use Rattle.frame_store.specs.Laws.{KeepsSeats}
-use Rattle.frame_store.specs.Plain.{PlainState, PlainStateRule}
+use Rattle.frame_store.specs.Plain.{PlainState, PlainStateInvariant}
 use Rattle.frame_store.specs.Seats.{place_out, place_set_other, place_set_same}
 use Rattle.frame_store.specs.View.{View}
 use Rattle.process_model.specs.Files.{File}
@@ -23,7 +23,7 @@ use Rattle.hart_machine.specs.Calls.{IsInKernel}
 use Rattle.hart_machine.specs.Harts.{hart_of}
 use Rattle.process_model.specs.declared.limits.TheConstants.{MOST_SLOTS}
 use Rattle.hart_machine.specs.SlotProcesses.{view_of}
-use Rattle.hart_machine.specs.Worlds.{IsSlotContent, IsWorld, seats_of}
+use Rattle.hart_machine.specs.Worlds.{IsSlotContent, IsWorldButBuffers, seats_of}
 use Rattle.hart_machine.specs.declared.hart.Hart.{Hart}
 use Rattle.hart_machine.specs.declared.machine.Machine.{Machine}
 use Rattle.hart_machine.specs.declared.slot_process.SlotProcess.{SlotProcess}
@@ -35,8 +35,8 @@ use Rattle.hart_machine.proofs.StartedSeats.{second_steps}
 abbrev pub idled : Hart → Hart
 idled x = record x { phase = phase.Idle; slot = None }
 
-module _ (m : Machine) (w : World) (is : IsWorld m w) (h s : ℕ) (waits : Bool) (k : IsInKernel m w h s waits) where
-  pub idles : IsWorld (record m { harts = with_item m.harts h (idled k.hart) }) (with_hart w h (hart_of (idled k.hart)))
+module _ (m : Machine) (w : World) (is : IsWorldButBuffers m w) (h s : ℕ) (waits : Bool) (k : IsInKernel m w h s waits) where
+  pub idles : IsWorldButBuffers (record m { harts = with_item m.harts h (idled k.hart) }) (with_hart w h (hart_of (idled k.hart)))
   idles = hart_changes m w is h k.hart (idled k.hart) k.there (λ r on. absurd (cc)) (λ r on j z at also. absurd (cc)) (λ none. refl) (λ e. is.local h k.hart e k.there)
 
   -- then no hart has the slot
@@ -49,7 +49,7 @@ module _ (m : Machine) (w : World) (is : IsWorld m w) (h s : ℕ) (waits : Bool)
   ]
 
 -- a process on no hart goes
-module _ (m : Machine) (w : World) (is : IsWorld m w) (s : ℕ) (x : SlotProcess) (p : Process) (place : slice_get m.slots.items s ≡ Some (Some x)) (at : slice_get w.slots s ≡ Some (Some p))
+module _ (m : Machine) (w : World) (is : IsWorldButBuffers m w) (s : ℕ) (x : SlotProcess) (p : Process) (place : slice_get m.slots.items s ≡ Some (Some x)) (at : slice_get w.slots s ≡ Some (Some p))
     (free : (h : ℕ) (z : Hart) → slice_get m.harts.items h ≡ Some z → z.slot ≡ Some s → ⊥) where
   -- a process that is left was there, in another slot
   left : (i : ℕ) (q : Process) → slice_get (slice_set w.slots s None) i ≡ Some (Some q) → slice_get w.slots i ≡ Some (Some q)
@@ -72,8 +72,8 @@ module _ (m : Machine) (w : World) (is : IsWorld m w) (s : ℕ) (x : SlotProcess
       let apart : r ≡ s → ⊥ = λ same. free h z on (slot ∙ ap Some same) in
       (old.0, place_set_other m.slots.items s r None apart ∙ old.1)
 
-  pub empties : (n : Machine) → n.policy ≡ m.policy → n.kernel.scheme ≡ m.kernel.scheme → n.kernel.seat.size ≡ m.kernel.seat.size → n.slots.items ≡ slice_set m.slots.items s None → n.harts ≡ m.harts → PlainStateRule n.frames (n.kernel.seat ∷ seats_of (slice_set m.slots.items s None))
-      → IsKernelTable n.kernel.scheme n.kernel.seat n.kernel.root.0 w.frames (length w.slots) is.stacks is.kernel → IsWorld n (record w { slots = slice_set w.slots s None; files = n.files })
+  pub empties : (n : Machine) → n.policy ≡ m.policy → n.kernel.scheme ≡ m.kernel.scheme → n.kernel.seat.size ≡ m.kernel.seat.size → n.slots.items ≡ slice_set m.slots.items s None → n.harts ≡ m.harts → PlainStateInvariant n.frames (n.kernel.seat ∷ seats_of (slice_set m.slots.items s None))
+      → IsKernelTable n.kernel.scheme n.kernel.seat n.kernel.root.0 w.frames (length w.slots) is.stacks is.kernel → IsWorldButBuffers n (record w { slots = slice_set w.slots s None; files = n.files })
   empties n ruled schemed sized slots harts rule table = record {
     tables = is.tables;
     kernel = is.kernel;
@@ -83,7 +83,7 @@ module _ (m : Machine) (w : World) (is : IsWorld m w) (s : ℕ) (x : SlotProcess
     schemes = λ i o at. is.schemes i o (left i o at);
     few = subst (λ i. i ≤ MOST_SLOTS) (sym (length-set w.slots s None)) is.few;
     frames = sized ∙ is.frames;
-    rule = rw slots rule;
+    invariant = rw slots rule;
     of_kernel = subst (λ i. IsKernelTable n.kernel.scheme n.kernel.seat n.kernel.root.0 w.frames i is.stacks is.kernel) (sym (length-set w.slots s None)) table;
     places = rw slots places;
     copies = λ i j l r f g o q a c at_i at_j. is.copies i j l r f g o q a c (left i o at_i) (left j q at_j);
@@ -97,18 +97,18 @@ module _ (m : Machine) (w : World) (is : IsWorld m w) (s : ℕ) (x : SlotProcess
   }
 
 -- the seats, when the process of a slot has ended with a seat that holds nothing
-pub seat_left : (b c : PlainState) (k : View) (places : List (Option SlotProcess)) (s : ℕ) (x : SlotProcess) (v : View) → slice_get places s ≡ Some (Some x) → KeepsSeats PlainStateRule b (view_of x) c v → PlainStateRule b (k ∷ seats_of places)
-    → PlainStateRule c (k ∷ v ∷ seats_of (slice_set places s None))
+pub seat_left : (b c : PlainState) (k : View) (places : List (Option SlotProcess)) (s : ℕ) (x : SlotProcess) (v : View) → slice_get places s ≡ Some (Some x) → KeepsSeats PlainStateInvariant b (view_of x) c v → PlainStateInvariant b (k ∷ seats_of places)
+    → PlainStateInvariant c (k ∷ v ∷ seats_of (slice_set places s None))
 seat_left b c k places s x v at keeps rule = second_steps b c k (view_of x) v (seats_of (slice_set places s None)) keeps (place_out (Holds b k) places s (holds_front b k) x at rule)
 
-module _ (m : Machine) (w : World) (is : IsWorld m w) (h s : ℕ) (waits : Bool) (k : IsInKernel m w h s waits) where
+module _ (m : Machine) (w : World) (is : IsWorldButBuffers m w) (h s : ℕ) (waits : Bool) (k : IsInKernel m w h s waits) where
   -- the process with which a hart is in the kernel ends
   pub ends : (x : SlotProcess) → slice_get m.slots.items s ≡ Some (Some x) → (n : Machine) → n.policy ≡ m.policy → n.kernel.scheme ≡ m.kernel.scheme → n.kernel.seat.size ≡ m.kernel.seat.size → n.slots.items ≡ slice_set m.slots.items s None
-      → n.harts ≡ with_item m.harts h (idled k.hart) → n.files ≡ all_written_back m.files k.process → PlainStateRule n.frames (n.kernel.seat ∷ seats_of (slice_set m.slots.items s None))
+      → n.harts ≡ with_item m.harts h (idled k.hart) → n.files ≡ all_written_back m.files k.process → PlainStateInvariant n.frames (n.kernel.seat ∷ seats_of (slice_set m.slots.items s None))
       → ((frames slots : ℕ) (stacks : List ℕ) (t : Tables) → IsKernelTable m.kernel.scheme m.kernel.seat m.kernel.root.0 frames slots stacks t → IsKernelTable n.kernel.scheme n.kernel.seat n.kernel.root.0 frames slots stacks t)
-      → (reply : Reply) → IsWorld n (ended w h (hart_of k.hart) s k.process reply).world
+      → (reply : Reply) → IsWorldButBuffers n (ended w h (hart_of k.hart) s k.process reply).world
   ends x place n ruled schemed sized slots harts files rule table reply =
       let idle : Machine = record m { harts = with_item m.harts h (idled k.hart) } in
       let world = idles m w is h s waits k in
       let after = empties idle (with_hart w h (hart_of (idled k.hart))) world s x k.process place k.in_slot (on_none m w is h s waits k) n ruled schemed sized slots harts rule (table _ _ _ _ world.of_kernel) in
-      subst (λ (fs : List File). IsWorld n (record (with_hart w h (hart_of (idled k.hart))) { slots = slice_set w.slots s None; files = fs })) (files ∙ ap (λ (fs : List File). all_written_back fs k.process) is.files) after
+      subst (λ (fs : List File). IsWorldButBuffers n (record (with_hart w h (hart_of (idled k.hart))) { slots = slice_set w.slots s None; files = fs })) (files ∙ ap (λ (fs : List File). all_written_back fs k.process) is.files) after

@@ -14,7 +14,7 @@ use Rattle.process_model.specs.declared.reply.ScalarReply.TheVariants.{Done, Ref
 use Rattle.process_model.specs.declared.reply.Reply.TheVariants.{Scalar}
 use Rattle.process_model.specs.declared.step.Step.TheVariants as step
 use Rattle.hart_machine.specs.Harts.{hart_of, key_of}
-use Rattle.hart_machine.specs.Worlds.{IsWorld, IsModelOutcome}
+use Rattle.hart_machine.specs.Worlds.{IsWorldButBuffers, IsModelOutcome}
 use Rattle.hart_machine.specs.declared.hart.Hart.{Hart}
 use Rattle.hart_machine.specs.declared.machine.Machine.{Machine}
 use Rattle.hart_machine.proofs.HartSteps.{has_hart, hart_changes, hart_read, HasHart, makes, no_hart, refused, runs, without_entry, without_hart}
@@ -31,7 +31,7 @@ module _ {A : Type 0} where
   map-remove : {B : Type 0} (f : A → B) (xs : List A) (n : ℕ) → map f (remove xs n) ≡ remove (map f xs) n
   map-remove f xs n = map-append f (take n xs) (drop (suc n) xs) ∙ ap (λ ys. ys ++ map f (drop (suc n) xs)) (sym (take-map f n xs)) ∙ ap (λ ys. take n (map f xs) ++ ys) (sym (drop-map f (suc n) xs))
 
-module _ (m : Machine) (w : World) (is : IsWorld m w) (h : ℕ) where
+module _ (m : Machine) (w : World) (is : IsWorldButBuffers m w) (h : ℕ) where
   pub no_hart_beyond : vec_len m.harts ≤ h → slice_get w.harts h ≡ None
   no_hart_beyond beyond = no_hart m w is h (ap (option_map (λ x. x.phase)) (sym (slice_get_past m.harts.items h (subst (λ k. k ≤ h) m.harts.ok.0 beyond))))
 
@@ -39,7 +39,7 @@ module _ (m : Machine) (w : World) (is : IsWorld m w) (h : ℕ) where
   pub hart_within : h < vec_len m.harts → (x : Hart) → x ≡ get_or m.harts.items h x → HasHart m w h x.phase
   hart_within within x read = has_hart m w is h x.phase (ap (option_map (λ x. x.phase)) (sym (slice_get_read m.harts.items (vec_len m.harts) h x m.harts.ok.0 within read)))
 
-module _ (m : Machine) (w : World) (is : IsWorld m w) (h n : ℕ) where
+module _ (m : Machine) (w : World) (is : IsWorldButBuffers m w) (h n : ℕ) where
   pub evicts_nowhere : vec_len m.harts ≤ h → IsModelOutcome m (Scalar (Refused BadArgument)) (plain_step w (step.Evict h n))
   evicts_nowhere beyond = refused m w is BadArgument _ (without_hart w h true _ _ _ (no_hart_beyond m w is h beyond))
 
@@ -61,6 +61,6 @@ module _ (m : Machine) (w : World) (is : IsWorld m w) (h n : ℕ) where
     pub evicts_nothing : (n < length x.buffer → ⊥) → (y : Hart) → y ≡ x → IsModelOutcome (record m { harts = with_item m.harts h y }) (Scalar (Refused NoEntry)) (plain_step w (step.Evict h n))
     evicts_nothing beyond y same =
         subst (λ (z : Hart). IsModelOutcome (record m { harts = with_item m.harts h z }) (Scalar (Refused NoEntry)) (plain_step w (step.Evict h n))) (sym (same ∙ is_hart))
-        (refused _ w (subst (λ (v : World). IsWorld (record m { harts = with_item m.harts h has.hart }) v) (ap (λ hs. record w { harts = hs }) (place_set_back w.harts h (hart_of has.hart) has.in_model))
+        (refused _ w (subst (λ (v : World). IsWorldButBuffers (record m { harts = with_item m.harts h has.hart }) v) (ap (λ hs. record w { harts = hs }) (place_set_back w.harts h (hart_of has.hart) has.in_model))
         (hart_changes m w is h has.hart has.hart has.there (λ s on. is.hosted h s has.hart has.there on) (λ s on k z at also. is.alone s k h z has.hart at has.there also on) (λ none. is.idle h has.hart has.there none) (λ e. is.local h has.hart e has.there))) NoEntry _
         (without_entry w h true always (λ z. nat_lt n (length z.keys)) _ (hart_of has.hart) has.in_model refl refl (keys_are ∙ let past : length x.buffer ≤ n = omega (arith, beyond) in grind (arith, past))))

@@ -6,7 +6,7 @@ use Rattle.std.specs.Vec.{with_item}
 use Rattle.std.proofs.lemmas.Bool.{le-ltb, lt-ltb}
 use Rattle.exec_segments.specs.ExecRefusals.{IsExecRefusal}
 use Rattle.frame_store.specs.Laws.{KeepsSeats}
-use Rattle.frame_store.specs.Plain.{PlainState, PlainStateRule}
+use Rattle.frame_store.specs.Plain.{PlainState, PlainStateInvariant}
 use Rattle.frame_store.specs.Seats.{place_set_back}
 use Rattle.process_model.specs.Calls.{replaced, replaced_unless}
 use Rattle.process_model.specs.Files.{File}
@@ -30,7 +30,7 @@ use Rattle.table_walk.specs.Tables.{leaf_node, Tables}
 use Rattle.hart_machine.specs.Calls.{done_or_refused, Follows, IsCaller}
 use Rattle.hart_machine.specs.ExecEffect.{HasExecuted}
 use Rattle.hart_machine.specs.SlotProcesses.{IsSlotProcess, view_of}
-use Rattle.hart_machine.specs.Worlds.{IsWorld, IsModelOutcome}
+use Rattle.hart_machine.specs.Worlds.{IsWorldButBuffers, IsModelOutcome}
 use Rattle.hart_machine.specs.declared.machine.Machine.{Machine}
 use Rattle.hart_machine.specs.declared.slot_process.SlotProcess.{SlotProcess}
 use Rattle.hart_machine.proofs.AccessingWorlds.{bytes_change}
@@ -46,10 +46,10 @@ for_frames e (inl unpromised) = absurd unpromised.1
 for_frames e (inr none) = none
 
 -- an image that was judged by the scheme of the machine was so by that of the world
-pub judged_is : (m : Machine) (w : World) (is : IsWorld m w) (image : model.Image) {r : Result (List LoadSegment) BadImage} → image_loads m.kernel.scheme image ≡ r → image_loads w.scheme image ≡ r
+pub judged_is : (m : Machine) (w : World) (is : IsWorldButBuffers m w) (image : model.Image) {r : Result (List LoadSegment) BadImage} → image_loads m.kernel.scheme image ≡ r → image_loads w.scheme image ≡ r
 judged_is m w is image {r} judged = subst (λ k. image_loads k image ≡ r) is.scheme judged
 
-module _ (m : Machine) (w : World) (is : IsWorld m w) (h s : ℕ) (caller : IsCaller m w h s) (image : Image) where
+module _ (m : Machine) (w : World) (is : IsWorldButBuffers m w) (h s : ℕ) (caller : IsCaller m w h s) (image : Image) where
   exec_step : (p : Process) → slice_get w.slots s ≡ Some (Some p) → plain_step w (step.Exec h image) ≡ replaced w s p (image_loads w.scheme image)
   exec_step p at = call_runs m w is h s false caller (λ hart k q. replaced w k q (image_loads w.scheme image)) p at
 
@@ -94,7 +94,7 @@ module _ (m : Machine) (w : World) (is : IsWorld m w) (h s : ℕ) (caller : IsCa
     -- enough frames are free, or too few are
     pub executes : (r : Result (Unit {0}) Refusal) → IfOk r (λ _. (t : Tables) (p : Process) → IsSlotProcess x t p → HasExecuted y p ls m.files files) → IfOk r (λ _. exec_need w.scheme ls ≤ m.frames.free)
         → IfErr r (λ e. (e ≡ refusal.NoFrame) × (m.frames.free < exec_need w.scheme ls)) → IfErr r (λ _. (t : Tables) (p : Process) → IsSlotProcess x t p → IsSlotProcess y t p) → IfErr r (λ _. files ≡ m.files)
-        → KeepsSeats PlainStateRule m.frames (view_of x) b (view_of y)
+        → KeepsSeats PlainStateInvariant m.frames (view_of x) b (view_of y)
         → IsModelOutcome (record m { frames = b; slots = with_item m.slots s (Some y); files = files }) (done_or_refused r) (plain_step w (step.Exec h image))
     executes (Ok u) told enough dry whole stay keeps =
         let q = process_at m w is s x place in
@@ -106,7 +106,7 @@ module _ (m : Machine) (w : World) (is : IsWorld m w) (h s : ℕ) (caller : IsCa
         (each_new q.0 has (is.schemes s q.0 q.1)) b keeps (loaded_scheme w.scheme w.counter ls) files in
         subst (λ (o : StepOutcome). IsModelOutcome n (Scalar Done) o) (sym (replaces q.0 q.1 ∙ ap (replaced_unless w s q.0 ls) wet)) (
           refl,
-          subst (λ (fs : List File). IsWorld n (record (with_process w s (process_of w.scheme w.counter ls)) { counter = w.counter + length (image_pages ls); files = fs }))
+          subst (λ (fs : List File). IsWorldButBuffers n (record (with_process w s (process_of w.scheme w.counter ls)) { counter = w.counter + length (image_pages ls); files = fs }))
               (has.files ∙ ap (λ (fs : List File). all_written_back fs q.0) is.files) after,
         )
     executes (Err e) told enough dry whole stay keeps =
@@ -116,8 +116,8 @@ module _ (m : Machine) (w : World) (is : IsWorld m w) (h s : ℕ) (caller : IsCa
         let short : is_dry w (exec_need w.scheme ls) ≡ true = lt-ltb (free w) (exec_need w.scheme ls) (omega (arith, few, all)) in
         let n : Machine = record m { frames = b; slots = with_item m.slots s (Some y); files = files } in
         let after = bytes_change m w is s x y q.0 q.0 place q.1 q.2 (whole (is.tables s) q.0 q.2) b keeps (λ k z there. (z, there, refl)) refl in
-        let back : IsWorld (record m { frames = b; slots = with_item m.slots s (Some y) }) w =
-        subst (λ (v : World). IsWorld (record m { frames = b; slots = with_item m.slots s (Some y) }) v) (ap (λ (ps : List (Option Process)). let v : World = record w { slots = ps } in v) (place_set_back w.slots s (Some q.0) q.1)) after in
+        let back : IsWorldButBuffers (record m { frames = b; slots = with_item m.slots s (Some y) }) w =
+        subst (λ (v : World). IsWorldButBuffers (record m { frames = b; slots = with_item m.slots s (Some y) }) v) (ap (λ (ps : List (Option Process)). let v : World = record w { slots = ps } in v) (place_set_back w.slots s (Some q.0) q.1)) after in
         subst (λ (o : StepOutcome). IsModelOutcome n (Scalar (Refused e)) o) (sym (replaces q.0 q.1 ∙ ap (replaced_unless w s q.0 ls) short)) (
           ap (λ x. Scalar (Refused x)) dry.0,
           rw stay back,

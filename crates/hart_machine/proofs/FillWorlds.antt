@@ -6,7 +6,7 @@ use Rattle.std.specs.Prelude.{Contains, slice_get, slice_set}
 use Rattle.std.specs.Vec.{with_item}
 use Rattle.std.proofs.lemmas.Option.{slice_get-map, slice_get_within}
 use Rattle.frame_store.specs.Seats.{place_set_back}
-use Rattle.frame_store.specs.Plain.{PlainStateRule}
+use Rattle.frame_store.specs.Plain.{PlainStateInvariant}
 use Rattle.frame_store.specs.View.{View}
 use Rattle.hart_tlb.specs.declared.entry.TlbEntry.{TlbEntry}
 use Rattle.process_model.specs.Harts as model
@@ -27,7 +27,7 @@ use Rattle.hart_machine.specs.SlotProcesses.{view_of}
 use Rattle.hart_machine.specs.WalkEntries.{entry_for, IsEntryOf}
 use Rattle.table_walk.specs.Leaves.{LeavesAreLocal, LeavesAreThere}
 use Rattle.table_walk.specs.LowPages.{tables_of_scheme}
-use Rattle.hart_machine.specs.Worlds.{IsSlotContent, IsWorld, IsModelOutcome, seats_of}
+use Rattle.hart_machine.specs.Worlds.{IsSlotContent, IsWorldButBuffers, IsModelOutcome, seats_of}
 use Rattle.hart_machine.specs.declared.hart.Hart.{Hart}
 use Rattle.hart_machine.specs.declared.machine.Machine.{Machine}
 use Rattle.hart_machine.specs.declared.translation.SatpTable.{SatpTable}
@@ -46,7 +46,7 @@ pub entry_is : (scheme : Scheme) (t : Tables) (asid a : ℕ) → IsEntryOf schem
 entry_is scheme t asid a = record { of_space = refl; local = refl; leaf = sym (leaf_on_page scheme t a) }
 
 -- a process that is put back changes nothing
-abbrev pub put_back : (m : Machine) (w : World) (is : IsWorld m w) (s : ℕ) (x : SlotProcess) → slice_get m.slots.items s ≡ Some (Some x) → IsWorld (record m { slots = with_item m.slots s (Some x) }) w
+abbrev pub put_back : (m : Machine) (w : World) (is : IsWorldButBuffers m w) (s : ℕ) (x : SlotProcess) → slice_get m.slots.items s ≡ Some (Some x) → IsWorldButBuffers (record m { slots = with_item m.slots s (Some x) }) w
 put_back m w is s x at =
     let same : slice_set m.slots.items s (Some x) ≡ m.slots.items = place_set_back m.slots.items s (Some x) at in record {
       tables = is.tables;
@@ -57,7 +57,7 @@ put_back m w is s x at =
       schemes = is.schemes;
       few = is.few;
       frames = is.frames;
-      rule = subst (λ (ps : List (Option SlotProcess)). PlainStateRule m.frames (m.kernel.seat ∷ seats_of ps)) (sym same) is.rule;
+      invariant = subst (λ (ps : List (Option SlotProcess)). PlainStateInvariant m.frames (m.kernel.seat ∷ seats_of ps)) (sym same) is.invariant;
       of_kernel = is.of_kernel;
       places = λ r. subst (λ (ps : List (Option SlotProcess)). IsSlotContent (slice_get ps r) (slice_get w.slots r) (is.tables r)) (sym same) (is.places r);
       copies = is.copies;
@@ -71,11 +71,11 @@ put_back m w is s x at =
     }
 
 -- the table that a hart's satp has is there
-pub table_there : (m : Machine) (w : World) → IsWorld m w → (h : ℕ) (x : Hart) → slice_get m.harts.items h ≡ Some x → (t : SatpTable) → t ≡ present_table x → HasTable m t
+pub table_there : (m : Machine) (w : World) → IsWorldButBuffers m w → (h : ℕ) (x : Hart) → slice_get m.harts.items h ≡ Some x → (t : SatpTable) → t ≡ present_table x → HasTable m t
 table_there m w is h x at t present = subst (HasTable m) (sym present) (present_there m x (λ none. is.idle h x at none) (λ s on. is.hosted h s x at on))
 
 -- the hart with a number
-abbrev has_at : (m : Machine) (w : World) → IsWorld m w → (h : ℕ) (x : Hart) → slice_get m.harts.items h ≡ Some x → HasHart m w h x.phase
+abbrev has_at : (m : Machine) (w : World) → IsWorldButBuffers m w → (h : ℕ) (x : Hart) → slice_get m.harts.items h ≡ Some x → HasHart m w h x.phase
 has_at m w is h x at = record {
   hart = x;
   there = at;
@@ -85,7 +85,7 @@ has_at m w is h x at = record {
 }
 
 -- a hart that keeps the entry of a table keeps that of the table that was taken
-module _ (m : Machine) (w : World) (is : IsWorld m w) (asid a : ℕ) (x y : Hart) (t : SatpTable) where
+module _ (m : Machine) (w : World) (is : IsWorldButBuffers m w) (asid a : ℕ) (x y : Hart) (t : SatpTable) where
   abbrev KeepsOf : Scheme → View → ℕ → Type 0
   KeepsOf scheme v root = (i : Tables) → HasTables scheme v root i → LeavesAreThere scheme i → LeavesAreLocal scheme i → y ≡ with_entry x (entry_for scheme i asid a)
 
@@ -107,7 +107,7 @@ module _ (m : Machine) (w : World) (is : IsWorld m w) (asid a : ℕ) (x y : Hart
       (kept (is.tables s) (tables_of_scheme same (p.2).agrees.stands.tables) (subst (λ k. LeavesAreThere k (is.tables s)) same (process_there _ _ _ p.0 shows (p.2).framed))
       (subst (λ k. LeavesAreLocal k (is.tables s)) same (process_local _ _ _ p.0 shows (p.2).framed)) ∙ ap (λ k. with_entry x (entry_for k (is.tables s) asid a)) of_machine)
 
-module _ (m : Machine) (w : World) (is : IsWorld m w) (h a : ℕ) where
+module _ (m : Machine) (w : World) (is : IsWorldButBuffers m w) (h a : ℕ) where
   pub fills_nowhere : None ≡ option_map present_table (slice_get m.harts.items h) → IsModelOutcome m (Scalar (Refused BadArgument)) (plain_step w (step.Fill h a))
   fills_nowhere none = refused m w is BadArgument _ (without_hart w h true _ _ _ (no_hart m w is h (go (slice_get m.harts.items h) none))) where
     go : (o : Option Hart) → None ≡ option_map present_table o → None ≡ option_map (λ x. x.phase) o

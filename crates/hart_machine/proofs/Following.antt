@@ -9,7 +9,7 @@ use Rattle.std.proofs.lemmas.Option.{same_Some, slice_get_within}
 use Rattle.address_space.specs.Agreement.{IsFrameOfPage}
 use Rattle.address_space.specs.Kernel.{IsKernelTable}
 use Rattle.frame_store.specs.Laws.{KeepsSeats}
-use Rattle.frame_store.specs.Plain.{PlainState, PlainStateRule}
+use Rattle.frame_store.specs.Plain.{PlainState, PlainStateInvariant}
 use Rattle.frame_store.specs.Seats.{place_out, place_set_other, place_set_same}
 use Rattle.frame_store.specs.View.{IsSole, references, View}
 use Rattle.process_model.specs.Files.{File}
@@ -20,7 +20,7 @@ use Rattle.table_walk.specs.Tables.{leaf_node, Tables}
 use Rattle.hart_machine.specs.Calls.{Follows, KeepsPage}
 use Rattle.hart_machine.specs.SlotProcesses.{IsSlotProcess, view_of}
 use Rattle.process_model.specs.declared.limits.TheConstants.{MOST_SLOTS}
-use Rattle.hart_machine.specs.Worlds.{AreCounted, HaveCopies, IsSlotContent, IsWorld, seats_of}
+use Rattle.hart_machine.specs.Worlds.{AreCounted, HaveCopies, IsSlotContent, IsWorldButBuffers, seats_of}
 use Rattle.hart_machine.specs.declared.hart.Hart.{Hart}
 use Rattle.hart_machine.specs.declared.machine.Machine.{Machine}
 use Rattle.hart_machine.specs.declared.slot_process.SlotProcess.{SlotProcess}
@@ -32,7 +32,7 @@ use Rattle.hart_machine.proofs.StartedTables.{tables_here, tables_there, tables_
 
 -- what the process of a slot holds alone no other process has
 pub sole_elsewhere : (b : PlainState) (k : View) (places : List (Option SlotProcess)) (s j : ℕ) (y z : SlotProcess) (f : ℕ) → slice_get places s ≡ Some (Some y) → slice_get places j ≡ Some (Some z) → (j ≡ s → ⊥)
-    → PlainStateRule b (k ∷ seats_of places) → IsSole (view_of y) f → references (view_of z) f ≡ 0
+    → PlainStateInvariant b (k ∷ seats_of places) → IsSole (view_of y) f → references (view_of z) f ≡ 0
 sole_elsewhere b k places s j y z f at upon apart rule sole =
     sole_apart b k (view_of y) (slice_set places s None) (place_out (Holds b k) places s (holds_front b k) y at rule) f j z sole (place_set_other places s j None apart ∙ upon)
 
@@ -49,14 +49,14 @@ keeps_follow v t u p q counter low kept = record {
   order = omega arith;
 }
 
-module _ (m : Machine) (w : World) (is : IsWorld m w) (s : ℕ) (x y : SlotProcess) (p q : Process) (u : Tables)
+module _ (m : Machine) (w : World) (is : IsWorldButBuffers m w) (s : ℕ) (x y : SlotProcess) (p q : Process) (u : Tables)
     (place : slice_get m.slots.items s ≡ Some (Some x)) (at : slice_get w.slots s ≡ Some (Some p)) (slot_process : IsSlotProcess y u q)
-    (high : ℕ) (follows : Follows (view_of y) (is.tables s) u p q w.counter high) (b : PlainState) (keeps : KeepsSeats PlainStateRule m.frames (view_of x) b (view_of y)) (schemed : q.scheme ≡ w.scheme) where
+    (high : ℕ) (follows : Follows (view_of y) (is.tables s) u p q w.counter high) (b : PlainState) (keeps : KeepsSeats PlainStateInvariant m.frames (view_of x) b (view_of y)) (schemed : q.scheme ≡ w.scheme) where
   abbrev tables : ℕ → Tables
   tables = tables_with is.tables s u
 
-  rule : PlainStateRule b (m.kernel.seat ∷ seats_of (slice_set m.slots.items s (Some y)))
-  rule = seat_steps m.frames m.kernel.seat m.slots.items s x place is.rule b y keeps
+  seats_hold : PlainStateInvariant b (m.kernel.seat ∷ seats_of (slice_set m.slots.items s (Some y)))
+  seats_hold = seat_steps m.frames m.kernel.seat m.slots.items s x place is.invariant b y keeps
 
   -- a process of the new world is that of the slot, or another one that was there
   this_or_other : (i : ℕ) (r : Process) → slice_get (slice_set w.slots s (Some q)) i ≡ Some (Some r) → ((i ≡ s) × (q ≡ r)) ⊎ ((i ≡ s → ⊥) × (slice_get w.slots i ≡ Some (Some r)))
@@ -128,7 +128,7 @@ module _ (m : Machine) (w : World) (is : IsWorld m w) (s : ℕ) (x y : SlotProce
         let z = tenant_in m w is j r other.1 in
         let upon : IsFrameOfPage (is.tables j) n g = subst (λ (t : Tables). IsFrameOfPage t n g) (tables_there is.tables s u j other.0) on in
         let none : references (view_of z.0) f ≡ 0 = sole_elsewhere b m.kernel.seat (slice_set m.slots.items s (Some y)) s j y z.0 f
-        (place_set_same m.slots.items s (Some y) (slice_get_within m.slots.items s (Some x) place)) (place_set_other m.slots.items s j (Some y) other.0 ∙ z.1) other.0 rule new.sole in
+        (place_set_same m.slots.items s (Some y) (slice_get_within m.slots.items s (Some x) place)) (place_set_other m.slots.items s j (Some y) other.0 ∙ z.1) other.0 seats_hold new.sole in
         let one : references (view_of z.0) g ≡ 1 = z.2.agrees.stands.owns.named g (leaf_node n) (inr (upon.0, upon.1, upon.2)) in
         let both : references (view_of z.0) f ≡ references (view_of z.0) g = ap (references (view_of z.0)) same in
         omega (arith, none, one, both))
@@ -183,7 +183,7 @@ module _ (m : Machine) (w : World) (is : IsWorld m w) (s : ℕ) (x y : SlotProce
   ]
 
   -- the process of a slot follows the one that was there, and files are others
-  pub call_changes : (files : List File) → IsWorld (record m { frames = b; slots = with_item m.slots s (Some y); files = files }) (record (with_process w s q) { counter = high; files = files })
+  pub call_changes : (files : List File) → IsWorldButBuffers (record m { frames = b; slots = with_item m.slots s (Some y); files = files }) (record (with_process w s q) { counter = high; files = files })
   call_changes files = record {
     tables = tables;
     kernel = is.kernel;
@@ -193,7 +193,7 @@ module _ (m : Machine) (w : World) (is : IsWorld m w) (s : ℕ) (x y : SlotProce
     schemes = λ k r there. elim (this_or_other k r there) [ inl new ↦ ap (λ (z : Process). z.scheme) (sym new.1) ∙ schemed | inr old ↦ is.schemes k r old.1 ];
     few = subst (λ n. n ≤ MOST_SLOTS) (sym (length-set w.slots s (Some q))) is.few;
     frames = is.frames;
-    rule = rule;
+    invariant = seats_hold;
     of_kernel = subst (λ n. IsKernelTable m.kernel.scheme m.kernel.seat m.kernel.root.0 w.frames n is.stacks is.kernel) (sym (length-set w.slots s (Some q))) is.of_kernel;
     places = places;
     copies = copies;

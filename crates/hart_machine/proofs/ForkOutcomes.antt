@@ -5,7 +5,7 @@ use Rattle.std.specs.Prelude.{slice_get, slice_set}
 use Rattle.std.specs.Vec.{with_item}
 use Rattle.std.proofs.lemmas.Bool.{cases_lt, le-ltb, lt-ltb}
 use Rattle.frame_store.specs.Laws.{KeepsSeats}
-use Rattle.frame_store.specs.Plain.{PlainState, PlainStateRule}
+use Rattle.frame_store.specs.Plain.{PlainState, PlainStateInvariant}
 use Rattle.frame_store.specs.Seats.{place_set_back}
 use Rattle.frame_store.specs.View.{View}
 use Rattle.process_model.specs.Calls.{forked, forked_unless}
@@ -23,7 +23,7 @@ use Rattle.table_walk.specs.Tables.{Tables}
 use Rattle.hart_machine.specs.Calls.{IsCaller}
 use Rattle.hart_machine.specs.ForkEffect.{HasForkedProcess}
 use Rattle.hart_machine.specs.SlotProcesses.{IsSlotProcess, view_of}
-use Rattle.hart_machine.specs.Worlds.{IsWorld, IsModelOutcome}
+use Rattle.hart_machine.specs.Worlds.{IsWorldButBuffers, IsModelOutcome}
 use Rattle.hart_machine.specs.declared.machine.Machine.{Machine}
 use Rattle.hart_machine.specs.declared.slot_process.SlotProcess.{SlotProcess}
 use Rattle.hart_machine.proofs.AccessingWorlds.{bytes_change}
@@ -33,7 +33,7 @@ use Rattle.hart_machine.proofs.HartSteps.{process_at, refused}
 use Rattle.hart_machine.proofs.HeldFrames.{free_is}
 use Rattle.hart_machine.proofs.StartSlots.{free_is_empty, free_place}
 
-module _ (m : Machine) (w : World) (is : IsWorld m w) (h s : ℕ) (caller : IsCaller m w h s) where
+module _ (m : Machine) (w : World) (is : IsWorldButBuffers m w) (h s : ℕ) (caller : IsCaller m w h s) where
   fork_step : (p : Process) → slice_get w.slots s ≡ Some (Some p) → plain_step w (step.Fork h) ≡ forked w s p (free_slot w)
   fork_step p at = call_runs m w is h s false caller (λ hart k q. forked w k q (free_slot w)) p at
 
@@ -66,7 +66,7 @@ module _ (m : Machine) (w : World) (is : IsWorld m w) (h s : ℕ) (caller : IsCa
 
     -- too few frames are free
     pub forks_dry : ((t : Tables) (p : Process) → IsSlotProcess x t p → m.frames.free < fork_need p) → ((t : Tables) (p : Process) → IsSlotProcess x t p → IsSlotProcess y t p)
-        → KeepsSeats PlainStateRule m.frames (view_of x) b (view_of y) → IsModelOutcome (record m { frames = b; slots = with_item m.slots s (Some y) }) (Scalar (Refused NoFrame)) (plain_step w (step.Fork h))
+        → KeepsSeats PlainStateInvariant m.frames (view_of x) b (view_of y) → IsModelOutcome (record m { frames = b; slots = with_item m.slots s (Some y) }) (Scalar (Refused NoFrame)) (plain_step w (step.Fork h))
     forks_dry short whole keeps =
         let q = process_at m w is s x place in
         let few = short (is.tables s) q.0 q.2 in
@@ -76,13 +76,13 @@ module _ (m : Machine) (w : World) (is : IsWorld m w) (h s : ℕ) (caller : IsCa
         let after = bytes_change m w is s x y q.0 q.0 place q.1 q.2 (whole (is.tables s) q.0 q.2) b keeps (λ k z there. (z, there, refl)) refl in
         subst (λ (o : StepOutcome). IsModelOutcome n (Scalar (Refused NoFrame)) o) (sym (splits q.0 q.1 ∙ ap (forked_unless w s q.0 e) dry)) (
           refl,
-          subst (λ (v : World). IsWorld n v) (ap (λ (ps : List (Option Process)). let v : World = record w { slots = ps } in v) (place_set_back w.slots s (Some q.0) q.1)) after,
+          subst (λ (v : World). IsWorldButBuffers n v) (ap (λ (ps : List (Option Process)). let v : World = record w { slots = ps } in v) (place_set_back w.slots s (Some q.0) q.1)) after,
         )
 
     -- enough are
     pub forks_wet : (z : SlotProcess) → ((t : Tables) (p : Process) → IsSlotProcess x t p → HasForkedProcess y z t p)
         → ((t : Tables) (p : Process) → IsSlotProcess x t p → m.frames.free < fork_need p → ⊥)
-        → ((others : List View) → PlainStateRule m.frames (view_of x ∷ others) → PlainStateRule b (view_of y ∷ view_of z ∷ others))
+        → ((others : List View) → PlainStateInvariant m.frames (view_of x ∷ others) → PlainStateInvariant b (view_of y ∷ view_of z ∷ others))
         → IsModelOutcome (record m { frames = b; slots = with_item (with_item m.slots s (Some y)) e (Some z) }) (Scalar (Forked e)) (plain_step w (step.Fork h))
     forks_wet z told enough keeps =
         let q = process_at m w is s x place in
@@ -97,5 +97,5 @@ module _ (m : Machine) (w : World) (is : IsWorld m w) (h s : ℕ) (caller : IsCa
         subst (λ (o : StepOutcome). IsModelOutcome n (Scalar (Forked e)) o) (sym (splits q.0 q.1 ∙ ap (forked_unless w s q.0 e) wet)) (
           refl,
           forks m w is s e x y z q.0 has.after has.of_child place q.1 empty (free_is_empty w e to) has.parent has.child has.on_parent has.on_child b
-              (seats_split m.frames b m.kernel.seat m.slots.items s e x y z place empty keeps is.rule),
+              (seats_split m.frames b m.kernel.seat m.slots.items s e x y z place empty keeps is.invariant),
         )

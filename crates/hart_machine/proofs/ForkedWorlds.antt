@@ -8,7 +8,7 @@ use Rattle.std.proofs.lemmas.List.{length-set}
 use Rattle.std.proofs.lemmas.Option.{same_Some, slice_get_within}
 use Rattle.address_space.specs.Agreement.{IsFrameOfPage}
 use Rattle.address_space.specs.Kernel.{IsKernelTable}
-use Rattle.frame_store.specs.Plain.{PlainState, PlainStateRule, to_front}
+use Rattle.frame_store.specs.Plain.{PlainState, PlainStateInvariant, to_front}
 use Rattle.frame_store.specs.Seats.{place_set_other, place_set_same, place_split, places_apart}
 use Rattle.frame_store.specs.View.{View}
 use Rattle.process_model.specs.EachValue.{found_each}
@@ -20,7 +20,7 @@ use Rattle.process_model.specs.World.{with_process, World}
 use Rattle.table_walk.specs.Tables.{Tables}
 use Rattle.hart_machine.specs.SlotProcesses.{IsSlotProcess, view_of}
 use Rattle.process_model.specs.declared.limits.TheConstants.{MOST_SLOTS}
-use Rattle.hart_machine.specs.Worlds.{AreCounted, HaveCopies, IsSlotContent, IsWorld, seats_of}
+use Rattle.hart_machine.specs.Worlds.{AreCounted, HaveCopies, IsSlotContent, IsWorldButBuffers, seats_of}
 use Rattle.hart_machine.specs.declared.hart.Hart.{Hart}
 use Rattle.hart_machine.specs.declared.machine.Machine.{Machine}
 use Rattle.hart_machine.specs.declared.slot_process.SlotProcess.{SlotProcess}
@@ -39,17 +39,17 @@ child_pages p n a there = let b = found_each (child_page p) p.settled n a there 
 
 -- the seats: the parent's steps, and the child's goes to the empty place
 pub seats_split : (b c : PlainState) (k : View) (places : List (Option SlotProcess)) (s e : ℕ) (x y z : SlotProcess) → slice_get places s ≡ Some (Some x) → slice_get places e ≡ Some None
-    → ((others : List View) → PlainStateRule b (view_of x ∷ others) → PlainStateRule c (view_of y ∷ view_of z ∷ others))
-    → PlainStateRule b (k ∷ seats_of places) → PlainStateRule c (k ∷ seats_of (slice_set (slice_set places s (Some y)) e (Some z)))
+    → ((others : List View) → PlainStateInvariant b (view_of x ∷ others) → PlainStateInvariant c (view_of y ∷ view_of z ∷ others))
+    → PlainStateInvariant b (k ∷ seats_of places) → PlainStateInvariant c (k ∷ seats_of (slice_set (slice_set places s (Some y)) e (Some z)))
 seats_split b c k places s e x y z at empty keeps rule =
     place_split (Holds b k) (Holds c k) (holds_front b k) (holds_back c k) places s (holds_front c k) e x y z at empty
     (λ others h. to_front c.words c.counts c.free (view_of y ∷ view_of z ∷ []) k _ (keeps _ (to_front b.words b.counts b.free (k ∷ []) (view_of x) _ h))) rule
 
-module _ (m : Machine) (w : World) (is : IsWorld m w) (s e : ℕ) (x y z : SlotProcess) (p : Process) (t u : Tables)
+module _ (m : Machine) (w : World) (is : IsWorldButBuffers m w) (s e : ℕ) (x y z : SlotProcess) (p : Process) (t u : Tables)
     (place : slice_get m.slots.items s ≡ Some (Some x)) (at : slice_get w.slots s ≡ Some (Some p)) (empty : slice_get m.slots.items e ≡ Some None) (free : slice_get w.slots e ≡ Some None)
     (parent : IsSlotProcess y t (marked p)) (child : IsSlotProcess z u (child_of p))
     (on_parent : (n f : ℕ) (a : Page) → pages.get p.settled n ≡ Some a → IsFrameOfPage t n f → IsFrameOfPage (is.tables s) n f) (on_child : (n f : ℕ) (a : Page) → pages.get p.settled n ≡ Some a → IsFrameOfPage u n f → IsFrameOfPage (is.tables s) n f)
-    (b : PlainState) (rule : PlainStateRule b (m.kernel.seat ∷ seats_of (slice_set (slice_set m.slots.items s (Some y)) e (Some z)))) where
+    (b : PlainState) (rule : PlainStateInvariant b (m.kernel.seat ∷ seats_of (slice_set (slice_set m.slots.items s (Some y)) e (Some z)))) where
   abbrev slots : List (Option Process)
   slots = slice_set (slice_set w.slots s (Some (marked p))) e (Some (child_of p))
 
@@ -162,7 +162,7 @@ module _ (m : Machine) (w : World) (is : IsWorld m w) (s e : ℕ) (x y z : SlotP
     ]
   ]
 
-  pub forks : IsWorld (record m { frames = b; slots = with_item (with_item m.slots s (Some y)) e (Some z) }) (with_process (with_process w s (marked p)) e (child_of p))
+  pub forks : IsWorldButBuffers (record m { frames = b; slots = with_item (with_item m.slots s (Some y)) e (Some z) }) (with_process (with_process w s (marked p)) e (child_of p))
   forks = record {
     tables = tables;
     kernel = is.kernel;
@@ -172,7 +172,7 @@ module _ (m : Machine) (w : World) (is : IsWorld m w) (s e : ℕ) (x y z : SlotP
     schemes = schemes;
     few = subst (λ n. n ≤ MOST_SLOTS) (sym (length-set (slice_set w.slots s (Some (marked p))) e (Some (child_of p)) ∙ length-set w.slots s (Some (marked p)))) is.few;
     frames = is.frames;
-    rule = rule;
+    invariant = rule;
     of_kernel = subst (λ n. IsKernelTable m.kernel.scheme m.kernel.seat m.kernel.root.0 w.frames n is.stacks is.kernel) (sym (length-set (slice_set w.slots s (Some (marked p))) e (Some (child_of p)) ∙ length-set w.slots s (Some (marked p)))) is.of_kernel;
     places = places;
     copies = copies;

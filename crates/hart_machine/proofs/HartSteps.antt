@@ -29,7 +29,7 @@ use Rattle.process_model.specs.declared.reply.Refusal.{Refusal}
 use Rattle.hart_machine.specs.Harts.{advanced, cleaned, cleaned_for, cleaned_if, emptied, fenced, hart_of, is_before_user, key_of}
 use Rattle.hart_machine.specs.Slots.{marks_of}
 use Rattle.hart_machine.specs.SlotProcesses.{IsSlotProcess}
-use Rattle.hart_machine.specs.Worlds.{IsSlotContent, IsWorld, IsModelOutcome}
+use Rattle.hart_machine.specs.Worlds.{IsSlotContent, IsWorldButBuffers, IsModelOutcome}
 use Rattle.hart_machine.specs.declared.hart.Hart.{Hart}
 use Rattle.hart_machine.specs.declared.machine.Machine.{Machine}
 use Rattle.hart_machine.specs.declared.slot_process.SlotProcess.{SlotProcess}
@@ -72,10 +72,10 @@ module _ (w : World) (x : model.Hart) (run : ℕ → Process → StepOutcome) wh
 
 -- what is answered
 
-pub refused : (m : Machine) (w : World) → IsWorld m w → (r : Refusal) (o : StepOutcome) → o ≡ refuses w r → IsModelOutcome m (Scalar (Refused r)) o
+pub refused : (m : Machine) (w : World) → IsWorldButBuffers m w → (r : Refusal) (o : StepOutcome) → o ≡ refuses w r → IsModelOutcome m (Scalar (Refused r)) o
 refused m w is r o e = subst (λ (x : StepOutcome). IsModelOutcome m (Scalar (Refused r)) x) (sym e) (refl, is)
 
-pub makes : (m : Machine) (reply : Reply) (w : World) (o : StepOutcome) → IsWorld m w → o ≡ answers w reply → IsModelOutcome m reply o
+pub makes : (m : Machine) (reply : Reply) (w : World) (o : StepOutcome) → IsWorldButBuffers m w → o ≡ answers w reply → IsModelOutcome m reply o
 makes m reply w o is e = subst (λ (x : StepOutcome). IsModelOutcome m reply x) (sym e) (refl, is)
 
 -- harts and processes of a machine
@@ -107,7 +107,7 @@ pub slot_placed : (o : Option Hart) (p : Phase) (s : Option ℕ) → Some (p, s)
 slot_placed None p s e = absurd (cc)
 slot_placed (Some x) p s e = ap (λ q. q.1) (same_Some (p, s) (x.phase, x.slot) e)
 
-module _ (m : Machine) (w : World) (is : IsWorld m w) where
+module _ (m : Machine) (w : World) (is : IsWorldButBuffers m w) where
   hart_in : (h : ℕ) → slice_get w.harts h ≡ option_map hart_of (slice_get m.harts.items h)
   hart_in h = ap (λ hs. slice_get hs h) (sym is.harts) ∙ slice_get-map hart_of m.harts.items h
 
@@ -180,7 +180,7 @@ module _ (m : Machine) (w : World) (is : IsWorld m w) where
     IsAlone = (s : ℕ) → y.slot ≡ Some s → (k : ℕ) (z : Hart) → slice_get m.harts.items k ≡ Some z → z.slot ≡ Some s → k ≡ h
 
     pub hart_changes : ((s : ℕ) → y.slot ≡ Some s → (t : SlotProcess) × (slice_get m.slots.items s ≡ Some (Some t))) → IsAlone → (y.slot ≡ None → y.phase ≡ phase.Idle)
-        → ((e : TlbEntry) → Contains y.buffer e → e.global ≡ false) → IsWorld (record m { harts = with_item m.harts h y }) (with_hart w h (hart_of y))
+        → ((e : TlbEntry) → Contains y.buffer e → e.global ≡ false) → IsWorldButBuffers (record m { harts = with_item m.harts h y }) (with_hart w h (hart_of y))
     hart_changes hosted alone idle local = record {
       tables = is.tables;
       kernel = is.kernel;
@@ -190,7 +190,7 @@ module _ (m : Machine) (w : World) (is : IsWorld m w) where
       schemes = is.schemes;
       few = is.few;
       frames = is.frames;
-      rule = is.rule;
+      invariant = is.invariant;
       of_kernel = is.of_kernel;
       places = is.places;
       copies = is.copies;
@@ -248,7 +248,7 @@ not_both false b e = refl
 abbrev switched : Hart → Option ℕ → Hart
 switched x slot = record x { phase = model.phase_for slot; slot = slot }
 
-module _ (m : Machine) (w : World) (is : IsWorld m w) (h : ℕ) (slot : Option ℕ) where
+module _ (m : Machine) (w : World) (is : IsWorldButBuffers m w) (h : ℕ) (slot : Option ℕ) where
   module _ (p : Phase) (has : HasHart m w h p) where
     pub switch_refused : (model.may_switch p ≡ false) ⊎ (can_run w slot ≡ false) → IsModelOutcome m (Scalar (Refused (Impossible p))) (plain_step w (step.Switch h slot))
     switch_refused fails = refused m w is (Impossible p) _
@@ -376,7 +376,7 @@ fenced_slot Asid x = go (is_before_user x.phase) x.slot where
   go true (Some s) = if_marked s (marks_of x.stale s)
   go false o = refl
 
-module _ (m : Machine) (w : World) (is : IsWorld m w) (h : ℕ) (p : Phase) (has : HasHart m w h p) where
+module _ (m : Machine) (w : World) (is : IsWorldButBuffers m w) (h : ℕ) (p : Phase) (has : HasHart m w h p) where
   pub next_refused : can_go_on w (hart_of has.hart) ≡ false → IsModelOutcome m (Scalar (Refused (Impossible p))) (plain_step w (step.Next h))
   next_refused fails = refused m w is (Impossible p) _
       (impossible w h true (can_go_on w) always _ (hart_of has.hart) has.in_model refl fails ∙ ap (λ q. refuses w (Impossible q)) has.phased)

@@ -16,7 +16,7 @@ use Rattle.process_model.specs.World.{free, report, World}
 use Rattle.process_model.specs.declared.step.Report.{Report}
 use Rattle.table_walk.specs.Tables.{Tables}
 use Rattle.hart_machine.specs.SlotProcesses.{IsSlotProcess}
-use Rattle.hart_machine.specs.Worlds.{IsSlotContent, IsWorld, seats_of}
+use Rattle.hart_machine.specs.Worlds.{IsSlotContent, IsWorldButBuffers, seats_of}
 use Rattle.hart_machine.specs.declared.machine.Machine.{Machine}
 use Rattle.hart_machine.specs.declared.slot_process.SlotProcess.{SlotProcess}
 use Rattle.hart_machine.proofs.AllReferences.{count_kinds, kernel, places, references_are, sized}
@@ -101,7 +101,7 @@ record IsPaged (f of_kernel of_code of_own of_pages count : ℕ) : Type 0 where
 abbrev OfKind : ℕ → ℕ → ℕ → ℕ → ℕ → ℕ → Type 0
 OfKind f k z o g c = IsCode f k z o g c ⊎ (IsOwn f k z o g c ⊎ IsPaged f k z o g c)
 
-module _ (m : Machine) (w : World) (is : IsWorld m w) where
+module _ (m : Machine) (w : World) (is : IsWorldButBuffers m w) where
   abbrev counts : List ℕ
   counts = m.frames.counts
 
@@ -129,7 +129,7 @@ module _ (m : Machine) (w : World) (is : IsWorld m w) where
   kernel_lone : (f : ℕ) → Among f of_kernel → slice_index counts f ≡ 1
   kernel_lone f i =
       let one = (kernel m w is).lone f i in
-      let whole = (is.rule.agrees.0 f).sole one.1 in
+      let whole = (is.invariant.agrees.0 f).sole one.1 in
       sym whole.1 ∙ one.0
 
   kind_of : (f : ℕ) → OfKind f (times f (0 ∷ of_kernel)) (times f code) (times f own) (times f pages) (slice_index counts f)
@@ -275,7 +275,7 @@ module _ (m : Machine) (w : World) (is : IsWorld m w) where
   -- no seat has credits, so that the free number is that of the frames of count 0
   free_zeros : count_by is_zero counts ≡ m.frames.free
   free_zeros =
-      let all_free = is.rule.balanced in
+      let all_free = is.invariant.balanced in
       let of_the_kernel = is.of_kernel.credits in
       let of_processes = seats_credits m.slots.items w.slots is.tables is.places in
       omega (arith, all_free, of_the_kernel, of_processes)

@@ -8,7 +8,7 @@ use Rattle.address_space.specs.Agreement.{IsFrameOfPage}
 use Rattle.address_space.specs.SpaceTeardown.{Drops}
 use Rattle.address_space.specs.declared.space.Space.{Space}
 use Rattle.frame_store.specs.Laws.{KeepsSeats}
-use Rattle.frame_store.specs.Plain.{PlainState, PlainStateRule}
+use Rattle.frame_store.specs.Plain.{PlainState, PlainStateInvariant}
 use Rattle.frame_store.specs.View.{View}
 use Rattle.mmap_regions.specs.MmapEffect.{address_of_mapped, process_mapped}
 use Rattle.mmap_regions.specs.MunmapEffect.{IsUnmapRefusal}
@@ -32,7 +32,7 @@ use Rattle.sv39_entry.specs.Address.{page_of}
 use Rattle.table_walk.specs.Tables.{leaf_node, Tables}
 use Rattle.hart_machine.specs.Calls.{done_or_refused, Follows, HasUnmapped, IsCaller, mapped_or_refused}
 use Rattle.hart_machine.specs.SlotProcesses.{IsSlotProcess, view_of}
-use Rattle.hart_machine.specs.Worlds.{IsWorld, IsModelOutcome}
+use Rattle.hart_machine.specs.Worlds.{IsWorldButBuffers, IsModelOutcome}
 use Rattle.hart_machine.specs.declared.machine.Machine.{Machine}
 use Rattle.hart_machine.specs.declared.slot_process.SlotProcess.{SlotProcess}
 use Rattle.hart_machine.proofs.AccessingWorlds.{bytes_change}
@@ -108,7 +108,7 @@ pub below_mapped : (x y : SlotProcess) (t : Tables) (p : Process) → IsSlotProc
 below_mapped x y t p slot_process (Ok a) f after refused = (without_pending (f p), after t p slot_process)
 below_mapped x y t p slot_process (Err e) f after refused = (p, subst (λ (z : SlotProcess). IsSlotProcess z t p) (sym refused) slot_process)
 
-module _ (m : Machine) (w : World) (is : IsWorld m w) (h s : ℕ) (caller : IsCaller m w h s) (x y : SlotProcess) (place : slice_get m.slots.items s ≡ Some (Some x)) where
+module _ (m : Machine) (w : World) (is : IsWorldButBuffers m w) (h s : ℕ) (caller : IsCaller m w h s) (x y : SlotProcess) (place : slice_get m.slots.items s ≡ Some (Some x)) where
   -- mmap
 
   module _ (len protection flags n : ℕ) (r : Result ℕ Refusal) (view : view_of y ≡ view_of x) where
@@ -126,13 +126,13 @@ module _ (m : Machine) (w : World) (is : IsWorld m w) (h s : ℕ) (caller : IsCa
           let settled : u.process.settled ≡ p.settled = ap (λ z. pages_mapped z p.settled) (sym request) ∙ mapped_settled m.files p len protection flags n in (
             ap mapped_or_refused answer,
             bytes_change m w is s x y p (without_pending u.process) place at slot_process tenant_after m.frames
-                (subst (λ (v : View). KeepsSeats PlainStateRule m.frames (view_of x) m.frames v) (sym view) (λ others rule. rule))
+                (subst (λ (v : View). KeepsSeats PlainStateInvariant m.frames (view_of x) m.frames v) (sym view) (λ others rule. rule))
                 (λ k a there. (a, ap (λ (q : PageMap Page). pages.get q k) (sym settled) ∙ there, refl)) (mapped_scheme m.files p len protection flags n u request),
           )
       map_comes (Err e) request answer after refused =
           let same : y ≡ x = subst (λ (o : Result ℕ Refusal). IfErr o (λ _. y ≡ x)) answer refused in (
             ap mapped_or_refused answer,
-            subst (λ (z : SlotProcess). IsWorld (record m { slots = with_item m.slots s (Some z) }) w) (sym same) (put_back m w is s x place),
+            subst (λ (z : SlotProcess). IsWorldButBuffers (record m { slots = with_item m.slots s (Some z) }) w) (sym same) (put_back m w is s x place),
           )
 
     -- the process of the caller maps a file
@@ -171,14 +171,14 @@ module _ (m : Machine) (w : World) (is : IsWorld m w) (h s : ℕ) (caller : IsCa
     -- the process of the caller takes a run out of a mapping
     pub unmaps : {A : Type 0} (r : Result A Refusal) → IfOk r (λ _. (t : Tables) (p : Process) → IsSlotProcess x t p → HasUnmapped y t p m.files files address len)
         → IfErr r (λ e. (t : Tables) (p : Process) → IsSlotProcess x t p → unmapped m.files p address len ≡ Err e) → IfErr r (λ _. y ≡ x) → IfErr r (λ _. files ≡ m.files) → IfErr r (λ _. b ≡ m.frames)
-        → KeepsSeats PlainStateRule m.frames (view_of x) b (view_of y)
+        → KeepsSeats PlainStateInvariant m.frames (view_of x) b (view_of y)
         → IsModelOutcome (record m { frames = b; slots = with_item m.slots s (Some y); files = files }) (done_or_refused r) (plain_step w (step.Munmap h address len))
     unmaps {A = A} (Ok a) told refused same files_stay frames_stay keeps =
         let q = process_at m w is s x place in
         let has = told (is.tables s) q.0 q.2 in
         subst (λ (o : StepOutcome). IsModelOutcome (record m { frames = b; slots = with_item m.slots s (Some y); files = files }) (done_or_refused (done_with a)) o) (sym (unmap_step q.0 q.1 ∙ ap (unmapped_to w s) has.is)) (
           refl,
-          subst (λ (fs : List File). IsWorld (record m { frames = b; slots = with_item m.slots s (Some y); files = fs }) (unmapped_to w s (Ok has.what)).world) (sym has.files)
+          subst (λ (fs : List File). IsWorldButBuffers (record m { frames = b; slots = with_item m.slots s (Some y); files = fs }) (unmapped_to w s (Ok has.what)).world) (sym has.files)
               (call_changes m w is s x y q.0 (without_pending has.what.process) has.tables place q.1 has.slot_process w.counter (follows q.0 q.1 has) b keeps (unmapped_scheme m.files q.0 address len has.what has.is ∙ is.schemes s q.0 q.1) has.what.files),
         )
     unmaps {A = A} (Err e) told refused same files_stay frames_stay keeps =

@@ -14,7 +14,7 @@ use Rattle.hart_machine.specs.Buffers.{BuffersAre, OnlyFillsAdd, SameBuffers}
 use Rattle.hart_machine.specs.Harts.{hart_of, marked_harts}
 use Rattle.hart_machine.specs.Marks.{AreMarked}
 use Rattle.hart_machine.specs.BufferEntries.{AreEntriesCurrent, IsInWorld}
-use Rattle.hart_machine.specs.Worlds.{IsWorld, KeepsTables, IsModelOutcome}
+use Rattle.hart_machine.specs.Worlds.{IsWorldButBuffers, KeepsTables, IsModelOutcome}
 use Rattle.hart_machine.specs.declared.machine.Machine.{Machine}
 use Rattle.hart_machine.proofs.BufferChanges.{only_fills_add}
 use Rattle.hart_machine.proofs.Buffered.{are_true, still_in}
@@ -38,7 +38,7 @@ module _ (m n o k : Machine) (w : World) (s : Step) (inn : IsInWorld m w) (reply
   harts : map hart_of k.harts.items ≡ marked_harts n.policy born (marked_harts n.policy changed (map hart_of n.harts.items))
   harts = second ∙ ap (λ (q : Policy). marked_harts q born (map hart_of o.harts.items)) (ap (λ (x : Machine). x.policy) first_others) ∙ ap (marked_harts n.policy born) first
 
-  in_world : IsWorld k (with_stale_slots w.policy w (plain_step w s)).world
+  in_world : IsWorldButBuffers k (with_stale_slots w.policy w (plain_step w s)).world
   in_world = marks_follow w (plain_step w s) changed born marks n k made.1 as_before harts buffers
       (ap (λ (x : Machine). x.frames) second_others ∙ ap (λ (x : Machine). x.frames) first_others) (ap (λ (x : Machine). x.kernel) second_others ∙ ap (λ (x : Machine). x.kernel) first_others)
       (ap (λ (x : Machine). x.slots) second_others ∙ ap (λ (x : Machine). x.slots) first_others) (ap (λ (x : Machine). x.files) second_others ∙ ap (λ (x : Machine). x.files) first_others) ruled

@@ -16,7 +16,7 @@ use Rattle.hart_machine.specs.Buffers.{SameBuffers}
 use Rattle.hart_machine.specs.Harts.{hart_of, marked, marked_harts}
 use Rattle.hart_machine.specs.Marks.{AreMarked}
 use Rattle.process_model.specs.declared.limits.TheConstants.{MOST_SLOTS}
-use Rattle.hart_machine.specs.Worlds.{IsWorld}
+use Rattle.hart_machine.specs.Worlds.{IsWorldButBuffers}
 use Rattle.hart_machine.specs.declared.hart.Hart.{Hart}
 use Rattle.hart_machine.specs.declared.machine.Machine.{Machine}
 use Rattle.process_laws.proofs.ChangedSlots.{among_changed}
@@ -91,7 +91,7 @@ module _ (w : World) (o : StepOutcome) (changed born : Option ℕ) (marks : AreM
     phased : hart.phase ≡ y.phase
     slotted : hart.slot ≡ y.slot
 
-  module _ (n k : Machine) (after : IsWorld n o.world) (policy : n.policy ≡ w.policy)
+  module _ (n k : Machine) (after : IsWorldButBuffers n o.world) (policy : n.policy ≡ w.policy)
       (harts : map hart_of k.harts.items ≡ marked_harts n.policy born (marked_harts n.policy changed (map hart_of n.harts.items))) (buffers : SameBuffers n k)
       (frames : k.frames ≡ n.frames) (kernel : k.kernel ≡ n.kernel) (slots : k.slots ≡ n.slots) (files : k.files ≡ n.files) (ruled : k.policy ≡ n.policy) where
     was : (h : ℕ) (y : Hart) → slice_get k.harts.items h ≡ Some y → Was n h y
@@ -115,8 +115,8 @@ module _ (w : World) (o : StepOutcome) (changed born : Option ℕ) (marks : AreM
       go Asid is = found (with_both changed born) (λ x. refl) (λ x. refl) (ap (λ hs. slice_get hs h) (sym (both_marked changed born (map hart_of n.harts.items))) ∙ sym is ∙ ap (option_map hart_of) at)
 
     -- where the harts are those with marks
-    with_harts : (v : World) → v ≡ record o.world { harts = v.harts } → map hart_of k.harts.items ≡ v.harts → IsWorld k v
-    with_harts v same are = subst (λ (u : World). IsWorld k u) (sym same) (record {
+    with_harts : (v : World) → v ≡ record o.world { harts = v.harts } → map hart_of k.harts.items ≡ v.harts → IsWorldButBuffers k v
+    with_harts v same are = subst (λ (u : World). IsWorldButBuffers k u) (sym same) (record {
       tables = after.tables;
       kernel = after.kernel;
       stacks = after.stacks;
@@ -125,7 +125,7 @@ module _ (w : World) (o : StepOutcome) (changed born : Option ℕ) (marks : AreM
       schemes = after.schemes;
       few = after.few;
       frames = ap (λ z. z.seat.size) kernel ∙ after.frames;
-      rule = rw (frames, kernel, slots) after.rule;
+      invariant = rw (frames, kernel, slots) after.invariant;
       of_kernel = rw kernel after.of_kernel;
       places = rw slots after.places;
       copies = after.copies;
@@ -141,7 +141,7 @@ module _ (w : World) (o : StepOutcome) (changed born : Option ℕ) (marks : AreM
           after.local h x.hart e x.there (subst (λ (es : List TlbEntry). Contains es e) (sym same) there);
     })
 
-    pub marks_follow : IsWorld k (with_stale_slots w.policy w o).world
+    pub marks_follow : IsWorldButBuffers k (with_stale_slots w.policy w o).world
     marks_follow = with_harts (with_stale_slots w.policy w o).world (same_but_harts w.policy) (harts ∙ ap (λ q. marked_harts q born (marked_harts q changed (map hart_of n.harts.items))) policy ∙ harts_are w.policy (map hart_of n.harts.items) after.harts) where
       same_but_harts : (q : Policy) → (with_stale_slots q w o).world ≡ record o.world { harts = (with_stale_slots q w o).world.harts }
       same_but_harts Full = refl

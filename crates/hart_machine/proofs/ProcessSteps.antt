@@ -6,7 +6,7 @@ use Rattle.std.specs.Vec.{with_item}
 use Rattle.std.proofs.lemmas.Bool.{cases_eq}
 use Rattle.std.proofs.lemmas.List.{length-set}
 use Rattle.std.proofs.lemmas.Option.{same_Some, slice_get_within}
-use Rattle.frame_store.specs.Plain.{PlainState, PlainStateRule}
+use Rattle.frame_store.specs.Plain.{PlainState, PlainStateInvariant}
 use Rattle.frame_store.specs.Seats.{place_set_other, place_set_same}
 use Rattle.process_model.specs.PageMap as pages
 use Rattle.process_model.specs.Process.{Page, Process}
@@ -15,7 +15,7 @@ use Rattle.address_space.specs.PendingAccess.{agrees_pending}
 use Rattle.address_space.specs.Kernel.{IsKernelTable}
 use Rattle.process_model.specs.declared.limits.TheConstants.{MOST_SLOTS}
 use Rattle.hart_machine.specs.SlotProcesses.{IsSlotProcess, view_of}
-use Rattle.hart_machine.specs.Worlds.{IsSlotContent, IsWorld, seats_of}
+use Rattle.hart_machine.specs.Worlds.{IsSlotContent, IsWorldButBuffers, seats_of}
 use Rattle.hart_machine.specs.declared.hart.Hart.{Hart}
 use Rattle.hart_machine.specs.declared.machine.Machine.{Machine}
 use Rattle.hart_machine.specs.declared.slot_process.SlotProcess.{SlotProcess}
@@ -24,7 +24,7 @@ use Rattle.hart_machine.specs.declared.slot_process.SlotProcess.{SlotProcess}
 abbrev pub HasCopies : Process → Process → Type 0
 HasCopies q p = (n : ℕ) (a : Page) → pages.get q.settled n ≡ Some a → (b : Page) × (pages.get p.settled n ≡ Some b) × (b.copy ≡ a.copy)
 
-module _ (m : Machine) (w : World) (is : IsWorld m w) (s : ℕ) (x y : SlotProcess) (p q : Process) (place : slice_get m.slots.items s ≡ Some (Some x)) (at : slice_get w.slots s ≡ Some (Some p)) where
+module _ (m : Machine) (w : World) (is : IsWorldButBuffers m w) (s : ℕ) (x y : SlotProcess) (p q : Process) (place : slice_get m.slots.items s ≡ Some (Some x)) (at : slice_get w.slots s ≡ Some (Some p)) where
   -- what holds of the process in a slot, where it holds of the new one and of the old ones
   at_each : {A : Type 0} (xs : List (Option A)) (a b : A) → slice_get xs s ≡ Some (Some a) → (k : ℕ) (c : Option (Option A)) → slice_get (slice_set xs s (Some b)) k ≡ c
       → (P : Option (Option A) → Type 0) → (k ≡ s → P (Some (Some b))) → ((k ≡ s → ⊥) → slice_get xs k ≡ c → P c) → P c
@@ -42,8 +42,8 @@ module _ (m : Machine) (w : World) (is : IsWorld m w) (s : ℕ) (x y : SlotProce
         (λ same e. let is_q : q ≡ r = same_Some q r (same_Some _ _ e) in let found = has n a (ap (λ (z : Process). pages.get z.settled n) is_q ∙ settled) in (p, found.0, ap (slice_get w.slots) same ∙ at, found.1, found.2))
         (λ apart old e. (r, a, old, settled, refl)) refl
 
-    pub process_changes : (b : PlainState) → PlainStateRule b (m.kernel.seat ∷ seats_of (slice_set m.slots.items s (Some y))) → IsSlotProcess y (is.tables s) q → q.scheme ≡ p.scheme
-        → IsWorld (record m { frames = b; slots = with_item m.slots s (Some y) }) (with_process w s q)
+    pub process_changes : (b : PlainState) → PlainStateInvariant b (m.kernel.seat ∷ seats_of (slice_set m.slots.items s (Some y))) → IsSlotProcess y (is.tables s) q → q.scheme ≡ p.scheme
+        → IsWorldButBuffers (record m { frames = b; slots = with_item m.slots s (Some y) }) (with_process w s q)
     process_changes b rule slot_process schemed = record {
       tables = is.tables;
       kernel = is.kernel;
@@ -54,7 +54,7 @@ module _ (m : Machine) (w : World) (is : IsWorld m w) (s : ℕ) (x y : SlotProce
           (λ same e. ap (λ (z : Process). z.scheme) (sym (same_Some q r (same_Some _ _ e))) ∙ schemed ∙ is.schemes s p at) (λ apart old e. is.schemes k r old) refl;
       few = subst (λ n. n ≤ MOST_SLOTS) (sym (length-set w.slots s (Some q))) is.few;
       frames = is.frames;
-      rule = rule;
+      invariant = rule;
       of_kernel = subst (λ n. IsKernelTable m.kernel.scheme m.kernel.seat m.kernel.root.0 w.frames n is.stacks is.kernel) (sym (length-set w.slots s (Some q))) is.of_kernel;
       places = places;
       copies = λ i j k n f g r o a c at_i at_j in_i in_j on_i on_j.
@@ -87,10 +87,10 @@ seats_stay (z ∷ places) zero x y at e = rw (same_Some z (Some x) at) (ap (λ v
 seats_stay (None ∷ places) (suc s) x y at e = seats_stay places s x y at e
 seats_stay (Some z ∷ places) (suc s) x y at e = ap (λ vs. view_of z ∷ vs) (seats_stay places s x y at e)
 
-module _ (m : Machine) (w : World) (is : IsWorld m w) (s : ℕ) (x : SlotProcess) (p : Process) (place : slice_get m.slots.items s ≡ Some (Some x)) (at : slice_get w.slots s ≡ Some (Some p))
+module _ (m : Machine) (w : World) (is : IsWorldButBuffers m w) (s : ℕ) (x : SlotProcess) (p : Process) (place : slice_get m.slots.items s ≡ Some (Some x)) (at : slice_get w.slots s ≡ Some (Some p))
     (slot_process : IsSlotProcess x (is.tables s) p) where
   -- the process of a slot has no access pending any more
-  pub nothing_pending : IsWorld (record m { slots = with_item m.slots s (Some (record x { pending = None })) }) (with_process w s (record p { pending = None }))
+  pub nothing_pending : IsWorldButBuffers (record m { slots = with_item m.slots s (Some (record x { pending = None })) }) (with_process w s (record p { pending = None }))
   nothing_pending = process_changes m w is s x (record x { pending = None }) p (record p { pending = None }) place at (λ n a there. (a, there, refl)) m.frames
-      (subst (λ vs. PlainStateRule m.frames (m.kernel.seat ∷ vs)) (sym (seats_stay m.slots.items s x (record x { pending = None }) place refl)) is.rule)
+      (subst (λ vs. PlainStateInvariant m.frames (m.kernel.seat ∷ vs)) (sym (seats_stay m.slots.items s x (record x { pending = None }) place refl)) is.invariant)
       (record { agrees = agrees_pending _ _ _ _ _ p slot_process.agrees None; framed = slot_process.framed; pending = refl; wide = tt }) refl

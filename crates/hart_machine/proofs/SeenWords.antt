@@ -4,7 +4,7 @@ use Rattle.std.proofs.Common.{◌≡◌, ℕ, ◌+◌, ◌*◌, ◌<◌, Option,
 use Rattle.std.specs.Prelude.{is_some, option_map, slice_get, slice_index}
 use Rattle.std.proofs.lemmas.Option.{slice_get-get_or, slice_get-map}
 use Rattle.frame_store.specs.Laws.{IsSeatOf}
-use Rattle.frame_store.specs.Plain.{held_within, PlainState, PlainStateRule}
+use Rattle.frame_store.specs.Plain.{held_within, PlainState, PlainStateInvariant}
 use Rattle.frame_store.specs.View.{View}
 use Rattle.process_model.specs.Harts as model
 use Rattle.process_model.specs.Process.{Process}
@@ -13,12 +13,12 @@ use Rattle.sv39_entry.specs.declared.scheme.Scheme.{Scheme}
 use Rattle.table_walk.specs.Tables.{AreTables, HasTables, Tables, word_in}
 use Rattle.hart_machine.specs.Harts.{hart_of}
 use Rattle.hart_machine.specs.SeenTables.{word_at}
-use Rattle.hart_machine.specs.Worlds.{IsSlotContent, IsWorld}
+use Rattle.hart_machine.specs.Worlds.{IsSlotContent, IsWorldButBuffers}
 use Rattle.hart_machine.specs.declared.hart.Hart.{Hart}
 use Rattle.hart_machine.specs.declared.machine.Machine.{Machine}
 use Rattle.hart_machine.specs.declared.slot_process.SlotProcess.{SlotProcess}
 
-module _ (b : PlainState) (v : View) (fits : IsSeatOf PlainStateRule b v) (z : Scheme) (root : ℕ) (t : Tables) (has : HasTables z v root t) where
+module _ (b : PlainState) (v : View) (fits : IsSeatOf PlainStateInvariant b v) (z : Scheme) (root : ℕ) (t : Tables) (has : HasTables z v root t) where
   pub tables_seen : AreTables z (word_at b.words) root t
   tables_seen = record {
     rooted = has.known.rooted;
@@ -49,5 +49,5 @@ there_is (Some (Some x)) (Some None) t is some = absurd is
 there_is (Some (Some x)) (Some (Some q)) t is some = (x, refl)
 
 -- a hart of the machine is one of the world
-pub hart_seen : (m : Machine) (w : World) → IsWorld m w → (h : ℕ) (o : Option Hart) → slice_get m.harts.items h ≡ o → slice_get w.harts h ≡ option_map hart_of o
+pub hart_seen : (m : Machine) (w : World) → IsWorldButBuffers m w → (h : ℕ) (o : Option Hart) → slice_get m.harts.items h ≡ o → slice_get w.harts h ≡ option_map hart_of o
 hart_seen m w is h o at = ap (λ (hs : List model.Hart). slice_get hs h) (sym is.harts) ∙ slice_get-map hart_of m.harts.items h ∙ ap (option_map hart_of) at

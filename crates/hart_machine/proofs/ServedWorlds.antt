@@ -10,7 +10,7 @@ use Rattle.std.proofs.lemmas.Option.{slice_get_within}
 use Rattle.address_space.specs.Agreement.{IsFrameOfPage}
 use Rattle.fault_rules.specs.MadeResident.{gets_frame, is_counted, is_shared_by, IsOnItsFrame}
 use Rattle.frame_store.specs.Laws.{KeepsSeats}
-use Rattle.frame_store.specs.Plain.{PlainState, PlainStateRule}
+use Rattle.frame_store.specs.Plain.{PlainState, PlainStateInvariant}
 use Rattle.frame_store.specs.Seats.{place_set_back, place_set_same}
 use Rattle.frame_store.specs.View.{IsSole}
 use Rattle.process_model.specs.Environment as model
@@ -38,7 +38,7 @@ use Rattle.hart_machine.specs.Harts.{hart_of}
 use Rattle.hart_machine.specs.Marks.{AreMarked, slot_if}
 use Rattle.hart_machine.specs.ServeEffect.{HasServed, IsEnding, MustEnd, rule_of, was_served, WhenShared}
 use Rattle.hart_machine.specs.SlotProcesses.{IsSlotProcess, view_of}
-use Rattle.hart_machine.specs.Worlds.{HaveSameLeaves, IsModelOutcome, IsWorld, StaysOnFrames, KeepsTables}
+use Rattle.hart_machine.specs.Worlds.{HaveSameLeaves, IsModelOutcome, IsWorldButBuffers, StaysOnFrames, KeepsTables}
 use Rattle.hart_machine.specs.declared.machine.Machine.{Machine}
 use Rattle.hart_machine.specs.declared.slot_process.SlotProcess.{SlotProcess}
 use Rattle.hart_machine.proofs.AccessingWorlds.{bytes_change}
@@ -82,8 +82,8 @@ other_leaf : (n page : ℕ) → (n ≡ page → ⊥) → leaf_node n ≡ leaf_no
 other_leaf n page apart same = apart (omega (arith, same))
 
 -- a page is made resident for an access, or it can't be: by the service of a fault, or for a copy
-module _ (m : Machine) (w : World) (is : IsWorld m w) (h s : ℕ) (waits : Bool) (k : IsInKernel m w h s waits) (x y : SlotProcess) (place : slice_get m.slots.items s ≡ Some (Some x))
-    (b : PlainState) (keeps : KeepsSeats PlainStateRule m.frames (view_of x) b (view_of y)) (a : Pending) where
+module _ (m : Machine) (w : World) (is : IsWorldButBuffers m w) (h s : ℕ) (waits : Bool) (k : IsInKernel m w h s waits) (x y : SlotProcess) (place : slice_get m.slots.items s ≡ Some (Some x))
+    (b : PlainState) (keeps : KeepsSeats PlainStateInvariant m.frames (view_of x) b (view_of y)) (a : Pending) where
   abbrev p : Process
   p = k.process
 
@@ -122,10 +122,10 @@ module _ (m : Machine) (w : World) (is : IsWorld m w) (h s : ℕ) (waits : Bool)
 
   -- it can't be
   module _ (rule : Rule) (must : MustEnd y t p a m.frames rule) where
-    pub unreached : IsWorld (record m { frames = b; slots = with_item m.slots s (Some y) }) w
+    pub unreached : IsWorldButBuffers (record m { frames = b; slots = with_item m.slots s (Some y) }) w
     unreached =
         let after = bytes_change m w is s x y p p place k.in_slot slot_process must.slot_process b keeps (λ n z there. (z, there, refl)) refl in
-        subst (λ (v : World). IsWorld (record m { frames = b; slots = with_item m.slots s (Some y) }) v)
+        subst (λ (v : World). IsWorldButBuffers (record m { frames = b; slots = with_item m.slots s (Some y) }) v)
         (ap (λ (ps : List (Option Process)). let v : World = record w { slots = ps } in v) (place_set_back w.slots s (Some p) k.in_slot)) after
 
     reaches : (why : (rule_of p a ≡ Some rule) ⊎ ((rule_of p a ≡ None) × (rule ≡ NoFrame) × WhenShared m.frames t p a (λ n. m.frames.free < n))) → resident_at_address (environment_of w s) a.access a.address (initial_progress w p) (rule_of p a) ≡ Err rule
@@ -250,9 +250,9 @@ module _ (m : Machine) (w : World) (is : IsWorld m w) (h s : ℕ) (waits : Bool)
     }
 
     world_after : (high : ℕ) → w.counter ≤ high → (gets ≡ true → w.counter < high)
-        → IsWorld (record m { frames = b; slots = with_item m.slots s (Some y) }) (record (with_process w s (with_waiting fresh_page)) { counter = high })
+        → IsWorldButBuffers (record m { frames = b; slots = with_item m.slots s (Some y) }) (record (with_process w s (with_waiting fresh_page)) { counter = high })
     world_after high order more =
-        subst (λ (fs : List File). IsWorld (record m { frames = b; slots = with_item m.slots s (Some y) }) (record (with_process w s (with_waiting fresh_page)) { counter = high; files = fs })) is.files
+        subst (λ (fs : List File). IsWorldButBuffers (record m { frames = b; slots = with_item m.slots s (Some y) }) (record (with_process w s (with_waiting fresh_page)) { counter = high; files = fs })) is.files
         (call_changes m w is s x y p (with_waiting fresh_page) has.tables place k.in_slot (has.slot_process w.counter) high (follows high order more) b keeps ((made_settles m.files w.counter from_count a.access page p).scheme ∙ is.schemes s p k.in_slot) m.files)
 
     -- each page was there, with its copy number, or has a new one
@@ -261,7 +261,7 @@ module _ (m : Machine) (w : World) (is : IsWorld m w) (h s : ℕ) (waits : Bool)
 
     -- the machine is in the world in which the model has reached it
     pub is_reached : (g : Progress) × (resident_at_address (environment_of w s) a.access a.address (initial_progress w p) (rule_of p a) ≡ Ok g)
-        × IsWorld (record m { frames = b; slots = with_item m.slots s (Some y) }) (with_progress w s (record g { process = with_waiting g.process })) × (b.free + g.taken ≡ m.frames.free) × (fresh_page ≡ g.process)
+        × IsWorldButBuffers (record m { frames = b; slots = with_item m.slots s (Some y) }) (with_progress w s (record g { process = with_waiting g.process })) × (b.free + g.taken ≡ m.frames.free) × (fresh_page ≡ g.process)
     unfolding resident_at
     is_reached =
         let few : need ≤ m.frames.free = told_of (λ n. n ≤ m.frames.free) has.enough in
@@ -271,13 +271,13 @@ module _ (m : Machine) (w : World) (is : IsWorld m w) (h s : ℕ) (waits : Bool)
         let allow : (r : Result Progress Rule) → unless_resident (environment_of w s) a.access page (initial_progress w p) (is_resident p a.access page) ≡ r → resident_at_address (environment_of w s) a.access a.address (initial_progress w p) (rule_of p a) ≡ r =
         λ r e. ap (resident_at_address (environment_of w s) a.access a.address (initial_progress w p)) has.allowed ∙ e in
         elim (is_resident p a.access page) as (λ r. is_resident p a.access page ≡ r → (g : Progress) × (resident_at_address (environment_of w s) a.access a.address (initial_progress w p) (rule_of p a) ≡ Ok g)
-        × IsWorld (record m { frames = b; slots = with_item m.slots s (Some y) }) (with_progress w s (record g { process = with_waiting g.process })) × (b.free + g.taken ≡ m.frames.free) × (fresh_page ≡ g.process)) [
+        × IsWorldButBuffers (record m { frames = b; slots = with_item m.slots s (Some y) }) (with_progress w s (record g { process = with_waiting g.process })) × (b.free + g.taken ≡ m.frames.free) × (fresh_page ≡ g.process)) [
           | true ↦ λ e.
               let stays = resident_stays w.counter page m.files from_count p a.access (get p.settled page) e in
               let none = resident_needs_none e in (
                 initial_progress w p,
                 allow (Ok (initial_progress w p)) (ap (unless_resident (environment_of w s) a.access page (initial_progress w p)) e),
-                subst (λ (q : Process). IsWorld (record m { frames = b; slots = with_item m.slots s (Some y) }) (record (with_process w s (with_waiting q)) { counter = w.counter })) stays.0
+                subst (λ (q : Process). IsWorldButBuffers (record m { frames = b; slots = with_item m.slots s (Some y) }) (record (with_process w s (with_waiting q)) { counter = w.counter })) stays.0
                     (world_after w.counter (omega arith) (λ gained. absurd (let kept = stays.1 in cc))),
                 omega (arith, left, none),
                 stays.0,
@@ -286,7 +286,7 @@ module _ (m : Machine) (w : World) (is : IsWorld m w) (h s : ℕ) (waits : Bool)
               let g : Progress = record { process = made_resident w.files w.counter shared p a.access page; fresh = w.counter + 1; taken = 0 + need } in (
                 g,
                 allow (Ok g) (ap (unless_resident (environment_of w s) a.access page (initial_progress w p)) e ∙ ap (unless_dry (environment_of w s) a.access page (initial_progress w p) need) wet),
-                subst (λ (q : Process). IsWorld (record m { frames = b; slots = with_item m.slots s (Some y) }) (record (with_process w s (with_waiting q)) { counter = w.counter + 1 })) is_models
+                subst (λ (q : Process). IsWorldButBuffers (record m { frames = b; slots = with_item m.slots s (Some y) }) (record (with_process w s (with_waiting q)) { counter = w.counter + 1 })) is_models
                     (world_after (w.counter + 1) (omega arith) (λ _. omega arith)),
                 omega (arith, left, few),
                 is_models,
@@ -311,8 +311,8 @@ module _ (m : Machine) (w : World) (is : IsWorld m w) (h s : ℕ) (waits : Bool)
         w.counter (λ n z there. is.counted s n p z k.in_slot there) (old_on (view_of y) t has.tables p (with_waiting fresh_page) w.counter (w.counter + 1) reached_follows)
 
 -- the service of an access that waits
-module _ (m : Machine) (w : World) (is : IsWorld m w) (h s : ℕ) (k : IsInKernel m w h s true) (x y : SlotProcess) (place : slice_get m.slots.items s ≡ Some (Some x))
-    (b : PlainState) (keeps : KeepsSeats PlainStateRule m.frames (view_of x) b (view_of y)) (a : Pending) (waits : (k.process).pending ≡ Some a) where
+module _ (m : Machine) (w : World) (is : IsWorldButBuffers m w) (h s : ℕ) (k : IsInKernel m w h s true) (x y : SlotProcess) (place : slice_get m.slots.items s ≡ Some (Some x))
+    (b : PlainState) (keeps : KeepsSeats PlainStateInvariant m.frames (view_of x) b (view_of y)) (a : Pending) (waits : (k.process).pending ≡ Some a) where
   -- it is what the model makes of how far it came
   serves_by : (r : Result Progress Rule) → resident_at_address (environment_of w s) a.access a.address (initial_progress w k.process) (rule_of k.process a) ≡ r
       → served w h (hart_of k.hart) s k.process (k.process).pending ≡ served_or_ended w h (hart_of k.hart) s k.process a r
@@ -359,7 +359,7 @@ module _ (m : Machine) (w : World) (is : IsWorld m w) (h s : ℕ) (k : IsInKerne
 -- by what the process's call told
 
 module _ (m : Machine) (s : ℕ) (x y : SlotProcess) (place : (w : World) (h : ℕ) → IsInKernel m w h s true → slice_get m.slots.items s ≡ Some (Some x))
-    (b : PlainState) (keeps : KeepsSeats PlainStateRule m.frames (view_of x) b (view_of y)) (files : List File) (stay : files ≡ m.files) where
+    (b : PlainState) (keeps : KeepsSeats PlainStateInvariant m.frames (view_of x) b (view_of y)) (files : List File) (stay : files ≡ m.files) where
   abbrev after : Machine
   after = record m { frames = b; slots = with_item m.slots s (Some y); files = files }
 
@@ -367,7 +367,7 @@ module _ (m : Machine) (s : ℕ) (x y : SlotProcess) (place : (w : World) (h : �
   files_are P it = subst (λ (fs : List File). P (record m { frames = b; slots = with_item m.slots s (Some y); files = fs })) (sym stay) it
 
   pub served_by : (r : Result Bool Rule) → IfOk r (λ _. (t : Tables) (p : Process) (a : Pending) → IsSlotProcess x t p → p.pending ≡ Some a → HasServed x y t p a (was_served a) m.files m.frames b)
-      → IfOk r (λ _. (w : World) (h : ℕ) → IsWorld m w → (k : IsInKernel m w h s true) → IsModelOutcome after (Scalar Ready) (served w h (hart_of k.hart) s k.process (k.process).pending))
+      → IfOk r (λ _. (w : World) (h : ℕ) → IsWorldButBuffers m w → (k : IsInKernel m w h s true) → IsModelOutcome after (Scalar Ready) (served w h (hart_of k.hart) s k.process (k.process).pending))
   served_by (Err e) told = tt
   served_by (Ok u) told = λ w h is k.
       let a = some_pending (k.process).pending k.unserved in
@@ -377,7 +377,7 @@ module _ (m : Machine) (s : ℕ) (x y : SlotProcess) (place : (w : World) (h : �
 
   pub marked_by : (r : Result Bool Rule) → IfOk r (λ _. (t : Tables) (p : Process) (a : Pending) → IsSlotProcess x t p → p.pending ≡ Some a → HasServed x y t p a (was_served a) m.files m.frames b)
       → IfOk r (λ told. (t : Tables) (p : Process) (a : Pending) → IsSlotProcess x t p → p.pending ≡ Some a → told ≡ not (is_resident p a.access (page_of a.address)))
-      → IfOk r (λ told. (w : World) (h : ℕ) → IsWorld m w → (k : IsInKernel m w h s true) → AreMarked w (served w h (hart_of k.hart) s k.process (k.process).pending) (slot_if s told) None)
+      → IfOk r (λ told. (w : World) (h : ℕ) → IsWorldButBuffers m w → (k : IsInKernel m w h s true) → AreMarked w (served w h (hart_of k.hart) s k.process (k.process).pending) (slot_if s told) None)
   marked_by (Err e) served tells = tt
   marked_by (Ok told) served tells = λ w h is k.
       let a = some_pending (k.process).pending k.unserved in
@@ -387,7 +387,7 @@ module _ (m : Machine) (s : ℕ) (x y : SlotProcess) (place : (w : World) (h : �
 
   pub tables_by : (r : Result Bool Rule) → IfOk r (λ _. (t : Tables) (p : Process) (a : Pending) → IsSlotProcess x t p → p.pending ≡ Some a → HasServed x y t p a (was_served a) m.files m.frames b)
       → y.space.trapframe ≡ x.space.trapframe
-      → IfOk r (λ _. (w : World) (h : ℕ) → IsWorld m w → (k : IsInKernel m w h s true) → KeepsTables m after w.slots (served w h (hart_of k.hart) s k.process (k.process).pending).world.slots)
+      → IfOk r (λ _. (w : World) (h : ℕ) → IsWorldButBuffers m w → (k : IsInKernel m w h s true) → KeepsTables m after w.slots (served w h (hart_of k.hart) s k.process (k.process).pending).world.slots)
   tables_by (Err e) told trapframe = tt
   tables_by (Ok u) told trapframe = λ w h is k.
       let a = some_pending (k.process).pending k.unserved in
@@ -396,7 +396,7 @@ module _ (m : Machine) (s : ℕ) (x y : SlotProcess) (place : (w : World) (h : �
       (keeps_leaves m w is h s k x y at b keeps a.0 a.1 (told (is.tables s) k.process a.0 (tenant_is m w is s x k.process at k.in_slot) a.1) trapframe)
 
   pub ending_by : (r : Result Bool Rule) → IfErr r (λ rule. (t : Tables) (p : Process) (a : Pending) → IsSlotProcess x t p → p.pending ≡ Some a → MustEnd y t p a m.frames rule)
-      → IfErr r (λ rule. (w : World) (h : ℕ) → IsWorld m w → (k : IsInKernel m w h s true) → IsEnding m after w h s k rule)
+      → IfErr r (λ rule. (w : World) (h : ℕ) → IsWorldButBuffers m w → (k : IsInKernel m w h s true) → IsEnding m after w h s k rule)
   ending_by (Ok u) told = tt
   ending_by (Err rule) told = λ w h is k.
       let a = some_pending (k.process).pending k.unserved in

@@ -9,7 +9,7 @@ use Rattle.process_model.specs.Frames.{has_copy, live}
 use Rattle.process_model.specs.PageMap.{get}
 use Rattle.process_model.specs.Process.{Page, Process}
 use Rattle.process_model.specs.World.{others_have, World}
-use Rattle.hart_machine.specs.Worlds.{IsWorld}
+use Rattle.hart_machine.specs.Worlds.{IsWorldButBuffers}
 use Rattle.hart_machine.specs.declared.machine.Machine.{Machine}
 use Rattle.hart_machine.proofs.HeldFrames.{count_of_page}
 use Rattle.hart_machine.proofs.PageCopies.{among_has, copy_of_page}
@@ -41,7 +41,7 @@ module _ (P : Process → Bool) where
   ] refl
 
 -- another process has the page exactly where its frame has not one reference
-pub others_have_page : (m : Machine) (w : World) (is : IsWorld m w) (s n f : ℕ) (p : Process) (a : Page) → slice_get w.slots s ≡ Some (Some p) → get p.settled n ≡ Some a → IsFrameOfPage (is.tables s) n f
+pub others_have_page : (m : Machine) (w : World) (is : IsWorldButBuffers m w) (s n f : ℕ) (p : Process) (a : Page) → slice_get w.slots s ≡ Some (Some p) → get p.settled n ≡ Some a → IsFrameOfPage (is.tables s) n f
     → others_have w s a.copy ≡ not (slice_index m.frames.counts f == 1)
 others_have_page m w is s n f p a at settled on =
     let own : has_copy a.copy p ≡ true = among_has a.copy p (copy_of_page p n a settled) in

@@ -3,7 +3,7 @@ use Rattle.std.proofs.Common.{◌≡◌, ℕ, ℤ, false, Option, None, Some, Li
 use Rattle.std.specs.Prelude.{Err, IfErr, IfOk, Ok, Result, slice_get, slice_set}
 use Rattle.std.specs.Vec.{with_item}
 use Rattle.frame_store.specs.Laws.{KeepsSeats}
-use Rattle.frame_store.specs.Plain.{PlainState, PlainStateRule}
+use Rattle.frame_store.specs.Plain.{PlainState, PlainStateInvariant}
 use Rattle.lazy_growth.specs.SbrkResults.{size_before}
 use Rattle.process_model.specs.Bytes.{pages_for}
 use Rattle.process_model.specs.Calls.{resized_to}
@@ -22,7 +22,7 @@ use Rattle.process_model.specs.declared.step.Step.TheVariants as step
 use Rattle.table_walk.specs.Tables.{Tables}
 use Rattle.hart_machine.specs.Calls.{Follows, HasResized, IsCaller, size_of, size_or_refused}
 use Rattle.hart_machine.specs.SlotProcesses.{IsSlotProcess, view_of}
-use Rattle.hart_machine.specs.Worlds.{IsWorld, IsModelOutcome}
+use Rattle.hart_machine.specs.Worlds.{IsWorldButBuffers, IsModelOutcome}
 use Rattle.hart_machine.specs.declared.machine.Machine.{Machine}
 use Rattle.hart_machine.specs.declared.slot_process.SlotProcess.{SlotProcess}
 use Rattle.hart_machine.proofs.Calling.{call_runs}
@@ -55,7 +55,7 @@ refusal_is : (p : Process) (e : Refusal) (z : Result Process Refusal) → Err e 
 refusal_is p e (Ok r) answer = absurd (cc)
 refusal_is p e (Err x) answer = cc
 
-module _ (m : Machine) (w : World) (is : IsWorld m w) (h s : ℕ) (caller : IsCaller m w h s) (x y : SlotProcess) (place : slice_get m.slots.items s ≡ Some (Some x)) (delta : ℤ) (b : PlainState) where
+module _ (m : Machine) (w : World) (is : IsWorldButBuffers m w) (h s : ℕ) (caller : IsCaller m w h s) (x y : SlotProcess) (place : slice_get m.slots.items s ≡ Some (Some x)) (delta : ℤ) (b : PlainState) where
   size_step : (p : Process) → slice_get w.slots s ≡ Some (Some p) → plain_step w (step.Sbrk h delta) ≡ resized_to w s p (sbrk_result p delta)
   size_step p at = call_runs m w is h s false caller (λ hart k q. resized_to w k q (sbrk_result q delta)) p at
 
@@ -76,7 +76,7 @@ module _ (m : Machine) (w : World) (is : IsWorld m w) (h s : ℕ) (caller : IsCa
   -- the heap of the caller's process grows or shrinks
   pub sizes : {A : Type 0} (r : Result (ℕ × A) Refusal) → ((t : Tables) (p : Process) → IsSlotProcess x t p → size_of r ≡ size_before p (sbrk_result p delta))
       → IfOk r (λ _. (t : Tables) (p : Process) → IsSlotProcess x t p → HasResized y t p delta) → IfErr r (λ _. y ≡ x) → IfErr r (λ _. b ≡ m.frames)
-      → KeepsSeats PlainStateRule m.frames (view_of x) b (view_of y)
+      → KeepsSeats PlainStateInvariant m.frames (view_of x) b (view_of y)
       → IsModelOutcome (record m { frames = b; slots = with_item m.slots s (Some y) }) (size_or_refused r) (plain_step w (step.Sbrk h delta))
   sizes (Ok (n, a)) answer told same frames_stay keeps =
       let q = process_at m w is s x place in
@@ -84,7 +84,7 @@ module _ (m : Machine) (w : World) (is : IsWorld m w) (h s : ℕ) (caller : IsCa
       let after = call_changes m w is s x y q.0 (without_pending has.process) has.tables place q.1 has.slot_process w.counter (follows q.0 q.1 has) b keeps (sbrk_scheme q.0 delta has.process has.is ∙ is.schemes s q.0 q.1) m.files in
       subst (λ (o : StepOutcome). IsModelOutcome (record m { frames = b; slots = with_item m.slots s (Some y) }) (Scalar (OldSize n)) o) (sym (size_step q.0 q.1 ∙ ap (resized_to w s q.0) has.is)) (
         ap (λ x. Scalar (OldSize x)) (size_is q.0 has.process n (sbrk_result q.0 delta) (answer (is.tables s) q.0 q.2) has.is),
-        subst (λ (fs : List File). IsWorld (record m { frames = b; slots = with_item m.slots s (Some y) }) (record (with_process w s (without_pending has.process)) { files = fs })) is.files after,
+        subst (λ (fs : List File). IsWorldButBuffers (record m { frames = b; slots = with_item m.slots s (Some y) }) (record (with_process w s (without_pending has.process)) { files = fs })) is.files after,
       )
   sizes (Err e) answer told same frames_stay keeps =
       let q = process_at m w is s x place in

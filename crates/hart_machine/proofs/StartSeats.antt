@@ -15,7 +15,7 @@ use Rattle.frame_store.specs.ViewJoin.{hold_of-joined}
 use Rattle.frame_store.specs.Laws.{IsAnchored}
 use Rattle.frame_store.specs.View.{Hold, View, hold_of, joined, references, released, with_hold}
 use Rattle.hart_machine.specs.SlotProcesses.{view_of}
-use Rattle.hart_machine.specs.Worlds.{IsSlotContent, IsWorld, seats_of}
+use Rattle.hart_machine.specs.Worlds.{IsSlotContent, IsWorldButBuffers, seats_of}
 use Rattle.hart_machine.specs.declared.machine.Machine.{Machine}
 use Rattle.hart_machine.specs.declared.slot_process.SlotProcess.{SlotProcess}
 use Rattle.process_model.specs.Process.{Process}
@@ -68,7 +68,7 @@ as_many (Some None) None t a is place none = place
 as_many (Some (Some x)) None t a is place none = place
 as_many (Some x) (Some p) t a is place none = absurd (cc)
 
-module _ (m : Machine) (w : World) (is : IsWorld m w) where
+module _ (m : Machine) (w : World) (is : IsWorldButBuffers m w) where
   few_places : length m.slots.items ≤ 64
   few_places = elim (cases_lt 64 (length m.slots.items)) [
     | inl more ↦ absurd (as_many _ _ (is.tables 64) _ (slice_get-get_or m.slots.items 64 None more) (is.places 64) (slice_get_past w.slots 64 is.of_kernel.few_slots))
@@ -80,7 +80,7 @@ module _ (m : Machine) (w : World) (is : IsWorld m w) where
   few_shared f =
       let few = few_places in
       let seats = seats_total f m.slots.items (λ i x at. names_once f _ _ (is.tables i) x at (is.places i)) in
-      let all = is.rule.counted f in
+      let all = is.invariant.counted f in
       let own = kernel_once f m.kernel.seat is.stacks is.kernel.tables is.of_kernel.maps.holds in
       omega (arith, few, seats, all, own)
 

@@ -5,7 +5,7 @@ use Rattle.std.specs.Prelude.{slice_get}
 use Rattle.std.specs.Vec.{vec_len}
 use Rattle.std.proofs.lemmas.Bool.{cases_eq}
 use Rattle.std.proofs.lemmas.Option.{same_Some, slice_get-get_or, slice_get_within}
-use Rattle.hart_machine.specs.Worlds.{IsSlotContent, IsWorld}
+use Rattle.hart_machine.specs.Worlds.{IsSlotContent, IsWorldButBuffers}
 use Rattle.hart_machine.specs.declared.machine.Machine.{Machine}
 use Rattle.hart_machine.specs.declared.slot_process.SlotProcess.{SlotProcess}
 use Rattle.process_model.specs.Process.{Process}
@@ -56,17 +56,17 @@ empty_back None (Some None) t is place = absurd place
 empty_back (Some None) (Some None) t is place = refl
 empty_back (Some (Some y)) (Some None) t is place = absurd place
 
-pub free_place : (m : Machine) (w : World) → IsWorld m w → (s : ℕ) → free_slot w ≡ Some s → slice_get m.slots.items s ≡ Some None
+pub free_place : (m : Machine) (w : World) → IsWorldButBuffers m w → (s : ℕ) → free_slot w ≡ Some s → slice_get m.slots.items s ≡ Some None
 free_place m w is s e = empty_back _ _ (is.tables s) (free_is_empty w s e) (is.places s)
 
-pub free_within : (m : Machine) (w : World) → IsWorld m w → (s : ℕ) → free_slot w ≡ Some s → s < vec_len m.slots
+pub free_within : (m : Machine) (w : World) → IsWorldButBuffers m w → (s : ℕ) → free_slot w ≡ Some s → s < vec_len m.slots
 free_within m w is s e = subst (λ n. s < n) (sym m.slots.ok.0) (slice_get_within m.slots.items s None (free_place m w is s e))
 
 module _ (m : Machine) (k : ℕ) (below : (i : ℕ) → i < k → (x : SlotProcess) × (slice_get m.slots.items i ≡ Some (Some x))) where
-  pub first_free : slice_get m.slots.items k ≡ Some None → (w : World) → IsWorld m w → Some k ≡ free_slot w
+  pub first_free : slice_get m.slots.items k ≡ Some None → (w : World) → IsWorldButBuffers m w → Some k ≡ free_slot w
   first_free at w is = sym (lowest_is w.slots 0 k (λ i lt. let x = below i lt in process_at _ _ (is.tables i) x.0 x.1 (is.places i)) (empty_at _ _ (is.tables k) at (is.places k)) ∙ ap (λ i. Some i) (omega arith))
 
-  pub all_taken : length m.slots.items ≡ k → (w : World) → IsWorld m w → None ≡ free_slot w
+  pub all_taken : length m.slots.items ≡ k → (w : World) → IsWorldButBuffers m w → None ≡ free_slot w
   all_taken whole w is = sym (none_free w.slots 0 (λ i at.
       let here = empty_back _ _ (is.tables i) at (is.places i) in
       let lt = slice_get_within m.slots.items i None here in

@@ -7,7 +7,7 @@ use Rattle.std.proofs.lemmas.Bool.{cases_eq}
 use Rattle.std.proofs.lemmas.Option.{same_Some, slice_get_within}
 use Rattle.address_space.specs.Agreement.{IsFrameOfPage, no_extra, IsInMemory}
 use Rattle.address_space.specs.Parts.{OwnsAlone}
-use Rattle.frame_store.specs.Plain.{PlainState, PlainStateRule}
+use Rattle.frame_store.specs.Plain.{PlainState, PlainStateInvariant}
 use Rattle.frame_store.specs.Seats.{place_set_other, place_set_same}
 use Rattle.frame_store.specs.View.{references, View}
 use Rattle.process_model.specs.Images.{LoadSegment}
@@ -17,7 +17,7 @@ use Rattle.process_model.specs.Process.{Page, Process}
 use Rattle.process_model.specs.World.{World}
 use Rattle.table_walk.specs.Tables.{Tables, leaf_node}
 use Rattle.hart_machine.specs.SlotProcesses.{IsSlotProcess, view_of}
-use Rattle.hart_machine.specs.Worlds.{AreCounted, HaveCopies, IsWorld, seats_of}
+use Rattle.hart_machine.specs.Worlds.{AreCounted, HaveCopies, IsWorldButBuffers, seats_of}
 use Rattle.hart_machine.specs.declared.machine.Machine.{Machine}
 use Rattle.hart_machine.specs.declared.slot_process.SlotProcess.{SlotProcess}
 use Rattle.hart_machine.proofs.HartSteps.{process_at, tenant_at}
@@ -25,7 +25,7 @@ use Rattle.hart_machine.proofs.StartedTables.{tables_here, tables_there, tables_
 use Rattle.hart_machine.proofs.StartedPages.{copies_above, copies_below, copies_once, one_frame, one_page, page_no_code}
 use Rattle.hart_machine.proofs.StartedSeats.{sole_apart}
 
-module _ (m : Machine) (w : World) (is : IsWorld m w) where
+module _ (m : Machine) (w : World) (is : IsWorldButBuffers m w) where
   -- what stands in memory for the process of a slot
   pub tenant_in : (j : ℕ) (q : Process) → slice_get w.slots j ≡ Some (Some q) → (x : SlotProcess) × (slice_get m.slots.items j ≡ Some (Some x)) × IsSlotProcess x (is.tables j) q
   tenant_in j q at =
@@ -33,7 +33,7 @@ module _ (m : Machine) (w : World) (is : IsWorld m w) where
       let p = process_at m w is j x.0 x.1 in
       (x.0, x.1, subst (λ (z : Process). IsSlotProcess x.0 (is.tables j) z) (same_Some p.0 q (same_Some _ _ (sym p.1 ∙ at))) p.2)
 
-module _ (m : Machine) (w : World) (is : IsWorld m w) (s : ℕ) (at : slice_get w.slots s ≡ Some None) (ls : List LoadSegment) where
+module _ (m : Machine) (w : World) (is : IsWorldButBuffers m w) (s : ℕ) (at : slice_get w.slots s ≡ Some None) (ls : List LoadSegment) where
   -- a process of the new world is the new one, or was there
   pub new_or_old : (i : ℕ) (r : Process) → slice_get (slice_set w.slots s (Some (process_of w.scheme w.counter ls))) i ≡ Some (Some r)
       → ((i ≡ s) × (process_of w.scheme w.counter ls ≡ r)) ⊎ ((i ≡ s → ⊥) × (slice_get w.slots i ≡ Some (Some r)))
@@ -48,7 +48,7 @@ module _ (m : Machine) (w : World) (is : IsWorld m w) (s : ℕ) (at : slice_get 
     | inr old ↦ (let low = is.counted i n r a old.1 has in omega (arith, low))
   ]
 
-  module _ (b : PlainState) (k v : View) (rule : PlainStateRule b (k ∷ v ∷ seats_of m.slots.items)) (root trapframe : ℕ) (t : Tables)
+  module _ (b : PlainState) (k v : View) (rule : PlainStateInvariant b (k ∷ v ∷ seats_of m.slots.items)) (root trapframe : ℕ) (t : Tables)
       (stands : IsInMemory v root trapframe no_extra t (process_of w.scheme w.counter ls)) (alone : OwnsAlone v t) where
     -- a page of the new process and one of another have two frames
     frames_apart : (j n l f g : ℕ) (q : Process) (a c : Page) → slice_get w.slots j ≡ Some (Some q) → pages.get (process_of w.scheme w.counter ls).settled n ≡ Some a → IsFrameOfPage t n f

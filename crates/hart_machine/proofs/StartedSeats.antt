@@ -10,7 +10,7 @@ use Rattle.address_space.specs.Kernel.{IsKernelTable}
 use Rattle.frame_store.specs.SeatOpening.{opened, opener}
 use Rattle.frame_store.specs.Holds.{hold_of-empty, hold_of-with_hold_other, hold_of-with_hold_same}
 use Rattle.frame_store.specs.Laws.{IsSeatOf, KeepsSeats}
-use Rattle.frame_store.specs.Plain.{Agrees, PlainState, PlainStateRule, to_back, to_front, total_references}
+use Rattle.frame_store.specs.Plain.{Agrees, PlainState, PlainStateInvariant, to_back, to_front, total_references}
 use Rattle.frame_store.specs.Seats.{place_in}
 use Rattle.frame_store.specs.View.{empty_view, Hold, hold_of, IsSole, opening_view, references, sole_hold, View}
 use Rattle.hart_machine.specs.SlotProcesses.{view_of}
@@ -58,15 +58,15 @@ module _ (m n : Machine) (opens : n.kernel ≡ record m.kernel { seat = opener m
   open_kernel frames slots stacks t k = rw opens (opener_kernel m.kernel.seat m.kernel.scheme m.kernel.root.0 frames slots stacks t k)
 
 -- the seat behind the kernel's steps
-pub second_steps : (b c : PlainState) (k v w : View) (others : List View) → KeepsSeats PlainStateRule b v c w → PlainStateRule b (k ∷ v ∷ others) → PlainStateRule c (k ∷ w ∷ others)
+pub second_steps : (b c : PlainState) (k v w : View) (others : List View) → KeepsSeats PlainStateInvariant b v c w → PlainStateInvariant b (k ∷ v ∷ others) → PlainStateInvariant c (k ∷ w ∷ others)
 second_steps b c k v w others keeps rule = to_back c.words c.counts c.free (k ∷ []) w others (keeps (k ∷ others) (to_front b.words b.counts b.free (k ∷ []) v others rule))
 
-pub second_fits : (b : PlainState) (k v : View) (others : List View) → PlainStateRule b (k ∷ v ∷ others) → IsSeatOf PlainStateRule b v
+pub second_fits : (b : PlainState) (k v : View) (others : List View) → PlainStateInvariant b (k ∷ v ∷ others) → IsSeatOf PlainStateInvariant b v
 second_fits b k v others rule = (k ∷ others, to_front b.words b.counts b.free (k ∷ []) v others rule)
 
 -- the seat behind the kernel's goes to an empty place
-pub seat_comes : (b : PlainState) (k : View) (places : List (Option SlotProcess)) (s : ℕ) (y : SlotProcess) → slice_get places s ≡ Some None → PlainStateRule b (k ∷ view_of y ∷ seats_of places)
-    → PlainStateRule b (k ∷ seats_of (slice_set places s (Some y)))
+pub seat_comes : (b : PlainState) (k : View) (places : List (Option SlotProcess)) (s : ℕ) (y : SlotProcess) → slice_get places s ≡ Some None → PlainStateInvariant b (k ∷ view_of y ∷ seats_of places)
+    → PlainStateInvariant b (k ∷ seats_of (slice_set places s (Some y)))
 seat_comes b k places s y at rule = place_in (Holds b k) places s (holds_back b k) y at rule
 
 -- references of one process are among all
@@ -79,7 +79,7 @@ among_all f (Some x ∷ places) zero z at =
     omega (arith, here)
 among_all f (Some x ∷ places) (suc j) z at = let rest = among_all f places j z at in omega (arith, rest)
 
-module _ (b : PlainState) (k v : View) (places : List (Option SlotProcess)) (rule : PlainStateRule b (k ∷ v ∷ seats_of places)) where
+module _ (b : PlainState) (k v : View) (places : List (Option SlotProcess)) (rule : PlainStateInvariant b (k ∷ v ∷ seats_of places)) where
   -- a frame that the new seat holds alone no other process has
   pub sole_apart : (f j : ℕ) (z : SlotProcess) → IsSole v f → slice_get places j ≡ Some (Some z) → references (view_of z) f ≡ 0
   sole_apart f j z sole at =

@@ -9,7 +9,7 @@ use Rattle.std.proofs.lemmas.Option.{slice_get_within}
 use Rattle.address_space.specs.Agreement.{IsSpace}
 use Rattle.address_space.specs.Kernel.{IsKernelTable}
 use Rattle.address_space.specs.Parts.{OwnsAlone}
-use Rattle.frame_store.specs.Plain.{PlainStateRule}
+use Rattle.frame_store.specs.Plain.{PlainStateInvariant}
 use Rattle.frame_store.specs.Seats.{place_set_other, place_set_same, places_apart}
 use Rattle.process_model.specs.Calls.{started, started_unless, with_image}
 use Rattle.process_model.specs.Frames.{start_need}
@@ -25,7 +25,7 @@ use Rattle.process_model.specs.Process.{Process}
 use Rattle.table_walk.specs.Tables.{Tables, leaf_node}
 use Rattle.hart_machine.specs.SlotProcesses.{IsSlotProcess, body_in, view_of}
 use Rattle.process_model.specs.declared.limits.TheConstants.{MOST_SLOTS}
-use Rattle.hart_machine.specs.Worlds.{IsSlotContent, IsWorld, IsModelOutcome, seats_of}
+use Rattle.hart_machine.specs.Worlds.{IsSlotContent, IsWorldButBuffers, IsModelOutcome, seats_of}
 use Rattle.hart_machine.specs.declared.hart.Hart.{Hart}
 use Rattle.hart_machine.specs.declared.machine.Machine.{Machine}
 use Rattle.hart_machine.specs.declared.slot_process.SlotProcess.{SlotProcess}
@@ -37,10 +37,10 @@ use Rattle.hart_machine.proofs.StartedSeats.{held_inside, seat_comes}
 use Rattle.hart_machine.proofs.StartedPages.{loaded_scheme}
 use Rattle.sv39_entry.specs.Schemes.{trapframe_page}
 
-module _ (m n : Machine) (w : World) (is : IsWorld m w) (s : ℕ) (place : slice_get m.slots.items s ≡ Some None) (at : slice_get w.slots s ≡ Some None)
+module _ (m n : Machine) (w : World) (is : IsWorldButBuffers m w) (s : ℕ) (place : slice_get m.slots.items s ≡ Some None) (at : slice_get w.slots s ≡ Some None)
     (ls : List LoadSegment) (y : SlotProcess) (t : Tables) (sized : n.kernel.seat.size ≡ m.kernel.seat.size) (slots : n.slots.items ≡ slice_set m.slots.items s (Some y)) (harts : n.harts ≡ m.harts) (filed : n.files ≡ m.files) (ruled : n.policy ≡ m.policy) (schemed : n.kernel.scheme ≡ m.kernel.scheme)
     (agrees : IsSpace (body_in y) t (process_of w.scheme w.counter ls)) (alone : OwnsAlone (view_of y) t) (pending : y.pending ≡ None)
-    (rule : PlainStateRule n.frames (n.kernel.seat ∷ view_of y ∷ seats_of m.slots.items))
+    (rule : PlainStateInvariant n.frames (n.kernel.seat ∷ view_of y ∷ seats_of m.slots.items))
     (table : IsKernelTable n.kernel.scheme n.kernel.seat n.kernel.root.0 w.frames (length w.slots) is.stacks is.kernel) where
   abbrev tables : ℕ → Tables
   tables = tables_with is.tables s t
@@ -72,7 +72,7 @@ module _ (m n : Machine) (w : World) (is : IsWorld m w) (s : ℕ) (place : slice
   hosted_at : (h k : ℕ) (x : Hart) → slice_get m.harts.items h ≡ Some x → x.slot ≡ Some k → (z : SlotProcess) × (slice_get (slice_set m.slots.items s (Some y)) k ≡ Some (Some z))
   hosted_at h k x on slot = let z = is.hosted h k x on slot in (z.0, place_set_other m.slots.items s k (Some y) (apart_of h k x on slot) ∙ z.1)
 
-  pub starts : IsWorld n (with_image w s ls)
+  pub starts : IsWorldButBuffers n (with_image w s ls)
   starts = record {
     tables = tables;
     kernel = is.kernel;
@@ -85,7 +85,7 @@ module _ (m n : Machine) (w : World) (is : IsWorld m w) (s : ℕ) (place : slice
     ];
     few = subst (λ k. k ≤ MOST_SLOTS) (sym (length-set w.slots s (Some (process_of w.scheme w.counter ls)))) is.few;
     frames = sized ∙ is.frames;
-    rule = subst (λ (xs : List (Option SlotProcess)). PlainStateRule n.frames (n.kernel.seat ∷ seats_of xs)) (sym slots) (seat_comes n.frames n.kernel.seat m.slots.items s y place rule);
+    invariant = subst (λ (xs : List (Option SlotProcess)). PlainStateInvariant n.frames (n.kernel.seat ∷ seats_of xs)) (sym slots) (seat_comes n.frames n.kernel.seat m.slots.items s y place rule);
     of_kernel = subst (λ k. IsKernelTable n.kernel.scheme n.kernel.seat n.kernel.root.0 w.frames k is.stacks is.kernel) (sym (length-set w.slots s (Some (process_of w.scheme w.counter ls)))) table;
     places = λ k. subst (λ (xs : List (Option SlotProcess)). IsSlotContent (slice_get xs k) (slice_get (slice_set w.slots s (Some (process_of w.scheme w.counter ls))) k) (tables k)) (sym slots) (places_at k);
     copies = started_copies m w is s at ls n.frames n.kernel.seat (view_of y) rule y.space.root.0 y.space.trapframe.0 t agrees.stands alone;
@@ -99,9 +99,9 @@ module _ (m n : Machine) (w : World) (is : IsWorld m w) (s : ℕ) (place : slice
   }
 
 -- the machine as it was, with another seat of the kernel
-module _ (m n : Machine) (w : World) (is : IsWorld m w) (sized : n.kernel.seat.size ≡ m.kernel.seat.size) (slots : n.slots ≡ m.slots) (harts : n.harts ≡ m.harts) (filed : n.files ≡ m.files) (ruled : n.policy ≡ m.policy) (schemed : n.kernel.scheme ≡ m.kernel.scheme) (rule : PlainStateRule n.frames (n.kernel.seat ∷ seats_of m.slots.items))
+module _ (m n : Machine) (w : World) (is : IsWorldButBuffers m w) (sized : n.kernel.seat.size ≡ m.kernel.seat.size) (slots : n.slots ≡ m.slots) (harts : n.harts ≡ m.harts) (filed : n.files ≡ m.files) (ruled : n.policy ≡ m.policy) (schemed : n.kernel.scheme ≡ m.kernel.scheme) (rule : PlainStateInvariant n.frames (n.kernel.seat ∷ seats_of m.slots.items))
     (table : IsKernelTable n.kernel.scheme n.kernel.seat n.kernel.root.0 w.frames (length w.slots) is.stacks is.kernel) where
-  pub stays : IsWorld n w
+  pub stays : IsWorldButBuffers n w
   stays = record {
     tables = is.tables;
     kernel = is.kernel;
@@ -111,7 +111,7 @@ module _ (m n : Machine) (w : World) (is : IsWorld m w) (sized : n.kernel.seat.s
     schemes = is.schemes;
     few = is.few;
     frames = sized ∙ is.frames;
-    rule = rw slots rule;
+    invariant = rw slots rule;
     of_kernel = table;
     places = rw slots is.places;
     copies = is.copies;
@@ -132,12 +132,12 @@ module _ (w : World) (s : ℕ) (image : model.Image) (ls : List LoadSegment) (to
   started_dry : is_dry w (start_need w.scheme ls) ≡ true → started w (image_loads w.scheme image) (free_slot w) ≡ started_unless w s ls true
   started_dry dry = rw (to, loaded, dry) refl
 
-  module _ (m n : Machine) (is : IsWorld m w) (sized : n.kernel.seat.size ≡ m.kernel.seat.size) (harts : n.harts ≡ m.harts) (filed : n.files ≡ m.files) (ruled : n.policy ≡ m.policy) (schemed : n.kernel.scheme ≡ m.kernel.scheme)
+  module _ (m n : Machine) (is : IsWorldButBuffers m w) (sized : n.kernel.seat.size ≡ m.kernel.seat.size) (harts : n.harts ≡ m.harts) (filed : n.files ≡ m.files) (ruled : n.policy ≡ m.policy) (schemed : n.kernel.scheme ≡ m.kernel.scheme)
       (table : IsKernelTable n.kernel.scheme n.kernel.seat n.kernel.root.0 w.frames (length w.slots) is.stacks is.kernel) where
     -- enough frames are free
     pub makes_started : (y : SlotProcess) (t : Tables) → n.slots.items ≡ slice_set m.slots.items s (Some y)
         → IsSpace (body_in y) t (process_of w.scheme w.counter ls) → OwnsAlone (view_of y) t → y.pending ≡ None
-        → PlainStateRule n.frames (n.kernel.seat ∷ view_of y ∷ seats_of m.slots.items) → start_need w.scheme ls ≤ m.frames.free
+        → PlainStateInvariant n.frames (n.kernel.seat ∷ view_of y ∷ seats_of m.slots.items) → start_need w.scheme ls ≤ m.frames.free
         → IsModelOutcome n (Scalar (Started s)) (started w (image_loads w.scheme image) (free_slot w))
     makes_started y t slots agrees alone pending rule enough =
         let was = free_is m w is in
@@ -146,14 +146,14 @@ module _ (w : World) (s : ℕ) (image : model.Image) (ls : List LoadSegment) (to
         (refl, starts m n w is s (free_place m w is s to) (free_is_empty w s to) ls y t sized slots harts filed ruled schemed agrees alone pending rule table)
 
     -- too few are
-    pub makes_refused : n.slots ≡ m.slots → PlainStateRule n.frames (n.kernel.seat ∷ seats_of m.slots.items) → (start_need w.scheme ls ≤ m.frames.free → ⊥)
+    pub makes_refused : n.slots ≡ m.slots → PlainStateInvariant n.frames (n.kernel.seat ∷ seats_of m.slots.items) → (start_need w.scheme ls ≤ m.frames.free → ⊥)
         → IsModelOutcome n (Scalar (Refused NoFrame)) (started w (image_loads w.scheme image) (free_slot w))
     makes_refused slots rule few =
         let was = free_is m w is in
         let dry : is_dry w (start_need w.scheme ls) ≡ true = lt-ltb (free w) (start_need w.scheme ls) (lt_of_not-le (λ le. few (omega (arith, was, le)))) in
         subst (λ (o : StepOutcome). IsModelOutcome n (Scalar (Refused NoFrame)) o) (sym (started_dry dry)) (refl, stays m n w is sized slots harts filed ruled schemed rule table)
 
-  module _ (m : Machine) (is : IsWorld m w) where
+  module _ (m : Machine) (is : IsWorldButBuffers m w) where
     pub start_sets : start_need w.scheme ls ≤ m.frames.free → ((started w (image_loads w.scheme image) (free_slot w)).world).slots ≡ slice_set w.slots s (Some (process_of w.scheme w.counter ls))
     start_sets enough = let was = free_is m w is in ap (λ (o : StepOutcome). (o.world).slots) (started_wet (le-ltb (free w) (start_need w.scheme ls) (omega (arith, enough, was))))
 

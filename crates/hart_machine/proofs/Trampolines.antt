@@ -36,7 +36,7 @@ use Rattle.hart_machine.specs.Tables.{IsTranslated}
 use Rattle.table_walk.specs.Leaves.{answer, lands, Leaf, leaf_at, walk_answer}
 use Rattle.table_walk.specs.Nodes.{low_leaf}
 use Rattle.hart_machine.specs.BufferEntries.{IsTrampolineLeaf}
-use Rattle.hart_machine.specs.Worlds.{IsWorld, IsModelOutcome}
+use Rattle.hart_machine.specs.Worlds.{IsWorldButBuffers, IsModelOutcome}
 use Rattle.hart_machine.specs.declared.hart.Hart.{Hart}
 use Rattle.hart_machine.specs.declared.machine.Machine.{Machine}
 use Rattle.hart_machine.proofs.HartSteps.{HasHart, impossible, improper, makes, process_at, refused, runs, without_entry, without_hart}
@@ -121,7 +121,7 @@ module _ (z : Scheme) (offset : ℕ) (low : offset < 4096) where
       let lets : permits Supervisor Fetch word ≡ true = rw (made.for_user, made.execute, made.accessed) refl in
       (word, is ∙ ap (λ (o : Option Leaf). answer o address Fetch Supervisor) is_leaf ∙ rw lets refl, made.names)
 
-  module _ (m : Machine) (w : World) (is : IsWorld m w) (same : m.kernel.scheme ≡ z) (h : ℕ) (x : Hart) (at : slice_get m.harts.items h ≡ Some x) (walked : Walk)
+  module _ (m : Machine) (w : World) (is : IsWorldButBuffers m w) (same : m.kernel.scheme ≡ z) (h : ℕ) (x : Hart) (at : slice_get m.harts.items h ≡ Some x) (walked : Walk)
       (served : IsTranslated z x is.tables is.kernel address Fetch Supervisor walked) where
     is_fetched : IsFetched walked
     is_fetched = elim served [
@@ -153,7 +153,7 @@ module _ (z : Scheme) (offset : ℕ) (low : offset < 4096) where
 is_proper : (offset : ℕ) → offset % 4 ≡ 0 → offset < 4096 → (offset % 4 == 0 && nat_lt offset 4096) ≡ true
 is_proper offset aligned low = rw (eq-eqb (offset % 4) 0 aligned) (grind (arith, low))
 
-module _ (m : Machine) (w : World) (is : IsWorld m w) (h offset : ℕ) (via : Option ℕ) where
+module _ (m : Machine) (w : World) (is : IsWorldButBuffers m w) (h offset : ℕ) (via : Option ℕ) where
   abbrev fetches : Refusal → Type 0
   fetches r = IsModelOutcome m (Scalar (Refused r)) (plain_step w (step.TrampolineFetch h offset via))
 
@@ -174,7 +174,7 @@ module _ (m : Machine) (w : World) (is : IsWorld m w) (h offset : ℕ) (via : Op
     elsewhere fails = refused m w is (Impossible p) _
         (impossible w h _ (λ x. model.in_trampoline x.phase) _ _ (hart_of has.hart) has.in_model (is_proper offset aligned low) (ap model.in_trampoline has.phased ∙ fails) ∙ ap (λ q. refuses w (Impossible q)) has.phased)
 
-    module _ (inside : model.in_trampoline p ≡ true) (n : Machine) (after : IsWorld n w) where
+    module _ (inside : model.in_trampoline p ≡ true) (n : Machine) (after : IsWorldButBuffers n w) where
       pub no_entry : entry_serves m.policy (hart_of has.hart) (4096 * trampoline_page w.scheme + offset) via ≡ false → IsModelOutcome n (Scalar (Refused NoEntry)) (plain_step w (step.TrampolineFetch h offset via))
       no_entry fails = refused n w after NoEntry _
           (without_entry w h _ (λ x. model.in_trampoline x.phase) (λ x. entry_serves w.policy x (4096 * trampoline_page w.scheme + offset) via) _ (hart_of has.hart) has.in_model (is_proper offset aligned low)

@@ -13,7 +13,7 @@ use Rattle.process_model.specs.declared.reply.ScalarReply.TheVariants.{Done, Ref
 use Rattle.process_model.specs.declared.reply.Reply.TheVariants.{Scalar}
 use Rattle.process_model.specs.declared.step.Step.TheVariants as step
 use Rattle.hart_machine.specs.Harts.{hart_of}
-use Rattle.hart_machine.specs.Worlds.{IsWorld, IsModelOutcome}
+use Rattle.hart_machine.specs.Worlds.{IsWorldButBuffers, IsModelOutcome}
 use Rattle.hart_machine.specs.declared.hart.Hart.{Hart}
 use Rattle.hart_machine.specs.declared.machine.Machine.{Machine}
 use Rattle.hart_machine.specs.declared.slot_process.SlotProcess.{SlotProcess}
@@ -30,7 +30,7 @@ user_is phase.Kernel e = absurd (cc)
 user_is phase.Leave1 e = absurd (cc)
 user_is phase.Leave2 e = absurd (cc)
 
-module _ (m : Machine) (w : World) (is : IsWorld m w) (h : ℕ) (p : Phase) (has : HasHart m w h p) where
+module _ (m : Machine) (w : World) (is : IsWorldButBuffers m w) (h : ℕ) (p : Phase) (has : HasHart m w h p) where
   pub slot_there : (o : Option ℕ) → o ≡ option_and_then (λ x. x.slot) (slice_get m.harts.items h) → has.hart.slot ≡ o
   slot_there o e = sym (e ∙ ap (option_and_then (λ (x : Hart). x.slot)) has.there)
 
@@ -60,6 +60,6 @@ module _ (m : Machine) (w : World) (is : IsWorld m w) (h : ℕ) (p : Phase) (has
         (runs w h true (λ z. model.is_user z.phase) always _ (hart_of has.hart) has.in_model refl (ap model.is_user has.phased ∙ user) refl ∙ its_process w (hart_of has.hart) _ s q.0 on q.1)))
 
 -- a process that is in a world is there in each machine that is in the world
-pub still_there : (m n : Machine) (w : World) → IsWorld m w → IsWorld n w → (s : ℕ) (x : SlotProcess) → slice_get m.slots.items s ≡ Some (Some x)
+pub still_there : (m n : Machine) (w : World) → IsWorldButBuffers m w → IsWorldButBuffers n w → (s : ℕ) (x : SlotProcess) → slice_get m.slots.items s ≡ Some (Some x)
     → (y : SlotProcess) × (slice_get n.slots.items s ≡ Some (Some y))
 still_there m n w is after s x at = let p = process_at m w is s x at in tenant_at n w after s (rw p.1 refl)

@@ -18,7 +18,7 @@ use Rattle.table_walk.specs.Tables.{HasTables, Tables}
 use Rattle.hart_machine.specs.SlotProcesses.{view_of}
 use Rattle.hart_machine.specs.Slots.{marks_of}
 use Rattle.hart_machine.specs.WalkEntries.{IsEntryOf}
-use Rattle.hart_machine.specs.Worlds.{IsWorld}
+use Rattle.hart_machine.specs.Worlds.{IsWorldButBuffers}
 use Rattle.hart_machine.specs.declared.hart.Hart.{Hart}
 use Rattle.hart_machine.specs.declared.machine.Machine.{Machine}
 use Rattle.hart_machine.specs.declared.slot_process.SlotProcess.{SlotProcess}
@@ -77,7 +77,7 @@ HasNoStaleMark x = (s : ℕ) → x.phase ≡ phase.User → x.slot ≡ Some s �
 -- the machine is in this world, and each buffer has only entries that it may have; under policy `asid` no hart in `User` has
 -- a mark for the slot of its process
 pub record IsInWorld (m : Machine) (w : World) : Type 0 where
-  pub world : IsWorld m w
+  pub world : IsWorldButBuffers m w
   pub buffers : (h : ℕ) (x : Hart) (e : TlbEntry) → slice_get m.harts.items h ≡ Some x → Contains x.buffer e
       → IsCurrentEntry m.kernel.scheme m.policy m.slots.items x world.tables world.kernel e
   pub clean : m.policy ≡ Asid → (h : ℕ) (x : Hart) → slice_get m.harts.items h ≡ Some x → HasNoStaleMark x

@@ -1,8 +1,8 @@
 -- A kernel copy from or to the process in a slot, a place in the process table (`CopiesFrom`, `CopiesTo`): its reply, and
--- process, frames and files after it. Also `plain_words`, the store model of a machine: its frames, and files in memory.
+-- process, frames and files after it. Also `plain_store`, the store model of a machine: its frames, and files in memory.
 use Rattle.std.specs.Prelude.{◌≡◌, ℕ, List, [], None, Option, Some, option_map, slice_index}
 use Rattle.fault_rules.specs.PageService.{Moment, moment, store_model, StoreModel}
-use Rattle.frame_store.specs.Plain.{PlainState, PlainStateRule}
+use Rattle.frame_store.specs.Plain.{PlainState, PlainStateInvariant}
 use Rattle.frame_store.specs.View.{View}
 use Rattle.process_model.specs.Copies.{in_reply}
 use Rattle.process_model.specs.Files.{File}
@@ -16,8 +16,8 @@ use Rattle.user_copy.specs.declared.short.Stop.TheVariants.{Denied}
 use Rattle.hart_machine.specs.declared.slot_process.SlotProcess.{SlotProcess}
 
 -- the store model of a machine: plain frames, of one thread, and files in memory, which refuse no promise
-abbrev pub plain_words : StoreModel View PlainState (List File)
-plain_words = store_model (λ v. v) PlainStateRule (Unit {0}) (λ b. b.free) (λ b f. slice_index b.counts f) (λ fs. fs) (λ before moves after.
+abbrev pub plain_store : StoreModel View PlainState (List File)
+plain_store = store_model (λ v. v) PlainStateInvariant (Unit {0}) (λ b. b.free) (λ b f. slice_index b.counts f) (λ fs. fs) (λ before moves after.
     after ≡ files_after before moves) (λ _ _ _. ⊥)
 
 -- a process with its frames and files, at one moment
@@ -30,7 +30,7 @@ pub record CopiesFrom (x y : SlotProcess) (b c : PlainState) (fs gs : List File)
   pub bytes : List ℕ
   pub stop : Option Rule
   pub told : reply ≡ in_reply bytes stop
-  pub copies : CopiesIn plain_words (runs address n) (moment_of x b fs) (moment_of y c gs) [] bytes (option_map Denied stop)
+  pub copies : CopiesIn plain_store (runs address n) (moment_of x b fs) (moment_of y c gs) [] bytes (option_map Denied stop)
   pub quiet : y.pending ≡ None
 
 -- the reply to a copy of this many bytes to the process, with the rule that stopped it, if one did
@@ -44,5 +44,5 @@ pub record CopiesTo (x y : SlotProcess) (b c : PlainState) (fs gs : List File) (
   pub count : ℕ
   pub stop : Option Rule
   pub told : reply ≡ sent_reply count stop
-  pub copies : CopiesOut plain_words (runs_of address bytes) (moment_of x b fs) (moment_of y c gs) 0 count (option_map Denied stop)
+  pub copies : CopiesOut plain_store (runs_of address bytes) (moment_of x b fs) (moment_of y c gs) 0 count (option_map Denied stop)
   pub quiet : y.pending ≡ None

@@ -21,7 +21,7 @@ use Rattle.table_walk.specs.Tables.{Tables}
 use Rattle.hart_machine.specs.Calls.{IsInKernel}
 use Rattle.hart_machine.specs.Harts.{hart_of}
 use Rattle.hart_machine.specs.SlotProcesses.{body_in, IsSlotProcess, view_of}
-use Rattle.hart_machine.specs.Worlds.{IsWorld}
+use Rattle.hart_machine.specs.Worlds.{IsWorldButBuffers}
 use Rattle.hart_machine.specs.declared.machine.Machine.{Machine}
 use Rattle.hart_machine.specs.declared.slot_process.SlotProcess.{SlotProcess}
 
@@ -60,7 +60,7 @@ pub record MustEnd (y : SlotProcess) (t : Tables) (p : Process) (a : Pending) (b
 
 -- the machine is still in the world w, and the model's service ends the process by this rule
 pub record IsEnding (m n : Machine) (w : World) (h s : ℕ) (k : IsInKernel m w h s true) (rule : Rule) : Type 0 where
-  pub world : IsWorld n w
+  pub world : IsWorldButBuffers n w
   pub there : IsInKernel n w h s true
   pub hart : there.hart ≡ k.hart
   pub process : there.process ≡ k.process

@@ -1,10 +1,10 @@
--- When a machine is in a world (state) of the model (`IsWorld`): its page tables and frames make the world's processes, its
+-- When a machine is in a world (state) of the model (`IsWorldButBuffers`): its page tables and frames make the world's processes, its
 -- harts and files are the world's. What steps keep of a machine: its page tables and slots, the places in the process table
 -- (`KeepsTables`, `StaysOnFrames`, `KeepsOtherSlots`, `SameTables`, `SamePlaces`), and its world (`KeepsWorld`). When reply and machine are
 -- those of the model's step (`IsModelOutcome`).
 use Rattle.std.specs.Prelude.{◌≡◌, ◌↔◌, ℕ, ◌<◌, ◌≤◌, false, Option, None, Some, List, ◌∷◌, length, map, slice_get, Contains}
 use Rattle.std.specs.FinMap.{get}
-use Rattle.frame_store.specs.Plain.{PlainStateRule}
+use Rattle.frame_store.specs.Plain.{PlainStateInvariant}
 use Rattle.frame_store.specs.Seats.{present}
 use Rattle.frame_store.specs.View.{View}
 use Rattle.process_model.specs.PageMap as pages
@@ -52,7 +52,7 @@ seats_of places = map view_of (present places)
 
 -- memory, processes, files and harts of the machine are those of the world. Of buffer entries it says that their pages and
 -- ASIDs are the model's keys and that none is global, but not what they map to: that is in `IsInWorld`
-pub record IsWorld (m : Machine) (w : World) : Type 0 where
+pub record IsWorldButBuffers (m : Machine) (w : World) : Type 0 where
   -- the page tables of the process in each slot, and the kernel's
   pub tables : ℕ → Tables
   pub kernel : Tables
@@ -63,7 +63,7 @@ pub record IsWorld (m : Machine) (w : World) : Type 0 where
   pub schemes : (s : ℕ) (p : Process) → slice_get w.slots s ≡ Some (Some p) → p.scheme ≡ w.scheme
   pub few : length w.slots ≤ MOST_SLOTS
   pub frames : m.kernel.seat.size ≡ w.frames
-  pub rule : PlainStateRule m.frames (m.kernel.seat ∷ seats_of m.slots.items)
+  pub invariant : PlainStateInvariant m.frames (m.kernel.seat ∷ seats_of m.slots.items)
   pub of_kernel : IsKernelTable m.kernel.scheme m.kernel.seat m.kernel.root.0 w.frames (length w.slots) stacks kernel
   pub places : (s : ℕ) → IsSlotContent (slice_get m.slots.items s) (slice_get w.slots s) (tables s)
   pub copies : HaveCopies w.slots tables
@@ -128,8 +128,8 @@ SamePlaces m n = (n.slots.items ≡ m.slots.items) × (n.kernel ≡ m.kernel)
 
 -- in each world that the machine was in it still is, by the same page tables
 abbrev pub KeepsWorld : Machine → Machine → Type 0
-KeepsWorld m n = (w : World) (is : IsWorld m w) → (after : IsWorld n w) × (after.tables ≡ is.tables)
+KeepsWorld m n = (w : World) (is : IsWorldButBuffers m w) → (after : IsWorldButBuffers n w) × (after.tables ≡ is.tables)
 
 -- the reply is the model's, and the machine is in the world after the model's step
 abbrev pub IsModelOutcome : Machine → Reply → StepOutcome → Type 0
-IsModelOutcome m reply o = (reply ≡ o.reply) × IsWorld m o.world
+IsModelOutcome m reply o = (reply ≡ o.reply) × IsWorldButBuffers m o.world

@@ -3,14 +3,14 @@
 
 ghost use Rattle.std.specs.Prelude.{◌≡◌, IsTrue, slice_get, Some};
 ghost use Rattle.frame_store.specs.Laws.{IsSeatOf, KeepsSeats};
-ghost use Rattle.frame_store.specs.Plain.{PlainStateRule};
+ghost use Rattle.frame_store.specs.Plain.{PlainStateInvariant};
 ghost use Rattle.address_space.specs.Accesses.{request_of};
 ghost use Rattle.hart_machine.specs.Accesses.{IsWalked, pending_after};
 ghost use Rattle.hart_machine.specs.Buffers.{SameBuffers};
 ghost use Rattle.hart_machine.specs.SlotProcesses.{IsSlotProcess, pending_of, view_of};
 ghost use Rattle.table_walk.specs.Leaves.{walk_answer};
 ghost use Rattle.hart_machine.specs.BufferEntries.{IsInWorld};
-ghost use Rattle.hart_machine.specs.Worlds.{IsWorld, IsModelOutcome, SameTables};
+ghost use Rattle.hart_machine.specs.Worlds.{IsWorldButBuffers, IsModelOutcome, SameTables};
 ghost use Rattle.hart_machine.specs.declared.slot_process.SlotProcess.{SlotProcess};
 ghost use Rattle.process_model.specs.declared.reply.Reply.TheVariants.{Scalar};
 ghost use Rattle.process_model.specs.Bytes as bytes;
@@ -46,7 +46,7 @@ impl Machine {
         ensures made { (w : World) → IsInWorld self.old w
             → IsModelOutcome self.new (Scalar result) (service.access_step w hart request.access request.va.0 request.width request.value via) }
         ensures buffers { SameBuffers self.old self.new }
-        ensures tables { SameTables self.old self.new }
+        ensures same_tables { SameTables self.old self.new }
     {
         let Some((phase, on)) = self.phase_and_slot(hart) else {
             return ScalarReply::Refused(Refusal::BadArgument);
@@ -79,15 +79,15 @@ impl Machine {
         by_entry: Option<Walk>,
         request: AccessRequest,
     ) -> ScalarReply
-        requires ready { (w : World) × (is : IsWorld self.old w) × (x : SlotProcess) × (slice_get self.old.slots.items slot ≡ Some (Some x))
+        requires ready { (w : World) × (is : IsWorldButBuffers self.old w) × (x : SlotProcess) × (slice_get self.old.slots.items slot ≡ Some (Some x))
             × IsWalked w.scheme (is.tables slot) request.va.0 request.access by_entry }
         requires width { IsTrue (bytes.is_width request.width) }
-        ensures made { (w : World) (is : IsWorld self.old w) (p : Process) → slice_get w.slots slot ≡ Some (Some p)
+        ensures made { (w : World) (is : IsWorldButBuffers self.old w) (p : Process) → slice_get w.slots slot ≡ Some (Some p)
             → IsWalked w.scheme (is.tables slot) request.va.0 request.access by_entry
             → (Scalar result ≡ (service.user_access p (request_of request)).reply)
-            × IsWorld self.new (with_process w slot (service.user_access p (request_of request)).process) }
+            × IsWorldButBuffers self.new (with_process w slot (service.user_access p (request_of request)).process) }
         ensures harts { self.new.harts ≡ self.old.harts }
-        ensures tables { SameTables self.old self.new }
+        ensures same_tables { SameTables self.old self.new }
     {
         let frames = &mut self.frames;
         let slots = &mut self.slots;
@@ -107,14 +107,14 @@ impl SlotProcess {
         by_entry: Option<Walk>,
         request: AccessRequest,
     ) -> ScalarReply
-        requires fits { IsSeatOf PlainStateRule frames.old (view_of self.old) }
+        requires fits { IsSeatOf PlainStateInvariant frames.old (view_of self.old) }
         requires ready { (t : Tables) × (p : Process) × IsSlotProcess self.old t p × IsWalked p.scheme t request.va.0 request.access by_entry }
         requires width { IsTrue (bytes.is_width request.width) }
         ensures reply { (t : Tables) (p : Process) → IsSlotProcess self.old t p → IsWalked p.scheme t request.va.0 request.access by_entry →
             Scalar result ≡ (service.user_access p (request_of request)).reply }
         ensures after { (t : Tables) (p : Process) → IsSlotProcess self.old t p → IsWalked p.scheme t request.va.0 request.access by_entry →
             IsSlotProcess self.new t (service.user_access p (request_of request)).process }
-        ensures keeps { KeepsSeats PlainStateRule frames.old (view_of self.old) frames.new (view_of self.new) }
+        ensures keeps { KeepsSeats PlainStateInvariant frames.old (view_of self.old) frames.new (view_of self.new) }
     {
         // the translation, which judges the rights, precedes every read or write of bytes
         let walk = self.translated(frames, by_entry, request.va, request.access);
@@ -132,7 +132,7 @@ impl SlotProcess {
         va: Va,
         access: Access,
     ) -> Walk
-        requires fits { IsSeatOf PlainStateRule frames.old (view_of self.old) }
+        requires fits { IsSeatOf PlainStateInvariant frames.old (view_of self.old) }
         requires ready { (t : Tables) × (p : Process) × IsSlotProcess self.old t p }
         ensures walk { (t : Tables) (p : Process) → IsSlotProcess self.old t p → IsWalked p.scheme t va.0 access by_entry →
             result ≡ walk_answer p.scheme t va.0 access User }

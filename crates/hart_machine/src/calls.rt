@@ -2,13 +2,13 @@
 
 ghost use Rattle.std.specs.Prelude.{◌≡◌, Err, IfErr, IfOk, None, Ok, Some};
 ghost use Rattle.frame_store.specs.Laws.{IsSeatOf, KeepsSeats};
-ghost use Rattle.frame_store.specs.Plain.{PlainStateRule};
+ghost use Rattle.frame_store.specs.Plain.{PlainStateInvariant};
 ghost use Rattle.hart_machine.specs.Buffers.{SameBuffers};
 ghost use Rattle.hart_machine.specs.Calls.{done_or_refused, HasResized, HasUnmapped, mapped_or_refused, size_of, size_or_refused};
 ghost use Rattle.hart_machine.specs.Marks.{marked_by, marked_with};
 ghost use Rattle.hart_machine.specs.SlotProcesses.{IsSlotProcess, view_of};
 ghost use Rattle.hart_machine.specs.StepPromises.{KeepsTablesOf, MakesStep, MarksStep};
-ghost use Rattle.hart_machine.specs.Worlds.{IsWorld, SameTables};
+ghost use Rattle.hart_machine.specs.Worlds.{IsWorldButBuffers, SameTables};
 ghost use Rattle.lazy_growth.specs.SbrkResults.{size_before};
 ghost use Rattle.mmap_regions.specs.MmapEffect.{address_of_mapped, process_mapped};
 ghost use Rattle.process_model.specs.declared.reply.Reply.TheVariants.{Scalar};
@@ -41,10 +41,10 @@ impl Machine {
         flags: u64,
         file: usize,
     ) -> ScalarReply
-        requires world { (w : World) × IsWorld self.old w }
+        requires world { (w : World) × IsWorldButBuffers self.old w }
         ensures made { MakesStep self.old self.new (step.Mmap hart length protection flags file) (Scalar result) }
         ensures buffers { SameBuffers self.old self.new }
-        ensures tables { SameTables self.old self.new }
+        ensures same_tables { SameTables self.old self.new }
     {
         match self.try_mmap(hart, length, protection, flags, file) {
             Ok(address) => ScalarReply::MappedAt(address),
@@ -64,10 +64,10 @@ impl Machine {
         flags: u64,
         file: usize,
     ) -> Result<u64, Refusal>
-        requires world { (w : World) × IsWorld self.old w }
+        requires world { (w : World) × IsWorldButBuffers self.old w }
         ensures made { MakesStep self.old self.new (step.Mmap hart length protection flags file) (mapped_or_refused result) }
         ensures harts { self.new.harts ≡ self.old.harts }
-        ensures tables { SameTables self.old self.new }
+        ensures same_tables { SameTables self.old self.new }
     {
         let slot = self.in_kernel(hart, false)?;
         let files = &self.files;
@@ -87,7 +87,7 @@ impl Machine {
         address: u64,
         length: u64,
     ) -> StepEffect<ScalarReply>
-        requires world { (w : World) × IsWorld self.old w }
+        requires world { (w : World) × IsWorldButBuffers self.old w }
         ensures made { MakesStep self.old self.new (step.Munmap hart address length) (Scalar result.reply) }
         ensures buffers { SameBuffers self.old self.new }
         ensures tables { KeepsTablesOf self.old self.new (step.Munmap hart address length) }
@@ -109,7 +109,7 @@ impl Machine {
         address: u64,
         length: u64,
     ) -> Result<Option<usize>, Refusal>
-        requires world { (w : World) × IsWorld self.old w }
+        requires world { (w : World) × IsWorldButBuffers self.old w }
         ensures made { MakesStep self.old self.new (step.Munmap hart address length) (done_or_refused result) }
         ensures changed { MarksStep self.old (step.Munmap hart address length) (marked_by result) None }
         ensures harts { self.new.harts ≡ self.old.harts }
@@ -130,7 +130,7 @@ impl Machine {
     /// the size before, in bytes, or the first refusal that applies of those of `in_kernel`, `BadSize` and `NoRoom`.
     #[inline(never)]
     pub(crate) fn sbrk(&mut self, hart: usize, delta: i64) -> StepEffect<ScalarReply>
-        requires world { (w : World) × IsWorld self.old w }
+        requires world { (w : World) × IsWorldButBuffers self.old w }
         ensures made { MakesStep self.old self.new (step.Sbrk hart delta) (Scalar result.reply) }
         ensures buffers { SameBuffers self.old self.new }
         ensures tables { KeepsTablesOf self.old self.new (step.Sbrk hart delta) }
@@ -147,7 +147,7 @@ impl Machine {
     /// # Errors
     /// Those of `in_kernel`, then `BadSize`, then `NoRoom`.
     fn try_sbrk(&mut self, hart: usize, delta: i64) -> Result<(u64, Option<usize>), Refusal>
-        requires world { (w : World) × IsWorld self.old w }
+        requires world { (w : World) × IsWorldButBuffers self.old w }
         ensures made { MakesStep self.old self.new (step.Sbrk hart delta) (size_or_refused result) }
         ensures changed { MarksStep self.old (step.Sbrk hart delta) (marked_with result) None }
         ensures harts { self.new.harts ≡ self.old.harts }
@@ -201,7 +201,7 @@ impl SlotProcess {
         address: u64,
         length: u64,
     ) -> Result<bool, Refusal>
-        requires fits { IsSeatOf PlainStateRule frames.old (view_of self.old) }
+        requires fits { IsSeatOf PlainStateInvariant frames.old (view_of self.old) }
         requires ready { (t : Tables) × (p : Process) × IsSlotProcess self.old t p }
         ensures unmapped { IfOk result (λ _. (t : Tables) (p : Process) → IsSlotProcess self.old t p
             → HasUnmapped self.new t p files.old files.new address length) }
@@ -212,7 +212,7 @@ impl SlotProcess {
         ensures trapframe { self.new.space.trapframe ≡ self.old.space.trapframe }
         ensures files_stay { IfErr result (λ _. files.new ≡ files.old) }
         ensures frames_stay { IfErr result (λ _. frames.new ≡ frames.old) }
-        ensures keeps { KeepsSeats PlainStateRule frames.old (view_of self.old) frames.new (view_of self.new) }
+        ensures keeps { KeepsSeats PlainStateInvariant frames.old (view_of self.old) frames.new (view_of self.new) }
     {
         let first = Va(address).page().number();
         let released = self.has_settled(frames, first, first + length.div_ceil(PAGE_SIZE));
@@ -227,7 +227,7 @@ impl SlotProcess {
     /// # Errors
     /// Those of the model (`sbrk_result`). Process and frames are then unchanged.
     fn sbrk(&mut self, frames: &mut PlainFrames, delta: i64) -> Result<(u64, bool), Refusal>
-        requires fits { IsSeatOf PlainStateRule frames.old (view_of self.old) }
+        requires fits { IsSeatOf PlainStateInvariant frames.old (view_of self.old) }
         requires ready { (t : Tables) × (p : Process) × IsSlotProcess self.old t p }
         ensures answer { (t : Tables) (p : Process) → IsSlotProcess self.old t p → size_of result ≡ size_before p (sbrk_result p delta) }
         ensures changed { IfOk result (λ x. (t : Tables) (p : Process) → IsSlotProcess self.old t p → (q : Process)
@@ -236,7 +236,7 @@ impl SlotProcess {
         ensures stays { IfErr result (λ _. self.new ≡ self.old) }
         ensures trapframe { self.new.space.trapframe ≡ self.old.space.trapframe }
         ensures frames_stay { IfErr result (λ _. frames.new ≡ frames.old) }
-        ensures keeps { KeepsSeats PlainStateRule frames.old (view_of self.old) frames.new (view_of self.new) }
+        ensures keeps { KeepsSeats PlainStateInvariant frames.old (view_of self.old) frames.new (view_of self.new) }
     {
         let released = self.loses_page(frames, delta);
         let before = lazy_growth::sbrk(&mut self.space, frames, delta)?;
@@ -246,7 +246,7 @@ impl SlotProcess {
 
     /// Whether an sbrk by `delta` bytes, if it is not refused, releases a settled page.
     fn loses_page(&mut self, frames: &mut PlainFrames, delta: i64) -> bool
-        requires fits { IsSeatOf PlainStateRule frames.old (view_of self.old) }
+        requires fits { IsSeatOf PlainStateInvariant frames.old (view_of self.old) }
         requires ready { (t : Tables) × (p : Process) × IsSlotProcess self.old t p }
         ensures changed { (t : Tables) (p : Process) → IsSlotProcess self.old t p → (q : Process) → sbrk_result p delta ≡ Ok q
             → result ≡ is_changed (Some p) (Some (without_pending q)) }

@@ -3,14 +3,14 @@
 
 ghost use Rattle.std.specs.Prelude.{◌≡◌, ◌≤◌, ℕ, length};
 ghost use Rattle.frame_store.specs.Laws.{IsSeatOf, KeepsSeats};
-ghost use Rattle.frame_store.specs.Plain.{PlainStateRule};
+ghost use Rattle.frame_store.specs.Plain.{PlainStateInvariant};
 ghost use Rattle.hart_machine.specs.Buffers.{SameBuffers};
 ghost use Rattle.hart_machine.specs.Calls.{IsCaller};
 ghost use Rattle.hart_machine.specs.CopyEffect.{CopiesFrom, CopiesTo};
 ghost use Rattle.hart_machine.specs.SlotProcesses.{IsSlotProcess, view_of};
 ghost use Rattle.hart_machine.specs.Marks.{AreMarked, TellsResidence};
 ghost use Rattle.hart_machine.specs.StepPromises.{KeepsTablesOf, MakesStep, MarksStep};
-ghost use Rattle.hart_machine.specs.Worlds.{IsWorld, KeepsTables, IsModelOutcome};
+ghost use Rattle.hart_machine.specs.Worlds.{IsWorldButBuffers, KeepsTables, IsModelOutcome};
 ghost use Rattle.process_model.specs.declared.reply.Reply.TheVariants.{Scalar};
 ghost use Rattle.process_model.specs.Calls as model;
 ghost use Rattle.process_model.specs.Copies.{copied_in, copied_out};
@@ -36,7 +36,7 @@ impl Machine {
     /// is above `LONGEST_COPY`, then as `in_kernel` says.
     #[inline(never)]
     pub(crate) fn copy_in(&mut self, hart: usize, address: u64, count: usize) -> StepEffect<Reply>
-        requires world { (w : World) × IsWorld self.old w }
+        requires world { (w : World) × IsWorldButBuffers self.old w }
         ensures made { MakesStep self.old self.new (step.CopyIn hart address count) result.reply }
         ensures buffers { SameBuffers self.old self.new }
         ensures tables { KeepsTablesOf self.old self.new (step.CopyIn hart address count) }
@@ -58,15 +58,15 @@ impl Machine {
 
     /// `copy_in` from the process in a slot, with at most `LONGEST_COPY` bytes.
     fn copy_in_slot(&mut self, slot: usize, va: Va, count: usize) -> StepEffect<Reply>
-        requires world { (w : World) × (h : ℕ) × IsWorld self.old w × IsCaller self.old w h slot }
+        requires world { (w : World) × (h : ℕ) × IsWorldButBuffers self.old w × IsCaller self.old w h slot }
         requires few { count ≤ LONGEST_COPY }
-        ensures made { (w : World) (h : ℕ) → IsWorld self.old w → (k : IsCaller self.old w h slot) →
+        ensures made { (w : World) (h : ℕ) → IsWorldButBuffers self.old w → (k : IsCaller self.old w h slot) →
             IsModelOutcome self.new result.reply
             (model.copy_in_outcome w slot (copied_in (environment_of w slot) (initial_progress w (without_pending k.process)) va.0 count)) }
-        ensures changed { (w : World) (h : ℕ) → IsWorld self.old w → (k : IsCaller self.old w h slot) →
+        ensures changed { (w : World) (h : ℕ) → IsWorldButBuffers self.old w → (k : IsCaller self.old w h slot) →
             AreMarked w (model.copy_in_outcome w slot
             (copied_in (environment_of w slot) (initial_progress w (without_pending k.process)) va.0 count)) result.changed result.born }
-        ensures tables { (w : World) (h : ℕ) → IsWorld self.old w → (k : IsCaller self.old w h slot) →
+        ensures tables { (w : World) (h : ℕ) → IsWorldButBuffers self.old w → (k : IsCaller self.old w h slot) →
             KeepsTables self.old self.new w.slots
             (model.copy_in_outcome w slot (copied_in (environment_of w slot) (initial_progress w (without_pending k.process)) va.0 count)).world.slots }
         ensures harts { self.new.harts ≡ self.old.harts }
@@ -91,7 +91,7 @@ impl Machine {
         address: u64,
         bytes: &[u8],
     ) -> StepEffect<ScalarReply>
-        requires world { (w : World) × IsWorld self.old w }
+        requires world { (w : World) × IsWorldButBuffers self.old w }
         ensures made { MakesStep self.old self.new (step.CopyOut hart address bytes.entry) (Scalar result.reply) }
         ensures buffers { SameBuffers self.old self.new }
         ensures tables { KeepsTablesOf self.old self.new (step.CopyOut hart address bytes.entry) }
@@ -109,15 +109,15 @@ impl Machine {
 
     /// `copy_out` to the process in a slot, with at most `LONGEST_COPY` bytes.
     fn copy_out_slot(&mut self, slot: usize, va: Va, bytes: &[u8]) -> StepEffect<ScalarReply>
-        requires world { (w : World) × (h : ℕ) × IsWorld self.old w × IsCaller self.old w h slot }
+        requires world { (w : World) × (h : ℕ) × IsWorldButBuffers self.old w × IsCaller self.old w h slot }
         requires few { length bytes.now ≤ LONGEST_COPY }
-        ensures made { (w : World) (h : ℕ) → IsWorld self.old w → (k : IsCaller self.old w h slot) →
+        ensures made { (w : World) (h : ℕ) → IsWorldButBuffers self.old w → (k : IsCaller self.old w h slot) →
             IsModelOutcome self.new (Scalar result.reply)
             (model.copy_out_outcome w slot (copied_out (environment_of w slot) (initial_progress w (without_pending k.process)) va.0 bytes.now)) }
-        ensures changed { (w : World) (h : ℕ) → IsWorld self.old w → (k : IsCaller self.old w h slot) →
+        ensures changed { (w : World) (h : ℕ) → IsWorldButBuffers self.old w → (k : IsCaller self.old w h slot) →
             AreMarked w (model.copy_out_outcome w slot
             (copied_out (environment_of w slot) (initial_progress w (without_pending k.process)) va.0 bytes.now)) result.changed result.born }
-        ensures tables { (w : World) (h : ℕ) → IsWorld self.old w → (k : IsCaller self.old w h slot) →
+        ensures tables { (w : World) (h : ℕ) → IsWorldButBuffers self.old w → (k : IsCaller self.old w h slot) →
             KeepsTables self.old self.new w.slots
             (model.copy_out_outcome w slot (copied_out (environment_of w slot) (initial_progress w (without_pending k.process)) va.0 bytes.now)).world.slots }
         ensures harts { self.new.harts ≡ self.old.harts }
@@ -143,13 +143,13 @@ impl SlotProcess {
         va: Va,
         count: usize,
     ) -> (Reply, bool)
-        requires fits { IsSeatOf PlainStateRule frames.old (view_of self.old) }
+        requires fits { IsSeatOf PlainStateInvariant frames.old (view_of self.old) }
         requires ready { (t : Tables) × (p : Process) × IsSlotProcess self.old t p }
         requires few { count ≤ LONGEST_COPY }
         ensures copied { CopiesFrom self.old self.new frames.old frames.new files.old files.new va.0 count result.0 }
         ensures changed { (t u : Tables) (p q : Process) → IsSlotProcess self.old t p → IsSlotProcess self.new u q → TellsResidence result.1 p q Load va.0 }
         ensures trapframe { self.new.space.trapframe ≡ self.old.space.trapframe }
-        ensures keeps { KeepsSeats PlainStateRule frames.old (view_of self.old) frames.new (view_of self.new) }
+        ensures keeps { KeepsSeats PlainStateInvariant frames.old (view_of self.old) frames.new (view_of self.new) }
     {
         let before = self.residence(frames, va, Access::Load);
         let reply = self.copy_bytes_in(frames, files, va, count);
@@ -169,13 +169,13 @@ impl SlotProcess {
         va: Va,
         count: usize,
     ) -> Reply
-        requires fits { IsSeatOf PlainStateRule frames.old (view_of self.old) }
+        requires fits { IsSeatOf PlainStateInvariant frames.old (view_of self.old) }
         requires ready { (t : Tables) × (p : Process) × IsSlotProcess self.old t p }
         requires few { count ≤ LONGEST_COPY }
         ensures copied { CopiesFrom self.old self.new frames.old frames.new files.old files.new va.0 count result }
         ensures still { (t : Tables) (p : Process) → IsSlotProcess self.old t p → (u : Tables) × (q : Process) × IsSlotProcess self.new u q }
         ensures trapframe { self.new.space.trapframe ≡ self.old.space.trapframe }
-        ensures keeps { KeepsSeats PlainStateRule frames.old (view_of self.old) frames.new (view_of self.new) }
+        ensures keeps { KeepsSeats PlainStateInvariant frames.old (view_of self.old) frames.new (view_of self.new) }
     {
         self.pending = None;
         match user_copy::copy_in(&mut self.space, frames, files, va, count) {
@@ -197,13 +197,13 @@ impl SlotProcess {
         va: Va,
         bytes: &[u8],
     ) -> (ScalarReply, bool)
-        requires fits { IsSeatOf PlainStateRule frames.old (view_of self.old) }
+        requires fits { IsSeatOf PlainStateInvariant frames.old (view_of self.old) }
         requires ready { (t : Tables) × (p : Process) × IsSlotProcess self.old t p }
         requires few { length bytes.now ≤ LONGEST_COPY }
         ensures copied { CopiesTo self.old self.new frames.old frames.new files.old files.new va.0 bytes.now (Scalar result.0) }
         ensures changed { (t u : Tables) (p q : Process) → IsSlotProcess self.old t p → IsSlotProcess self.new u q → TellsResidence result.1 p q Store va.0 }
         ensures trapframe { self.new.space.trapframe ≡ self.old.space.trapframe }
-        ensures keeps { KeepsSeats PlainStateRule frames.old (view_of self.old) frames.new (view_of self.new) }
+        ensures keeps { KeepsSeats PlainStateInvariant frames.old (view_of self.old) frames.new (view_of self.new) }
     {
         let before = self.residence(frames, va, Access::Store);
         let reply = self.copy_bytes_out(frames, files, va, bytes);
@@ -223,13 +223,13 @@ impl SlotProcess {
         va: Va,
         bytes: &[u8],
     ) -> ScalarReply
-        requires fits { IsSeatOf PlainStateRule frames.old (view_of self.old) }
+        requires fits { IsSeatOf PlainStateInvariant frames.old (view_of self.old) }
         requires ready { (t : Tables) × (p : Process) × IsSlotProcess self.old t p }
         requires few { length bytes.now ≤ LONGEST_COPY }
         ensures copied { CopiesTo self.old self.new frames.old frames.new files.old files.new va.0 bytes.now (Scalar result) }
         ensures still { (t : Tables) (p : Process) → IsSlotProcess self.old t p → (u : Tables) × (q : Process) × IsSlotProcess self.new u q }
         ensures trapframe { self.new.space.trapframe ≡ self.old.space.trapframe }
-        ensures keeps { KeepsSeats PlainStateRule frames.old (view_of self.old) frames.new (view_of self.new) }
+        ensures keeps { KeepsSeats PlainStateInvariant frames.old (view_of self.old) frames.new (view_of self.new) }
     {
         self.pending = None;
         match user_copy::copy_out(&mut self.space, frames, files, va, bytes) {

@@ -2,14 +2,14 @@
 
 ghost use Rattle.std.specs.Prelude.{◌≡◌, ◌<◌, ◌≤◌, IfErr, IfOk, None};
 ghost use Rattle.frame_store.specs.Laws.{IsSeatOf, KeepsSeats};
-ghost use Rattle.frame_store.specs.Plain.{PlainStateRule};
+ghost use Rattle.frame_store.specs.Plain.{PlainStateInvariant};
 ghost use Rattle.hart_machine.specs.Buffers.{SameBuffers};
 ghost use Rattle.hart_machine.specs.Calls.{done_or_refused};
 ghost use Rattle.hart_machine.specs.ExecEffect.{HasExecuted};
 ghost use Rattle.hart_machine.specs.SlotProcesses.{IsSlotProcess, view_of};
 ghost use Rattle.hart_machine.specs.Marks.{slot_of_ok};
 ghost use Rattle.hart_machine.specs.StepPromises.{KeepsTablesOf, MakesStep, MarksStep};
-ghost use Rattle.hart_machine.specs.Worlds.{IsWorld};
+ghost use Rattle.hart_machine.specs.Worlds.{IsWorldButBuffers};
 ghost use Rattle.process_model.specs.declared.reply.Reply.TheVariants.{Scalar};
 ghost use Rattle.process_model.specs.Frames.{exec_need};
 ghost use Rattle.process_model.specs.Process.{Process};
@@ -35,7 +35,7 @@ impl Machine {
         hart: usize,
         image: process_model::Image<'_>,
     ) -> StepEffect<ScalarReply>
-        requires world { (w : World) × IsWorld self.old w }
+        requires world { (w : World) × IsWorldButBuffers self.old w }
         ensures made { MakesStep self.old self.new (step.Exec hart image.entry) (Scalar result.reply) }
         ensures buffers { SameBuffers self.old self.new }
         ensures tables { KeepsTablesOf self.old self.new (step.Exec hart image.entry) }
@@ -52,7 +52,7 @@ impl Machine {
     /// # Errors
     /// Those of `in_kernel`, then `BadImage` with the check that the image fails, then `NoFrame`.
     fn try_exec(&mut self, hart: usize, image: process_model::Image<'_>) -> Result<usize, Refusal>
-        requires world { (w : World) × IsWorld self.old w }
+        requires world { (w : World) × IsWorldButBuffers self.old w }
         ensures made { MakesStep self.old self.new (step.Exec hart image.entry) (done_or_refused result) }
         ensures changed { MarksStep self.old (step.Exec hart image.entry) (slot_of_ok result) None }
         ensures harts { self.new.harts ≡ self.old.harts }
@@ -87,7 +87,7 @@ impl SlotProcess {
         files: &mut Cabinet,
         image: &Image,
     ) -> Result<(), Refusal>
-        requires fits { IsSeatOf PlainStateRule frames.old (view_of self.old) }
+        requires fits { IsSeatOf PlainStateInvariant frames.old (view_of self.old) }
         requires ready { (t : Tables) × (p : Process) × IsSlotProcess self.old t p }
         requires scheme { image.now.scheme ≡ self.old.space.layout.scheme }
         ensures executed { IfOk result (λ _. (t : Tables) (p : Process) → IsSlotProcess self.old t p
@@ -97,7 +97,7 @@ impl SlotProcess {
         ensures whole { IfErr result (λ _. (t : Tables) (p : Process) → IsSlotProcess self.old t p → IsSlotProcess self.new t p) }
         ensures files_stay { IfErr result (λ _. files.new ≡ files.old) }
         ensures trapframe { self.new.space.trapframe ≡ self.old.space.trapframe }
-        ensures keeps { KeepsSeats PlainStateRule frames.old (view_of self.old) frames.new (view_of self.new) }
+        ensures keeps { KeepsSeats PlainStateInvariant frames.old (view_of self.old) frames.new (view_of self.new) }
     {
         exec_segments::exec(&mut self.space, frames, image, files)?;
         self.pending = None;

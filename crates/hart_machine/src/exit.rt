@@ -5,14 +5,14 @@ ghost use Rattle.std.specs.Prelude.{◌≡◌, ◌∷◌, Bool, List, ℕ};
 ghost use Rattle.address_space.specs.Steps.{IsBare};
 ghost use Rattle.address_space.specs.Kernel.{IsKernelTable};
 ghost use Rattle.frame_store.specs.Laws.{IsSeatOf, KeepsSeats};
-ghost use Rattle.frame_store.specs.Plain.{PlainStateRule};
+ghost use Rattle.frame_store.specs.Plain.{PlainStateInvariant};
 ghost use Rattle.frame_store.specs.View.{View};
 ghost use Rattle.hart_machine.specs.Buffers.{SameBuffers};
 ghost use Rattle.hart_machine.specs.Calls.{IsInKernel};
 ghost use Rattle.hart_machine.specs.Harts.{hart_of};
 ghost use Rattle.hart_machine.specs.SlotProcesses.{IsSlotProcess, view_of};
 ghost use Rattle.hart_machine.specs.StepPromises.{KeepsTablesOf, MakesStep};
-ghost use Rattle.hart_machine.specs.Worlds.{IsWorld, KeepsOtherSlots};
+ghost use Rattle.hart_machine.specs.Worlds.{IsWorldButBuffers, KeepsOtherSlots};
 ghost use Rattle.process_model.specs.declared.reply.Reply.TheVariants.{Scalar};
 ghost use Rattle.process_model.specs.Mappings.{all_written_back};
 ghost use Rattle.process_model.specs.Process.{Process};
@@ -33,7 +33,7 @@ impl Machine {
     /// Ends the process on a hart by its exit. The reply is `Exited` with the status, or a refusal of `in_kernel`.
     #[inline(never)]
     pub(crate) fn exit(&mut self, hart: usize, status: i32) -> ScalarReply
-        requires world { (w : World) × IsWorld self.old w }
+        requires world { (w : World) × IsWorldButBuffers self.old w }
         ensures made { MakesStep self.old self.new (step.Exit hart status) (Scalar result) }
         ensures buffers { SameBuffers self.old self.new }
         ensures tables { KeepsTablesOf self.old self.new (step.Exit hart status) }
@@ -50,9 +50,9 @@ impl Machine {
     /// Ends the process of `slot`, for which `hart` is in the kernel: writes the pages with the dirty mark back to the files
     /// of their mappings, in order of address, and releases all its frames. The slot is then empty, and the hart idle.
     pub(crate) fn end(&mut self, hart: usize, slot: usize)
-        requires world { (w : World) × (waits : Bool) × IsWorld self.old w × IsInKernel self.old w hart slot waits }
-        ensures ended { (w : World) (waits : Bool) (reply : Reply) → IsWorld self.old w → (k : IsInKernel self.old w hart slot waits)
-            → IsWorld self.new (ended w hart (hart_of k.hart) slot k.process reply).world }
+        requires world { (w : World) × (waits : Bool) × IsWorldButBuffers self.old w × IsInKernel self.old w hart slot waits }
+        ensures ended { (w : World) (waits : Bool) (reply : Reply) → IsWorldButBuffers self.old w → (k : IsInKernel self.old w hart slot waits)
+            → IsWorldButBuffers self.new (ended w hart (hart_of k.hart) slot k.process reply).world }
         ensures buffers { SameBuffers self.old self.new }
         ensures others { KeepsOtherSlots self.old self.new slot }
     {
@@ -66,7 +66,7 @@ impl Machine {
 
     /// Closes a seat that holds nothing: joins it to the kernel's seat.
     fn end_seat(&mut self, seat: PlainSeat)
-        requires rule { (others : List View) × PlainStateRule self.old.frames (self.old.kernel.seat ∷ seat ∷ others) }
+        requires invariant { (others : List View) × PlainStateInvariant self.old.frames (self.old.kernel.seat ∷ seat ∷ others) }
         requires seat { IsBare seat }
         ensures kernel { (frames slots : ℕ) (stacks : List ℕ) (t : tables.Tables)
             → IsKernelTable self.old.kernel.scheme self.old.kernel.seat self.old.kernel.root.0 frames slots stacks t
@@ -77,8 +77,8 @@ impl Machine {
         ensures harts { self.new.harts ≡ self.old.harts }
         ensures files { self.new.files ≡ self.old.files }
         ensures policy { self.new.policy ≡ self.old.policy }
-        ensures rule { (others : List View) → PlainStateRule self.old.frames (self.old.kernel.seat ∷ seat ∷ others)
-            → PlainStateRule self.new.frames (self.new.kernel.seat ∷ others) }
+        ensures invariant { (others : List View) → PlainStateInvariant self.old.frames (self.old.kernel.seat ∷ seat ∷ others)
+            → PlainStateInvariant self.new.frames (self.new.kernel.seat ∷ others) }
     {
         self.frames.join(&mut self.kernel.seat, seat);
     }
@@ -88,11 +88,11 @@ impl SlotProcess {
     /// Ends the process: writes the pages with the dirty mark back to the files of their mappings, and releases all its
     /// frames. Returns its seat, which holds nothing.
     fn end(self, frames: &mut PlainFrames, files: &mut Cabinet) -> PlainSeat
-        requires fits { IsSeatOf PlainStateRule frames.old (view_of self) }
+        requires fits { IsSeatOf PlainStateInvariant frames.old (view_of self) }
         requires ready { (t : tables.Tables) × (p : Process) × IsSlotProcess self t p }
         ensures bare { IsBare result }
         ensures written { (t : tables.Tables) (p : Process) → IsSlotProcess self t p → files.new ≡ all_written_back files.old p }
-        ensures keeps { KeepsSeats PlainStateRule frames.old (view_of self) frames.new result }
+        ensures keeps { KeepsSeats PlainStateInvariant frames.old (view_of self) frames.new result }
     {
         let SlotProcess {
             mut space,

@@ -25,13 +25,13 @@ pub(crate) fn fill_from_tables<F: FrameAccess>(
     asid: u16,
     va: Va,
 )
-    requires fits { IsSeatOf F.rule store.old seat.old }
+    requires fits { IsSeatOf F.invariant store.old seat.old }
     requires held { (t : Tables) × HasTables scheme (F.Seat.view seat.old) root.0 t }
     ensures entries { (t : Tables) → HasTables scheme (F.Seat.view seat.old) root.0 t → LeavesAreThere scheme t → LeavesAreLocal scheme t →
         buffer.new ≡ newest_entries BUFFER_SIZE (buffer.old ++ entry_for scheme t asid va.0 ∷ []) }
     ensures view { F.Seat.view seat.new ≡ F.Seat.view seat.old }
     ensures same { store.new ≡ store.old }
-    ensures keeps { KeepsSeats F.rule store.old seat.old store.new seat.new }
+    ensures keeps { KeepsSeats F.invariant store.old seat.old store.new seat.new }
 {
     walks_of_tables();
     let mut words = HeldWords { store, seat };

@@ -5,14 +5,14 @@ ghost use Rattle.std.specs.Prelude.{◌≡◌, ◌∷◌, ◌<◌, IfErr, IfOk, 
 ghost use Rattle.address_space.specs.Agreement.{IsSpace};
 ghost use Rattle.address_space.specs.SettledLists.{AreSettled};
 ghost use Rattle.frame_store.specs.Laws.{IsSeatOf, KeepsSeats};
-ghost use Rattle.frame_store.specs.Plain.{PlainStateRule};
+ghost use Rattle.frame_store.specs.Plain.{PlainStateInvariant};
 ghost use Rattle.frame_store.specs.View.{IsHeld, View};
 ghost use Rattle.hart_machine.specs.Buffers.{SameBuffers};
 ghost use Rattle.hart_machine.specs.ForkEffect.{forked_or_refused, HasForkedProcess, in_slot};
 ghost use Rattle.hart_machine.specs.SlotProcesses.{body_in, IsSlotProcess, view_of};
 ghost use Rattle.hart_machine.specs.Marks.{child_in, marked_with};
 ghost use Rattle.hart_machine.specs.StepPromises.{KeepsTablesOf, MakesStep, MarksStep};
-ghost use Rattle.hart_machine.specs.Worlds.{IsWorld};
+ghost use Rattle.hart_machine.specs.Worlds.{IsWorldButBuffers};
 ghost use Rattle.process_model.specs.declared.reply.Reply.TheVariants.{Scalar};
 ghost use Rattle.process_model.specs.Frames.{fork_need};
 ghost use Rattle.process_model.specs.Process.{Process};
@@ -36,7 +36,7 @@ impl Machine {
     /// refusal that applies of those of `in_kernel`, `NoSlot`, and `NoFrame`.
     #[inline(never)]
     pub(crate) fn fork(&mut self, hart: usize) -> StepEffect<ScalarReply>
-        requires world { (w : World) × IsWorld self.old w }
+        requires world { (w : World) × IsWorldButBuffers self.old w }
         ensures made { MakesStep self.old self.new (step.Fork hart) (Scalar result.reply) }
         ensures buffers { SameBuffers self.old self.new }
         ensures tables { KeepsTablesOf self.old self.new (step.Fork hart) }
@@ -58,7 +58,7 @@ impl Machine {
     /// # Errors
     /// Those of `in_kernel`, then `NoSlot`, then `NoFrame`.
     fn try_fork(&mut self, hart: usize) -> Result<(usize, Option<usize>), Refusal>
-        requires world { (w : World) × IsWorld self.old w }
+        requires world { (w : World) × IsWorldButBuffers self.old w }
         ensures made { MakesStep self.old self.new (step.Fork hart) (forked_or_refused result) }
         ensures changed { MarksStep self.old (step.Fork hart) (marked_with result) (child_in result) }
         ensures harts { self.new.harts ≡ self.old.harts }
@@ -97,7 +97,7 @@ impl SlotProcess {
         frames: &mut PlainFrames,
         settled: &[SettledPage],
     ) -> Result<Child<PlainSeat>, Refusal>
-        requires fits { IsSeatOf PlainStateRule frames.old (view_of self.old) }
+        requires fits { IsSeatOf PlainStateInvariant frames.old (view_of self.old) }
         requires ready { (t : Tables) × (p : Process) × IsSlotProcess self.old t p }
         requires settled { (t : Tables) (p : Process) → IsSpace (body_in self.old) t p → AreSettled t p 0 (trapframe_page p.scheme) settled.now }
         requires few { (f : ℕ) → IsHeld (view_of self.old) f → slice_index frames.old.counts f < MOST_REFERENCES }
@@ -107,9 +107,9 @@ impl SlotProcess {
         ensures enough { IfOk result (λ _. (t : Tables) (p : Process) → IsSlotProcess self.old t p → frames.old.free < fork_need p → ⊥) }
         ensures dry { IfErr result (λ e. (e ≡ refusal.NoFrame) × ((t : Tables) (p : Process) → IsSlotProcess self.old t p → frames.old.free < fork_need p)) }
         ensures whole { IfErr result (λ _. (t : Tables) (p : Process) → IsSlotProcess self.old t p → IsSlotProcess self.new t p) }
-        ensures keeps { IfOk result (λ child. (others : List View) → PlainStateRule frames.old (view_of self.old ∷ others)
-            → PlainStateRule frames.new (view_of self.new ∷ child.seat ∷ others)) }
-        ensures keeps_refused { IfErr result (λ _. KeepsSeats PlainStateRule frames.old (view_of self.old) frames.new (view_of self.new)) }
+        ensures keeps { IfOk result (λ child. (others : List View) → PlainStateInvariant frames.old (view_of self.old ∷ others)
+            → PlainStateInvariant frames.new (view_of self.new ∷ child.seat ∷ others)) }
+        ensures keeps_refused { IfErr result (λ _. KeepsSeats PlainStateInvariant frames.old (view_of self.old) frames.new (view_of self.new)) }
     {
         let child = fork_listed(&mut self.space, frames, settled)?;
         self.pending = None;

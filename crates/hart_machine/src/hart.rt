@@ -105,7 +105,7 @@ impl Hart {
         asid: u16,
         va: Va,
     ) -> usize
-        requires fits { IsSeatOf F.rule store.old seat.old }
+        requires fits { IsSeatOf F.invariant store.old seat.old }
         requires held { (t : Tables) × HasTables scheme (F.Seat.view seat.old) root.0 t }
         ensures kept { (t : Tables) → HasTables scheme (F.Seat.view seat.old) root.0 t → LeavesAreThere scheme t → LeavesAreLocal scheme t
             → self.new ≡ with_entry self.old (entry_for scheme t asid va.0) }

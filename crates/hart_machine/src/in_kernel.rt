@@ -3,7 +3,7 @@
 
 ghost use Rattle.std.specs.Prelude.{◌≡◌, ℕ, IfErr, IfOk};
 ghost use Rattle.hart_machine.specs.Calls.{call_while, IsInKernel};
-ghost use Rattle.hart_machine.specs.Worlds.{IsWorld};
+ghost use Rattle.hart_machine.specs.Worlds.{IsWorldButBuffers};
 ghost use Rattle.process_model.specs.Harts as harts;
 ghost use Rattle.process_model.specs.Process.{Process};
 ghost use Rattle.process_model.specs.World as model;
@@ -21,9 +21,9 @@ impl Machine {
     /// `BadArgument`: there is no such hart. `Impossible` with the hart's phase: this is not `Kernel`, or an access waits and
     /// `waits` is false, or none waits and `waits` is true.
     pub(crate) fn in_kernel(&self, hart: usize, waits: bool) -> Result<usize, Refusal>
-        requires world { (w : World) × IsWorld self.now w }
-        ensures there { IfOk result (λ s. (w : World) → IsWorld self.now w → IsInKernel self.now w hart s waits) }
-        ensures refused { IfErr result (λ e. (w : World) (run : harts.Hart → ℕ → Process → StepOutcome) → IsWorld self.now w
+        requires world { (w : World) × IsWorldButBuffers self.now w }
+        ensures there { IfOk result (λ s. (w : World) → IsWorldButBuffers self.now w → IsInKernel self.now w hart s waits) }
+        ensures refused { IfErr result (λ e. (w : World) (run : harts.Hart → ℕ → Process → StepOutcome) → IsWorldButBuffers self.now w
             → call_while w hart waits run ≡ refuses w e) }
     {
         let Some((phase, on)) = self.phase_and_slot(hart) else {
@@ -41,7 +41,7 @@ impl Machine {
     /// Whether an access of the process in a slot waits for service: it faulted, and was not served. `None`, for no process:
     /// false.
     pub(crate) fn awaits_service(&self, on: Option<usize>) -> bool
-        ensures { (w : World) (x : harts.Hart) → IsWorld self.now w → x.slot ≡ on → result ≡ model.awaits_service w x }
+        ensures { (w : World) (x : harts.Hart) → IsWorldButBuffers self.now w → x.slot ≡ on → result ≡ model.awaits_service w x }
     {
         let Some(slot) = on else {
             return false;

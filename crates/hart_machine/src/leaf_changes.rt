@@ -7,7 +7,7 @@ ghost use Rattle.address_space.specs.Accesses.{IsGranted};
 ghost use Rattle.address_space.specs.Agreement.{IsSpace};
 ghost use Rattle.address_space.specs.SettledLists.{AreSettled};
 ghost use Rattle.frame_store.specs.Laws.{IsSeatOf};
-ghost use Rattle.frame_store.specs.Plain.{PlainStateRule};
+ghost use Rattle.frame_store.specs.Plain.{PlainStateInvariant};
 ghost use Rattle.hart_machine.specs.SlotProcesses.{body_in, IsSlotProcess, view_of};
 ghost use Rattle.process_model.specs.PageMap.{get};
 ghost use Rattle.process_model.specs.Process.{grants_write, Page, Process};
@@ -24,7 +24,7 @@ use table_walk::Walk;
 impl SlotProcess {
     /// Whether one of the pages from number `first` up to, but without, `end` is settled.
     pub(crate) fn has_settled(&mut self, frames: &mut PlainFrames, first: u64, end: u64) -> bool
-        requires fits { IsSeatOf PlainStateRule frames.old (view_of self.old) }
+        requires fits { IsSeatOf PlainStateInvariant frames.old (view_of self.old) }
         requires ready { (t : Tables) × (p : Process) × IsSlotProcess self.old t p }
         ensures some { result ≡ true → (t : Tables) (p : Process) → IsSlotProcess self.old t p → (n : ℕ) × (s : Page)
             × (get p.settled n ≡ Some s) × (first ≤ n) × (n < end) }
@@ -40,7 +40,7 @@ impl SlotProcess {
 
     /// Whether an access at `va` is granted, alignment aside, and its page is resident for it.
     pub(crate) fn is_resident(&mut self, frames: &mut PlainFrames, va: Va, access: Access) -> bool
-        requires fits { IsSeatOf PlainStateRule frames.old (view_of self.old) }
+        requires fits { IsSeatOf PlainStateInvariant frames.old (view_of self.old) }
         requires ready { (t : Tables) × (p : Process) × IsSlotProcess self.old t p }
         ensures granted { (t : Tables) (p : Process) → IsSlotProcess self.old t p → (result ≡ true) ↔ IsGranted p access va.0 }
         ensures same { self.new ≡ self.old }
@@ -61,7 +61,7 @@ impl SlotProcess {
         va: Va,
         access: Access,
     ) -> (bool, bool)
-        requires fits { IsSeatOf PlainStateRule frames.old (view_of self.old) }
+        requires fits { IsSeatOf PlainStateInvariant frames.old (view_of self.old) }
         requires ready { (t : Tables) × (p : Process) × IsSlotProcess self.old t p }
         ensures first { (t : Tables) (p : Process) → IsSlotProcess self.old t p → (result.0 ≡ true) ↔ IsGranted p access va.0 }
         ensures next { (t : Tables) (p : Process) → IsSlotProcess self.old t p → (result.1 ≡ true) ↔ IsGranted p access (va.0 + 4096) }
@@ -82,7 +82,7 @@ impl SlotProcess {
         frames: &mut PlainFrames,
         list: &'a mut PageList,
     ) -> &'a [SettledPage]
-        requires fits { IsSeatOf PlainStateRule frames.old (view_of self.old) }
+        requires fits { IsSeatOf PlainStateInvariant frames.old (view_of self.old) }
         requires ready { (t : Tables) × (p : Process) × IsSlotProcess self.old t p }
         ensures settled { (t : Tables) (p : Process) → IsSpace (body_in self.old) t p → AreSettled t p 0 (trapframe_page p.scheme) result.now }
         ensures same { self.new ≡ self.old }

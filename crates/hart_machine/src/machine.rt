@@ -5,7 +5,7 @@ ghost use Rattle.std.specs.Prelude.{◌≡◌, is_some, option_map, slice_get, S
 ghost use Rattle.std.specs.Vec.{with_item};
 ghost use Rattle.hart_machine.specs.declared.slot_process.SlotProcess.{SlotProcess};
 ghost use Rattle.hart_machine.specs.BufferEntries.{IsInWorld};
-ghost use Rattle.hart_machine.specs.Worlds.{IsWorld};
+ghost use Rattle.hart_machine.specs.Worlds.{IsWorldButBuffers};
 ghost use Rattle.process_model.specs.World.{process_in, report, World};
 
 use crate::hart::Hart;
@@ -69,7 +69,7 @@ impl Machine {
 
     /// Whether there is such a slot and it has a process.
     pub(crate) fn has_process(&self, slot: usize) -> bool
-        ensures { (w : World) → IsWorld self.now w → result ≡ is_some (process_in w slot) }
+        ensures { (w : World) → IsWorldButBuffers self.now w → result ≡ is_some (process_in w slot) }
     {
         matches!(self.slots.get(slot), Some(Some(_)))
     }

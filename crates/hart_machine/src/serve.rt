@@ -3,7 +3,7 @@
 
 ghost use Rattle.std.specs.Prelude.{◌≡◌, IfErr, IfOk, ℕ, None, not, Some, true};
 ghost use Rattle.frame_store.specs.Laws.{IsSeatOf, KeepsSeats};
-ghost use Rattle.frame_store.specs.Plain.{PlainStateRule};
+ghost use Rattle.frame_store.specs.Plain.{PlainStateInvariant};
 ghost use Rattle.hart_machine.specs.Buffers.{SameBuffers};
 ghost use Rattle.hart_machine.specs.Calls.{IsInKernel};
 ghost use Rattle.hart_machine.specs.Harts.{hart_of};
@@ -11,7 +11,7 @@ ghost use Rattle.hart_machine.specs.ServeEffect.{HasServed, IsEnding, MustEnd, w
 ghost use Rattle.hart_machine.specs.SlotProcesses.{IsSlotProcess, view_of};
 ghost use Rattle.hart_machine.specs.Marks.{AreMarked, slot_if};
 ghost use Rattle.hart_machine.specs.StepPromises.{KeepsTablesOf, MakesStep, MarksStep};
-ghost use Rattle.hart_machine.specs.Worlds.{IsWorld, KeepsOtherSlots, KeepsTables, IsModelOutcome};
+ghost use Rattle.hart_machine.specs.Worlds.{IsWorldButBuffers, KeepsOtherSlots, KeepsTables, IsModelOutcome};
 ghost use Rattle.process_model.specs.Process as model;
 ghost use Rattle.process_model.specs.Process.{Process};
 ghost use Rattle.process_model.specs.Residence.{is_resident};
@@ -37,7 +37,7 @@ impl Machine {
     /// with the first rule that denies the access, or with `NoFrame`, if the process was ended; or a refusal of `in_kernel`.
     #[inline(never)]
     pub(crate) fn serve(&mut self, hart: usize) -> StepEffect<ScalarReply>
-        requires world { (w : World) × IsWorld self.old w }
+        requires world { (w : World) × IsWorldButBuffers self.old w }
         ensures made { MakesStep self.old self.new (step.Serve hart) (Scalar result.reply) }
         ensures buffers { SameBuffers self.old self.new }
         ensures tables { KeepsTablesOf self.old self.new (step.Serve hart) }
@@ -62,14 +62,14 @@ impl Machine {
     /// The rule by which the process has to end: the first that denies the access, or `NoFrame`. The machine is then in the
     /// world that it was in; the caller ends the process.
     fn serve_slot(&mut self, slot: usize) -> Result<bool, Rule>
-        requires world { (w : World) × (h : ℕ) × IsWorld self.old w × IsInKernel self.old w h slot true }
-        ensures ready { IfOk result (λ _. (w : World) (h : ℕ) → IsWorld self.old w → (k : IsInKernel self.old w h slot true)
+        requires world { (w : World) × (h : ℕ) × IsWorldButBuffers self.old w × IsInKernel self.old w h slot true }
+        ensures ready { IfOk result (λ _. (w : World) (h : ℕ) → IsWorldButBuffers self.old w → (k : IsInKernel self.old w h slot true)
             → IsModelOutcome self.new (Scalar Ready) (served w h (hart_of k.hart) slot k.process k.process.pending)) }
-        ensures changed { IfOk result (λ b. (w : World) (h : ℕ) → IsWorld self.old w → (k : IsInKernel self.old w h slot true)
+        ensures changed { IfOk result (λ b. (w : World) (h : ℕ) → IsWorldButBuffers self.old w → (k : IsInKernel self.old w h slot true)
             → AreMarked w (served w h (hart_of k.hart) slot k.process k.process.pending) (slot_if slot b) None) }
-        ensures must_end { IfErr result (λ rule. (w : World) (h : ℕ) → IsWorld self.old w → (k : IsInKernel self.old w h slot true)
+        ensures must_end { IfErr result (λ rule. (w : World) (h : ℕ) → IsWorldButBuffers self.old w → (k : IsInKernel self.old w h slot true)
             → IsEnding self.old self.new w h slot k rule) }
-        ensures tables { IfOk result (λ _. (w : World) (h : ℕ) → IsWorld self.old w → (k : IsInKernel self.old w h slot true)
+        ensures tables { IfOk result (λ _. (w : World) (h : ℕ) → IsWorldButBuffers self.old w → (k : IsInKernel self.old w h slot true)
             → KeepsTables self.old self.new w.slots (served w h (hart_of k.hart) slot k.process k.process.pending).world.slots) }
         ensures others { IfErr result (λ _. KeepsOtherSlots self.old self.new slot) }
         ensures harts { self.new.harts ≡ self.old.harts }
@@ -91,7 +91,7 @@ impl SlotProcess {
     /// The first rule that denies the access, or `NoFrame` if none does and too few frames are free. The process is then what
     /// it was.
     fn serve(&mut self, frames: &mut PlainFrames, files: &mut Cabinet) -> Result<bool, Rule>
-        requires fits { IsSeatOf PlainStateRule frames.old (view_of self.old) }
+        requires fits { IsSeatOf PlainStateInvariant frames.old (view_of self.old) }
         requires ready { (t : Tables) × (p : Process) × IsSlotProcess self.old t p }
         requires waits { (t : Tables) (p : Process) → IsSlotProcess self.old t p → is_unserved_access p.pending ≡ true }
         ensures served { IfOk result (λ _. (t : Tables) (p : Process) (a : model.Pending) → IsSlotProcess self.old t p → p.pending ≡ Some a
@@ -102,7 +102,7 @@ impl SlotProcess {
             → p.pending ≡ Some a → MustEnd self.new t p a frames.old rule) }
         ensures trapframe { self.new.space.trapframe ≡ self.old.space.trapframe }
         ensures files { files.new ≡ files.old }
-        ensures keeps { KeepsSeats PlainStateRule frames.old (view_of self.old) frames.new (view_of self.new) }
+        ensures keeps { KeepsSeats PlainStateInvariant frames.old (view_of self.old) frames.new (view_of self.new) }
     {
         let Some(pending) = self.pending else {
             unreachable!()

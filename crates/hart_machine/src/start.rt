@@ -5,11 +5,11 @@ ghost use Rattle.std.specs.Prelude.{◌≡◌, ◌∷◌, List, ℕ};
 ghost use Rattle.address_space.specs.Agreement.{HoldsTrampoline};
 ghost use Rattle.address_space.specs.Kernel.{IsKernelTable};
 ghost use Rattle.frame_store.specs.SeatOpening.{opened, opener};
-ghost use Rattle.frame_store.specs.Plain.{PlainStateRule};
+ghost use Rattle.frame_store.specs.Plain.{PlainStateInvariant};
 ghost use Rattle.frame_store.specs.View.{references, View};
 ghost use Rattle.hart_machine.specs.Buffers.{SameBuffers};
 ghost use Rattle.hart_machine.specs.StepPromises.{KeepsTablesOf, MakesStep, MarksStep};
-ghost use Rattle.hart_machine.specs.Worlds.{IsWorld};
+ghost use Rattle.hart_machine.specs.Worlds.{IsWorldButBuffers};
 ghost use Rattle.process_model.specs.declared.reply.Reply.TheVariants.{Scalar};
 ghost use Rattle.process_model.specs.World.{free_slot, World};
 ghost use Rattle.process_model.specs.declared.step.Step.TheVariants as step;
@@ -28,7 +28,7 @@ impl Machine {
     /// applies of `NoSlot`, `BadImage` with the check that the image fails, and `NoFrame`.
     #[inline(never)]
     pub(crate) fn start(&mut self, image: process_model::Image<'_>) -> StepEffect<ScalarReply>
-        requires world { (w : World) × IsWorld self.old w }
+        requires world { (w : World) × IsWorldButBuffers self.old w }
         ensures made { MakesStep self.old self.new (step.Start image.entry) (Scalar result.reply) }
         ensures buffers { SameBuffers self.old self.new }
         ensures tables { KeepsTablesOf self.old self.new (step.Start image.entry) }
@@ -65,7 +65,7 @@ impl Machine {
 
     /// The lowest slot without a process; `None` if each slot has one.
     pub(crate) fn free_slot(&self) -> Option<usize>
-        ensures { (w : World) → IsWorld self.now w → result ≡ free_slot w }
+        ensures { (w : World) → IsWorldButBuffers self.now w → result ≡ free_slot w }
     {
         for slot in 0..self.slots.len() {
             if self.slots[slot].is_none() {
@@ -79,7 +79,7 @@ impl Machine {
     /// it, and nothing else. The count of frame 0 has room for it: beside the kernel's seat at most one seat for each slot
     /// holds the frame.
     pub(crate) fn open_seat(&mut self) -> PlainSeat
-        requires world { (w : World) × IsWorld self.old w }
+        requires world { (w : World) × IsWorldButBuffers self.old w }
         ensures opened { result ≡ opened self.old.kernel.seat }
         ensures opener { self.new.kernel ≡ record self.old.kernel { seat = opener self.old.kernel.seat } }
         ensures size { self.new.kernel.seat.size ≡ self.old.kernel.seat.size }
@@ -88,8 +88,8 @@ impl Machine {
         ensures harts { self.new.harts ≡ self.old.harts }
         ensures files { self.new.files ≡ self.old.files }
         ensures policy { self.new.policy ≡ self.old.policy }
-        ensures rule { (others : List View) → PlainStateRule self.old.frames (self.old.kernel.seat ∷ others)
-            → PlainStateRule self.new.frames (self.new.kernel.seat ∷ result ∷ others) }
+        ensures invariant { (others : List View) → PlainStateInvariant self.old.frames (self.old.kernel.seat ∷ others)
+            → PlainStateInvariant self.new.frames (self.new.kernel.seat ∷ result ∷ others) }
     {
         let Ok(seat) = opened_seat(&mut self.frames, &mut self.kernel.seat) else {
             unreachable!()
@@ -100,7 +100,7 @@ impl Machine {
     /// Closes a seat that holds one reference of frame 0 and nothing else: joins it to the kernel's seat, which drops the
     /// reference.
     pub(crate) fn close_seat(&mut self, seat: PlainSeat)
-        requires rule { (others : List View) × PlainStateRule self.old.frames (self.old.kernel.seat ∷ seat ∷ others) }
+        requires invariant { (others : List View) × PlainStateInvariant self.old.frames (self.old.kernel.seat ∷ seat ∷ others) }
         requires seat { HoldsTrampoline seat }
         requires code { references self.old.kernel.seat 0 ≡ 1 }
         ensures kernel { (frames slots : ℕ) (stacks : List ℕ) (t : tables.Tables)
@@ -112,8 +112,8 @@ impl Machine {
         ensures harts { self.new.harts ≡ self.old.harts }
         ensures files { self.new.files ≡ self.old.files }
         ensures policy { self.new.policy ≡ self.old.policy }
-        ensures rule { (others : List View) → PlainStateRule self.old.frames (self.old.kernel.seat ∷ seat ∷ others)
-            → PlainStateRule self.new.frames (self.new.kernel.seat ∷ others) }
+        ensures invariant { (others : List View) → PlainStateInvariant self.old.frames (self.old.kernel.seat ∷ seat ∷ others)
+            → PlainStateInvariant self.new.frames (self.new.kernel.seat ∷ others) }
     {
         self.frames.join(&mut self.kernel.seat, seat);
         self.frames.release(&mut self.kernel.seat, FrameNo(0));

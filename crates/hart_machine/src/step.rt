@@ -42,7 +42,7 @@ impl Machine {
         requires world { (w : World) × IsInWorld self.old w }
         ensures made { (w : World) → IsInWorld self.old w → (result ≡ (model.step w step.entry).reply) × IsInWorld self.new (model.step w step.entry).world }
         ensures tables { (w : World) → IsInWorld self.old w → KeepsTables self.old self.new w.slots (model.step w step.entry).world.slots }
-        ensures buffers { (w : World) (is : IsInWorld self.old w) → OnlyFillsAdd self.old self.new (is.world).tables (is.world).kernel step.entry }
+        ensures fills { (w : World) (is : IsInWorld self.old w) → OnlyFillsAdd self.old self.new (is.world).tables (is.world).kernel step.entry }
         ensures each_buffer { (w : World) (is : IsInWorld self.old w) → BuffersAre self.old self.new (is.world).tables (is.world).kernel step.entry result }
         ensures identifiers { (w : World) → IsInWorld self.old w → w.policy ≡ Asid → AreEntriesCurrent self.new }
     {
@@ -74,7 +74,7 @@ impl Machine {
         ensures made { (w : World) → IsInWorld self.old w → (Scalar result ≡ (model.step w step.entry).reply)
             × IsInWorld self.new (model.step w step.entry).world }
         ensures tables { (w : World) → IsInWorld self.old w → KeepsTables self.old self.new w.slots (model.step w step.entry).world.slots }
-        ensures buffers { (w : World) (is : IsInWorld self.old w) → OnlyFillsAdd self.old self.new (is.world).tables (is.world).kernel step.entry }
+        ensures fills { (w : World) (is : IsInWorld self.old w) → OnlyFillsAdd self.old self.new (is.world).tables (is.world).kernel step.entry }
         ensures each_buffer { (w : World) (is : IsInWorld self.old w)
             → BuffersAre self.old self.new (is.world).tables (is.world).kernel step.entry (Scalar result) }
         ensures identifiers { (w : World) → IsInWorld self.old w → w.policy ≡ Asid → AreEntriesCurrent self.new }

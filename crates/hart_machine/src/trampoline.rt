@@ -6,7 +6,7 @@ ghost use Rattle.hart_machine.specs.Buffers.{SameBuffers};
 ghost use Rattle.hart_machine.specs.BufferEntries.{IsInWorld};
 ghost use Rattle.hart_machine.specs.Harts.{hart_of};
 ghost use Rattle.hart_machine.specs.Tables.{IsTranslated, MayAsk};
-ghost use Rattle.hart_machine.specs.Worlds.{IsModelOutcome, IsWorld, KeepsWorld, SamePlaces};
+ghost use Rattle.hart_machine.specs.Worlds.{IsModelOutcome, IsWorldButBuffers, KeepsWorld, SamePlaces};
 ghost use Rattle.hart_machine.specs.declared.hart.Hart.{Hart};
 ghost use Rattle.process_model.specs.Harts.{entry_serves};
 ghost use Rattle.process_model.specs.declared.reply.Reply.TheVariants.{Scalar};
@@ -76,8 +76,8 @@ impl Machine {
         mode: Mode,
     ) -> Result<Walk, NoEntry>
         requires hart { (x : Hart) × (slice_get self.old.harts.items hart ≡ Some x) }
-        requires world { (w : World) × IsWorld self.old w }
-        ensures serves { (w : World) (x : Hart) → IsWorld self.old w → slice_get self.old.harts.items hart ≡ Some x
+        requires world { (w : World) × IsWorldButBuffers self.old w }
+        ensures serves { (w : World) (x : Hart) → IsWorldButBuffers self.old w → slice_get self.old.harts.items hart ≡ Some x
             → is_ok result ≡ entry_serves self.old.policy (hart_of x) va.0 via }
         ensures walk { IfOk result (λ z. (w : World) (is : IsInWorld self.old w) (x : Hart) → slice_get self.old.harts.items hart ≡ Some x
             → MayAsk self.old.kernel.scheme x va.0 →

@@ -8,7 +8,7 @@ ghost use Rattle.hart_machine.specs.BufferEntries.{IsInWorld};
 ghost use Rattle.hart_machine.specs.Tables.{tables_of, IsTranslated, HasTable, MayAsk, present_table};
 ghost use Rattle.table_walk.specs.Leaves.{walk_answer};
 ghost use Rattle.hart_machine.specs.StepPromises.{MakesStep};
-ghost use Rattle.hart_machine.specs.Worlds.{IsWorld, SamePlaces, KeepsWorld};
+ghost use Rattle.hart_machine.specs.Worlds.{IsWorldButBuffers, SamePlaces, KeepsWorld};
 ghost use Rattle.hart_machine.specs.declared.hart.Hart.{Hart};
 ghost use Rattle.process_model.specs.Harts.{entry_serves};
 ghost use Rattle.process_model.specs.World.{World};
@@ -66,8 +66,8 @@ impl Machine {
         access: Access,
         mode: Mode,
     ) -> Result<Option<Walk>, NoEntry>
-        requires world { (w : World) × IsWorld self.now w }
-        ensures serves { (w : World) (x : Hart) → IsWorld self.now w → slice_get self.now.harts.items hart ≡ Some x →
+        requires world { (w : World) × IsWorldButBuffers self.now w }
+        ensures serves { (w : World) (x : Hart) → IsWorldButBuffers self.now w → slice_get self.now.harts.items hart ≡ Some x →
             is_ok result ≡ entry_serves self.now.policy (hart_of x) va.0 via }
         ensures walk { IfOk result (λ o. IfSome o (λ z. (w : World) (is : IsInWorld self.now w) (x : Hart) →
             slice_get self.now.harts.items hart ≡ Some x → MayAsk self.now.kernel.scheme x va.0 →
@@ -94,8 +94,8 @@ impl Machine {
         access: Access,
         mode: Mode,
     ) -> Result<Walk, NoEntry>
-        requires world { (w : World) × IsWorld self.now w }
-        ensures serves { (w : World) (x : Hart) → IsWorld self.now w → slice_get self.now.harts.items hart ≡ Some x
+        requires world { (w : World) × IsWorldButBuffers self.now w }
+        ensures serves { (w : World) (x : Hart) → IsWorldButBuffers self.now w → slice_get self.now.harts.items hart ≡ Some x
             → is_ok result ≡ entry_serves self.now.policy (hart_of x) va.0 (Some entry) }
         ensures walk { IfOk result (λ z. (w : World) (is : IsInWorld self.now w) (x : Hart) → slice_get self.now.harts.items hart ≡ Some x
             → MayAsk self.now.kernel.scheme x va.0 →
@@ -111,8 +111,8 @@ impl Machine {
     /// Translates an access by a walk of this page table.
     pub(crate) fn walk(&mut self, table: SatpTable, va: Va, access: Access, mode: Mode) -> Walk
         requires there { HasTable self.old table }
-        requires world { (w : World) × IsWorld self.old w }
-        ensures walk { (w : World) (is : IsWorld self.old w) → result ≡ walk_answer w.scheme (tables_of is.tables is.kernel table) va.0 access mode }
+        requires world { (w : World) × IsWorldButBuffers self.old w }
+        ensures walk { (w : World) (is : IsWorldButBuffers self.old w) → result ≡ walk_answer w.scheme (tables_of is.tables is.kernel table) va.0 access mode }
         ensures world { KeepsWorld self.old self.new }
         ensures places { SamePlaces self.old self.new }
         ensures policy { self.new.policy ≡ self.old.policy }
@@ -146,9 +146,10 @@ impl Machine {
     /// the hart's buffer, and returns the number of that entry.
     pub(crate) fn fill_from_walk(&mut self, hart: usize, table: SatpTable, va: Va) -> usize
         requires present { (x : Hart) × (slice_get self.old.harts.items hart ≡ Some x) × (table ≡ present_table x) }
-        requires world { (w : World) × IsWorld self.old w }
+        requires world { (w : World) × IsWorldButBuffers self.old w }
         ensures made { MakesStep self.old self.new (step.Fill hart va.0) (Scalar (Filled result)) }
-        ensures buffers { (w : World) (is : IsWorld self.old w) → BuffersAre self.old self.new is.tables is.kernel (step.Fill hart va.0) (Scalar (Filled result)) }
+        ensures entries { (w : World) (is : IsWorldButBuffers self.old w)
+            → BuffersAre self.old self.new is.tables is.kernel (step.Fill hart va.0) (Scalar (Filled result)) }
         ensures places { SamePlaces self.old self.new }
     {
         let policy = self.policy;

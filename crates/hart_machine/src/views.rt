@@ -9,7 +9,7 @@ ghost use Rattle.hart_machine.specs.Harts.{key_of};
 ghost use Rattle.hart_machine.specs.SeenTables.{SeesTables};
 ghost use Rattle.hart_machine.specs.SlotProcesses.{pending_of};
 ghost use Rattle.hart_machine.specs.Tables.{HasTable, present_table, tables_of};
-ghost use Rattle.hart_machine.specs.Worlds.{IsWorld};
+ghost use Rattle.hart_machine.specs.Worlds.{IsWorldButBuffers};
 ghost use Rattle.hart_machine.specs.declared.hart.Hart.{Hart};
 ghost use Rattle.address_space.specs.Layouts.{granted_unless, region_of};
 ghost use Rattle.process_model.specs.Process.{regions};
@@ -191,7 +191,7 @@ impl Machine {
     /// The frame of the root of a page table.
     fn root_of(&self, table: SatpTable) -> FrameNo
         requires there { HasTable self.now table }
-        ensures { (w : World) (is : IsWorld self.now w) → SeesTables self.now w.scheme result.0 (tables_of is.tables is.kernel table) }
+        ensures { (w : World) (is : IsWorldButBuffers self.now w) → SeesTables self.now w.scheme result.0 (tables_of is.tables is.kernel table) }
     {
         match table {
             SatpTable::OfKernel => self.kernel.root,

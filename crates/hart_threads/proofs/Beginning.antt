@@ -20,8 +20,8 @@ use Rattle.hart_calls.specs.declared.finished.Finished.{Finished}
 use Rattle.process_model.specs.Process.{Process}
 use Rattle.process_model.specs.declared.call.Call.{Call}
 use Rattle.process_model.specs.declared.call.Start.{Start}
-use Rattle.process_model.specs.declared.call.Outcome.{Outcome}
-use Rattle.process_model.specs.declared.call.Outcome.TheVariants as outcome
+use Rattle.process_model.specs.declared.call.ProcessEnd.{ProcessEnd}
+use Rattle.process_model.specs.declared.call.ProcessEnd.TheVariants as outcome
 use Rattle.shared_frames.specs.SeatsOfTable.{view_of}
 use Rattle.frame_store.specs.View.{View}
 use Rattle.hart_threads.specs.StartEffects.{IsUnbegun, IsWhy}
@@ -58,7 +58,7 @@ module _ (files : List File) (lists : List (List Call)) (starts : List Start) (i
   }
 
   -- it has no process
-  why_ended : (v : View) (o : Outcome) (journal : List JournalEntry) → journal ≡ [] → IsWhy s v o → (opening : Gv) × AsEnded files starts (list_at lists s.list) v o name opening journal
+  why_ended : (v : View) (o : ProcessEnd) (journal : List JournalEntry) → journal ≡ [] → IsWhy s v o → (opening : Gv) × AsEnded files starts (list_at lists s.list) v o name opening journal
   why_ended v (outcome.Refused r) journal none why = (gnil, (none, (s, (i, named, at), why)))
   why_ended v outcome.Memory journal none why = (code_of why.0, ((why.0, why.0, refl, opens why.0 why.1, subst (λ (es : List JournalEntry). Replays why.0 0 0 (list_at lists s.list) es why.0) (sym none) refl, merely (why.0, subst (λ (es : List JournalEntry). ReplaysOver files why.0 0 0 (list_at lists s.list) es why.0) (sym none) refl)), subst GoOn (sym none) refl, (let long = ap (λ (es : List JournalEntry). length es) none in omega (arith, long))))
   why_ended v (outcome.Exited status) journal none why = absurd why

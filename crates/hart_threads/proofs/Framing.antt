@@ -10,8 +10,8 @@ use Rattle.hart_threads.specs.StartEffects.{slots_of, takes_slot}
 use Rattle.hart_threads.specs.StartFrames.{AreFramed, IfNoFrame, image_need, LeftTooFew, needs, OnNoFrame}
 use Rattle.hart_threads.specs.declared.start_result.StartResult.{StartResult}
 use Rattle.hart_threads.specs.declared.start_result.StartResult.TheVariants as made
-use Rattle.process_model.specs.declared.call.Outcome.{Outcome}
-use Rattle.process_model.specs.declared.call.Outcome.TheVariants as outcome
+use Rattle.process_model.specs.declared.call.ProcessEnd.{ProcessEnd}
+use Rattle.process_model.specs.declared.call.ProcessEnd.TheVariants as outcome
 use Rattle.process_model.specs.declared.call.Start.{Start}
 use Rattle.process_model.specs.declared.reply.Refusal.TheVariants as refusal
 
@@ -33,7 +33,7 @@ slots_length (m ∷ ms) = let rest = slots_length ms in omega (arith, rest)
 
 -- a weaker reason
 
-no_frame_weaker : (p q : Type 0) → (p → q) → (o : Outcome) → OnNoFrame p o → OnNoFrame q o
+no_frame_weaker : (p q : Type 0) → (p → q) → (o : ProcessEnd) → OnNoFrame p o → OnNoFrame q o
 no_frame_weaker p q f (outcome.Refused refusal.NoFrame) on = f on
 no_frame_weaker p q f o on = tt
 

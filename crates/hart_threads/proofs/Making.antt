@@ -11,8 +11,8 @@ use Rattle.hart_threads.specs.StartFrames.{IfFull}
 use Rattle.hart_threads.specs.Slots.{count, OnFull}
 use Rattle.hart_threads.specs.declared.start_result.StartResult.{StartResult}
 use Rattle.hart_threads.specs.declared.start_result.StartResult.TheVariants as made
-use Rattle.process_model.specs.declared.call.Outcome.{Outcome}
-use Rattle.process_model.specs.declared.call.Outcome.TheVariants as outcome
+use Rattle.process_model.specs.declared.call.ProcessEnd.{ProcessEnd}
+use Rattle.process_model.specs.declared.call.ProcessEnd.TheVariants as outcome
 use Rattle.process_model.specs.declared.call.Start.{Start}
 use Rattle.process_model.specs.declared.reply.Refusal.TheVariants as refusal
 
@@ -52,7 +52,7 @@ has_either : (xs ys : List ℕ) → has_any (xs ++ ys) ≡ true → (has_any xs 
 has_either [] ys is = inr is
 has_either (x ∷ xs) ys is = inl refl
 
-one_full : (p : Type 0) (o : Outcome) → OnFull p o → has_any (fulls o) ≡ true → p
+one_full : (p : Type 0) (o : ProcessEnd) → OnFull p o → has_any (fulls o) ≡ true → p
 one_full p (outcome.Refused refusal.SharersFull) on is = on
 one_full p o on is = absurd (let no : false ≡ true = is in cc)
 

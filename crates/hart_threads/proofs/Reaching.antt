@@ -18,8 +18,8 @@ use Rattle.hart_threads.specs.FilesOfRun.{AreFilesFor, AreReached, EndsOver, Goe
 use Rattle.process_model.specs.Files.{File}
 use Rattle.process_model.specs.Process.{Process}
 use Rattle.process_model.specs.declared.call.Call.{Call}
-use Rattle.process_model.specs.declared.call.Outcome.{Outcome}
-use Rattle.process_model.specs.declared.call.Outcome.TheVariants as outcome
+use Rattle.process_model.specs.declared.call.ProcessEnd.{ProcessEnd}
+use Rattle.process_model.specs.declared.call.ProcessEnd.TheVariants as outcome
 use Rattle.process_model.specs.declared.reply.Reply.{Reply}
 
 -- one entry more
@@ -85,7 +85,7 @@ abbrev pub unused : List File → ShelfState
 unused first = record { first = first; files = first; history = []; room = 0 }
 
 module _ (first : List File) (t : Track) (f : Finished) (a b : ShelfState) (reached : AreReached first a.files) where
-  lent_last : (x : Outcome) → IsLastEntry t f x → KeepsFilesByOutcome t f x a b → HasEndedOver first t f x
+  lent_last : (x : ProcessEnd) → IsLastEntry t f x → KeepsFilesByOutcome t f x a b → HasEndedOver first t f x
   lent_last (outcome.Exited status) l k = record { entry = k.entry; files = a.files; after = k.after; adds = k.adds; next = ap call_of (last_same t.journal k.entry l.entry (sym k.adds ∙ l.journal)) ∙ l.next; leads = k.leads; given = inl reached }
   lent_last (outcome.Ended rule) l k = record { entry = k.entry; files = a.files; after = k.after; adds = k.adds; next = ap call_of (last_same t.journal k.entry l.entry (sym k.adds ∙ l.journal)) ∙ l.next; leads = k.leads; given = inl reached }
   lent_last (outcome.Refused r) l k = tt
@@ -96,7 +96,7 @@ pub lent_turn : {B : Type 0} (table : TableId) (first : List File) (t : Track) (
 lent_turn table first t (turn.Continues u c) s a b reached went k = kept_over first t u a b went.entry reached k went.adds
 lent_turn table first t (turn.Over f) s a b reached over k = lent_last first t f a b reached f.outcome over.last k
 
-first_last : (t : Track) (f : Finished) (a b : ShelfState) (x : Outcome) → KeepsFilesByOutcome t f x a b → b.first ≡ a.first
+first_last : (t : Track) (f : Finished) (a b : ShelfState) (x : ProcessEnd) → KeepsFilesByOutcome t f x a b → b.first ≡ a.first
 first_last t f a b (outcome.Exited status) k = k.becomes.first
 first_last t f a b (outcome.Ended rule) k = k.becomes.first
 first_last t f a b (outcome.Refused r) k = absurd k
@@ -131,7 +131,7 @@ module _ (first : List File) (t : Track) (none : NeedsFiles t → ⊥) where
     given = inr ((λ mmap. none (inl (subst IsMmap e.next mmap))), (λ maps. none (inr maps)));
   }
 
-  free_last : (f : Finished) (x : Outcome) → IsLastEntry t f x → HasEndedOver first t f x
+  free_last : (f : Finished) (x : ProcessEnd) → IsLastEntry t f x → HasEndedOver first t f x
   free_last f (outcome.Exited status) l = free_end f _ l
   free_last f (outcome.Ended rule) l = free_end f _ l
   free_last f (outcome.Refused r) l = tt

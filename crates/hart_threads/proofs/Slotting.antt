@@ -13,8 +13,8 @@ use Rattle.hart_threads.specs.Slots.{AreSlotted, AreTaken, count, FindsSlot, IsT
 use Rattle.hart_threads.specs.StartFrames.{ArePoolStarts, IsPoolStart, LeftTooFew, OnNoFrame}
 use Rattle.hart_threads.specs.declared.start_result.StartResult.{StartResult}
 use Rattle.hart_threads.specs.declared.start_result.StartResult.TheVariants as made
-use Rattle.process_model.specs.declared.call.Outcome.{Outcome}
-use Rattle.process_model.specs.declared.call.Outcome.TheVariants as outcome
+use Rattle.process_model.specs.declared.call.ProcessEnd.{ProcessEnd}
+use Rattle.process_model.specs.declared.call.ProcessEnd.TheVariants as outcome
 use Rattle.process_model.specs.declared.call.Start.{Start}
 use Rattle.process_model.specs.declared.reply.Refusal.TheVariants as refusal
 use Rattle.shared_frames.specs.SeatsOfTable.{view_of}
@@ -23,14 +23,14 @@ use Rattle.vouchers.specs.Lists.{without_had}
 
 -- a process that began had a slot
 
-finds_free : (slots n : ℕ) (o : Outcome) → Unrefused o → n < slots → FindsSlot slots n o
+finds_free : (slots n : ℕ) (o : ProcessEnd) → Unrefused o → n < slots → FindsSlot slots n o
 finds_free slots n (outcome.Exited status) began lt = lt
 finds_free slots n (outcome.Ended rule) began lt = lt
 finds_free slots n (outcome.Refused r) began lt = absurd began
 finds_free slots n outcome.Memory began lt = lt
 finds_free slots n outcome.JournalFull began lt = lt
 
-takes_one : (slot : Option Bool) (o : Outcome) (journal : List JournalEntry) → Unrefused o → slot ≡ Some true → Takes slot o journal
+takes_one : (slot : Option Bool) (o : ProcessEnd) (journal : List JournalEntry) → Unrefused o → slot ≡ Some true → Takes slot o journal
 takes_one slot (outcome.Refused r) journal began is = absurd began
 takes_one slot (outcome.Exited status) [] began is = tt
 takes_one slot (outcome.Exited status) (e ∷ es) began is = is
@@ -41,11 +41,11 @@ takes_one slot outcome.Memory (e ∷ es) began is = is
 takes_one slot outcome.JournalFull [] began is = tt
 takes_one slot outcome.JournalFull (e ∷ es) began is = is
 
-not_full : (full : Type 0) (o : Outcome) → Unrefused o → OnFull full o
+not_full : (full : Type 0) (o : ProcessEnd) → Unrefused o → OnFull full o
 not_full full (outcome.Refused r) began = absurd began
 not_full full o began = tt
 
-not_dry : (lacks : Type 0) (o : Outcome) → Unrefused o → OnNoFrame lacks o
+not_dry : (lacks : Type 0) (o : ProcessEnd) → Unrefused o → OnNoFrame lacks o
 not_dry lacks (outcome.Refused r) began = absurd began
 not_dry lacks o began = tt
 
@@ -58,7 +58,7 @@ began_settled starts slots taken full free f began all = record {
 
 -- a start without a process took none
 
-takes_none : (slot : Option Bool) (s : Start) (v : View) (o : Outcome) (journal : List JournalEntry) → IsWhy s v o → journal ≡ [] → slot ≡ Some false → Takes slot o journal
+takes_none : (slot : Option Bool) (s : Start) (v : View) (o : ProcessEnd) (journal : List JournalEntry) → IsWhy s v o → journal ≡ [] → slot ≡ Some false → Takes slot o journal
 takes_none slot s v (outcome.Refused r) journal why none is = is
 takes_none slot s v outcome.Memory [] why none is = tt
 takes_none slot s v outcome.Memory (e ∷ es) why none is = absurd (let no : e ∷ es ≡ [] = none in cc)
@@ -95,7 +95,7 @@ module _ (name named : List ℕ) (began child : Birth) (before children none : L
 
 -- counts that were read as 65,535
 
-full_at : (full : Bool) (o : Outcome) (rest : List ℕ) → (has_any (fulls o ++ rest) ≡ true → full ≡ true) → OnFull (full ≡ true) o
+full_at : (full : Bool) (o : ProcessEnd) (rest : List ℕ) → (has_any (fulls o ++ rest) ≡ true → full ≡ true) → OnFull (full ≡ true) o
 full_at full (outcome.Refused refusal.SharersFull) rest told = told refl
 full_at full o rest told = tt
 
@@ -114,7 +114,7 @@ full_rest full m ms told is = told (any_right (looks_of m) (all_looks ms) is)
 
 -- what a run says of slots and of counts
 
-pub on_weaker : (p q : Type 0) → (p → q) → (o : Outcome) → OnFull p o → OnFull q o
+pub on_weaker : (p q : Type 0) → (p → q) → (o : ProcessEnd) → OnFull p o → OnFull q o
 on_weaker p q f (outcome.Refused refusal.SharersFull) on = f on
 on_weaker p q f o on = tt
 

@@ -20,8 +20,8 @@ use Rattle.process_model.specs.Residence.{child_of}
 use Rattle.process_model.specs.declared.call.Call.{Call}
 use Rattle.process_model.specs.declared.call.Call.TheVariants as call
 use Rattle.process_model.specs.declared.call.Start.{Start}
-use Rattle.process_model.specs.declared.call.Outcome.{Outcome}
-use Rattle.process_model.specs.declared.call.Outcome.TheVariants as outcome
+use Rattle.process_model.specs.declared.call.ProcessEnd.{ProcessEnd}
+use Rattle.process_model.specs.declared.call.ProcessEnd.TheVariants as outcome
 use Rattle.process_model.specs.declared.reply.Reply.{Reply}
 use Rattle.process_model.specs.declared.reply.ScalarReply.TheVariants as scalar
 use Rattle.process_model.specs.declared.reply.Reply.TheVariants as reply
@@ -239,14 +239,14 @@ module _ (files : List File) (lists : List (List Call)) (starts : List Start) (h
   ends_heirs : (f : Finished) (r : Reply) → forked r ≡ 0 → EndsBy t f r → births_of f.journal.items ≡ births_of t.journal
   ends_heirs f r none e = heirs_after t.journal f.journal.items e.entry [] e.journal (no_heir (birth_of e.entry) e.entry.reply (ap forked e.reply ∙ none)) ∙ append-nil (births_of t.journal)
 
-  last_heirs : (f : Finished) (x : Outcome) → IsLastEntry t f x → births_of f.journal.items ≡ births_of t.journal
+  last_heirs : (f : Finished) (x : ProcessEnd) → IsLastEntry t f x → births_of f.journal.items ≡ births_of t.journal
   last_heirs f (outcome.Exited status) l = ends_heirs f (reply.Scalar (scalar.Exited status)) refl l
   last_heirs f (outcome.Ended rule) l = ends_heirs f (reply.Scalar (scalar.Ended rule)) refl l
   last_heirs f (outcome.Refused r) l = absurd l
   last_heirs f outcome.Memory l = ap births_of l.0
   last_heirs f outcome.JournalFull l = ap births_of l.0
 
-  last_began : (f : Finished) (x : Outcome) → IsLastEntry t f x → Unrefused x
+  last_began : (f : Finished) (x : ProcessEnd) → IsLastEntry t f x → Unrefused x
   last_began f (outcome.Refused r) l = absurd l
   last_began f x l = tt
 
@@ -259,7 +259,7 @@ module _ (files : List File) (lists : List (List Call)) (starts : List Start) (h
       (t.state, subst (λ (es : List JournalEntry). ReplaysOver files t.opening 0 0 (calls_of t) es t.state) (sym same) r))
 
   -- the journal at the end
-  ended_runs : (f : Finished) (x : Outcome) → IsLastEntry t f x → HasEndedOver files t f x → RunsOver files (calls_of t) t.opening f.journal.items
+  ended_runs : (f : Finished) (x : ProcessEnd) → IsLastEntry t f x → HasEndedOver files t f x → RunsOver files (calls_of t) t.opening f.journal.items
   ended_runs f (outcome.Exited status) l e = ends_over f e
   ended_runs f (outcome.Ended rule) l e = ends_over f e
   ended_runs f (outcome.Refused r) l e = absurd l
@@ -270,7 +270,7 @@ module _ (files : List File) (lists : List (List Call)) (starts : List Start) (h
     ran : HasRun files starts calls t.name (code_of t.opening) f.journal.items
     ran = (t.opening, q, refl, opens, replays, runs)
 
-    as_ended : (v : View) (x : Outcome) → IsLastEntry t f x → LacksJournalRoom v q calls f.journal.items x → AsEnded files starts calls v x t.name (code_of t.opening) f.journal.items
+    as_ended : (v : View) (x : ProcessEnd) → IsLastEntry t f x → LacksJournalRoom v q calls f.journal.items x → AsEnded files starts calls v x t.name (code_of t.opening) f.journal.items
     as_ended v (outcome.Exited status) l full = (ran, ends_in f (reply.Scalar (scalar.Exited status)) l)
     as_ended v (outcome.Ended rule) l full = (ran, ends_in f (reply.Scalar (scalar.Ended rule)) l)
     as_ended v (outcome.Refused r) l full = absurd l

@@ -11,7 +11,7 @@ use Rattle.hart_threads.specs.StartFrames.{OnNoFrame}
 use Rattle.hart_threads.specs.Starts.{IsRefusedStart, IsRefusedTry, Lends}
 use Rattle.process_model.specs.Frames.{start_need}
 use Rattle.process_model.specs.Images.{image_loads, LoadSegment}
-use Rattle.process_model.specs.declared.call.Outcome.TheVariants as outcome
+use Rattle.process_model.specs.declared.call.ProcessEnd.TheVariants as outcome
 use Rattle.process_model.specs.declared.image.Image.{Image}
 use Rattle.process_model.specs.declared.reply.Refusal.{Refusal}
 use Rattle.process_model.specs.declared.reply.Refusal.TheVariants as refusal

@@ -14,8 +14,8 @@ use Rattle.process_model.specs.Files.{File}
 use Rattle.process_model.specs.PageMoves.{files_after, PageMove}
 use Rattle.process_model.specs.Process.{Process}
 use Rattle.process_model.specs.declared.call.Call.{Call}
-use Rattle.process_model.specs.declared.call.Outcome.{Outcome}
-use Rattle.process_model.specs.declared.call.Outcome.TheVariants as outcome
+use Rattle.process_model.specs.declared.call.ProcessEnd.{ProcessEnd}
+use Rattle.process_model.specs.declared.call.ProcessEnd.TheVariants as outcome
 
 -- from the files at first some moves give these files; each page read among them has the bytes that the writes before it left
 pub record AreReached (first files : List File) : Type 0 where
@@ -63,7 +63,7 @@ pub record EndsOver (first : List File) (t : Track) (f : Finished) : Type 0 wher
   pub leads : IsReplayStep files (forks t.journal) t.state entry after
   pub given : AreFilesFor first t.state (call_of entry) files
 
-abbrev pub HasEndedOver : List File → Track → Finished → Outcome → Type 0
+abbrev pub HasEndedOver : List File → Track → Finished → ProcessEnd → Type 0
 HasEndedOver first t f (outcome.Exited status) = EndsOver first t f
 HasEndedOver first t f (outcome.Ended rule) = EndsOver first t f
 HasEndedOver first t f o = Unit {0}

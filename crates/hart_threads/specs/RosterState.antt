@@ -11,8 +11,8 @@ use Rattle.frame_store.specs.View.{View}
 use Rattle.shared_frames.specs.SeatsOfTable.{FitsIn, view_of}
 use Rattle.process_model.specs.Frames.{start_need}
 use Rattle.process_model.specs.Images.{image_loads, LoadSegment}
-use Rattle.process_model.specs.declared.call.Outcome.{Outcome}
-use Rattle.process_model.specs.declared.call.Outcome.TheVariants as outcome
+use Rattle.process_model.specs.declared.call.ProcessEnd.{ProcessEnd}
+use Rattle.process_model.specs.declared.call.ProcessEnd.TheVariants as outcome
 use Rattle.process_model.specs.declared.call.Start.{Start}
 use Rattle.process_model.specs.declared.image.Image.{Image}
 use Rattle.process_model.specs.declared.reply.Refusal.{Refusal}
@@ -117,7 +117,7 @@ abbrev pub HasRun : List File → List Start → List Call → List ℕ → Gv �
 HasRun files starts calls name opening journal = (p q : Process) × (code_of p ≡ opening) × BeginsAsImage starts name p
     × Replays p 0 0 calls journal q × RunsOver files calls p journal
 
--- `HasRun`, and at the end the journal has 10,000 entries, or the process has a mapping and its next call asks a promise for
+-- `HasRun`, and at the end the journal has `MOST_ENTRIES` entries, or the process has a mapping and its next call asks a promise for
 -- which a history of the files has no room. v is the seat's view then
 abbrev pub HasRunFull : List File → List Start → List Call → View → List ℕ → Gv → List JournalEntry → Type 0
 HasRunFull files starts calls v name opening journal = (p q : Process) × (code_of p ≡ opening) × BeginsAsImage starts name p
@@ -141,11 +141,12 @@ abbrev pub EndsIn : Reply → List JournalEntry → Type 0
 EndsIn r journal = (es : List JournalEntry) × (e : JournalEntry) × (journal ≡ es ++ e ∷ []) × (e.reply ≡ r) × GoOn es
 
 -- the journal by the outcome: a process that was started has made the first calls of its list; after Memory it has fewer
--- than 10,000 entries; only a start is refused, and then it has made no call
-abbrev pub AsEnded : List File → List Start → List Call → View → Outcome → List ℕ → Gv → List JournalEntry → Type 0
+-- than `MOST_ENTRIES` entries; only a start is refused, and then it has made no call
+abbrev pub AsEnded : List File → List Start → List Call → View → ProcessEnd → List ℕ → Gv → List JournalEntry → Type 0
 AsEnded files starts calls v (outcome.Exited status) name opening journal = HasRun files starts calls name opening journal
     × EndsIn (reply.Scalar (scalar.Exited status)) journal
-AsEnded files starts calls v (outcome.Ended rule) name opening journal = HasRun files starts calls name opening journal × EndsIn (reply.Scalar (scalar.Ended rule)) journal
+AsEnded files starts calls v (outcome.Ended rule) name opening journal =
+    HasRun files starts calls name opening journal × EndsIn (reply.Scalar (scalar.Ended rule)) journal
 AsEnded files starts calls v (outcome.Refused r) name opening journal = (journal ≡ []) × ((s : Start) × IsOfStart starts name s × RefusesStart s.image v r)
 AsEnded files starts calls v outcome.Memory name opening journal = HasRun files starts calls name opening journal × GoOn journal
     × (length journal < MOST_ENTRIES)

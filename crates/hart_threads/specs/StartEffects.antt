@@ -1,5 +1,5 @@
 -- Results of the starts of a run, made in order (`IsStartResult`, `AreStartResults`): with a process, or ended without one
--- and why (`IsUnbegun`); which of them took a slot (`takes_slot`, `slots_of`), and the counts of 65,535 that the kernel's
+-- and why (`IsUnbegun`); which of them took a slot (`takes_slot`, `slots_of`), and the counts of `MOST_REFERENCES` that the kernel's
 -- seat (its capability at the frame store) read for refusals with SharersFull (`looks_of`, `any_full`).
 use Rattle.std.specs.Prelude.{◌≡◌, ℕ, ◌+◌, ◌<◌, ◌∷◌, [], ◌++◌, Bool, true, false, cond, List, Some, slice_get}
 use Rattle.address_space.specs.Steps.{IsBare}
@@ -12,8 +12,8 @@ use Rattle.hart_threads.specs.Starts.{IsBegun, IsProcessOf}
 use Rattle.hart_threads.specs.declared.start_result.StartResult.{StartResult}
 use Rattle.hart_threads.specs.declared.start_result.StartResult.TheVariants as made
 use Rattle.process_model.specs.Process.{Process}
-use Rattle.process_model.specs.declared.call.Outcome.{Outcome}
-use Rattle.process_model.specs.declared.call.Outcome.TheVariants as outcome
+use Rattle.process_model.specs.declared.call.ProcessEnd.{ProcessEnd}
+use Rattle.process_model.specs.declared.call.ProcessEnd.TheVariants as outcome
 use Rattle.process_model.specs.declared.call.Start.{Start}
 use Rattle.process_model.specs.declared.reply.Refusal.TheVariants as refusal
 use Rattle.process_model.specs.declared.limits.TheConstants.{MOST_REFERENCES}
@@ -29,9 +29,9 @@ abbrev pub slots_of : List StartResult → List Bool
 slots_of [] = []
 slots_of (m ∷ ms) = takes_slot m ∷ slots_of ms
 
--- the counts that the kernel's seat reads: 65,535, once for each start that is refused with SharersFull
+-- the counts that the kernel's seat reads: `MOST_REFERENCES`, once for each start that is refused with SharersFull
 
-abbrev pub fulls : Outcome → List ℕ
+abbrev pub fulls : ProcessEnd → List ℕ
 fulls (outcome.Refused refusal.SharersFull) = MOST_REFERENCES ∷ []
 fulls o = []
 
@@ -57,7 +57,7 @@ IsFullKnown full (made.Begun name space opening) = Unit {0}
 IsFullKnown full (made.Over f) = OnFull (full ≡ true) f.outcome
 
 -- why a start has no process: it was refused, or its image is accepted and the host had no memory for its space
-abbrev pub IsWhy : Start → View → Outcome → Type 0
+abbrev pub IsWhy : Start → View → ProcessEnd → Type 0
 IsWhy s v (outcome.Refused r) = RefusesStart s.image v r
 IsWhy s v outcome.Memory = (p : Process) × IsProcessOf s.image p
 IsWhy s v o = ⊥

@@ -8,8 +8,8 @@ use Rattle.hart_threads.specs.declared.start_result.StartResult.{StartResult}
 use Rattle.hart_threads.specs.declared.start_result.StartResult.TheVariants as made
 use Rattle.process_model.specs.Frames.{start_need}
 use Rattle.process_model.specs.Images.{image_loads, LoadSegment}
-use Rattle.process_model.specs.declared.call.Outcome.{Outcome}
-use Rattle.process_model.specs.declared.call.Outcome.TheVariants as outcome
+use Rattle.process_model.specs.declared.call.ProcessEnd.{ProcessEnd}
+use Rattle.process_model.specs.declared.call.ProcessEnd.TheVariants as outcome
 use Rattle.process_model.specs.declared.call.Start.{Start}
 use Rattle.process_model.specs.declared.image.BadImage.{BadImage}
 use Rattle.process_model.specs.declared.image.Image.{Image}
@@ -35,7 +35,7 @@ abbrev pub LeftTooFew : ℕ → List Start → List Bool → ℕ → Type 0
 LeftTooFew free starts taken i = (s : Start) × (slice_get starts i ≡ Some s) × (free < needs starts (take i taken) + image_need s.image)
 
 -- the outcome is NoFrame only if this holds
-abbrev pub OnNoFrame : Type 0 → Outcome → Type 0
+abbrev pub OnNoFrame : Type 0 → ProcessEnd → Type 0
 OnNoFrame lacks (outcome.Refused refusal.NoFrame) = lacks
 OnNoFrame lacks o = Unit {0}
 

@@ -29,7 +29,7 @@ pub record Lends (v w : View) : Type 0 where
   pub others : (f : ℕ) → f ≢ 0 → hold_of w f ≡ hold_of v f
 
 -- why a start is refused. NoSlot: exactly if there is none. BadImage: the image fails this check. SharersFull: the kernel's
--- seat is not alone and read a count of 65,535. NoFrame: the caller does not say that there are enough frames
+-- seat is not alone and read a count of `MOST_REFERENCES`. NoFrame: the caller does not say that there are enough frames
 abbrev pub IsRefusedStart : Bool → Bool → Bool → Image → View → View → Refusal → Type 0
 IsRefusedStart slot alone enough image v w refusal.NoSlot = slot ≡ false
 IsRefusedStart slot alone enough image v w (refusal.BadImage part) = (slot ≡ true) × (image_loads Sv39 image ≡ Err part)

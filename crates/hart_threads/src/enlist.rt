@@ -9,7 +9,7 @@ ghost use Rattle.hart_threads.specs.Slots.{count};
 
 use crate::job::Job;
 use crate::plan::Plan;
-use crate::queue::{Part, put};
+use crate::queue::{QueuePart, put};
 use crate::roster::Roster;
 use crate::start_outcomes::StartOutcomes;
 use crate::start_result::StartResult;
@@ -27,7 +27,7 @@ pub(crate) struct Enlister<'r, 'a, B: Plan, R: Wait> {
     pub(crate) alloc: Global,
     pub(crate) token_table: &'r TokenTable,
     pub(crate) lists: &'a [Sequence<Call<'a>>],
-    pub(crate) parts: &'r [Part<'a, B>],
+    pub(crate) parts: &'r [QueuePart<'a, B>],
     ghost at: { token_table.now ≡ B.token_table },
     ghost of_lists: { lists.now ≡ B.lists },
 }

@@ -15,7 +15,7 @@ ghost use Rattle.vouchers.specs.IssuerSeats.{HoldsAt, held_of};
 use crate::gate::Gate;
 use crate::job::{EndedJob, Job, JobStep};
 use crate::plan::Plan;
-use crate::queue::{Part, exchange, put, take};
+use crate::queue::{QueuePart, exchange, put, take};
 use crate::roster::{Admission, Roster};
 use crate::run_shelf::{RunFiles, RunShelf};
 use crate::start_outcomes::StartOutcomes;
@@ -40,7 +40,7 @@ pub(crate) struct HartThread<'r, 'a, B: Plan, F: StartOutcomes, W: RunFiles, R: 
     pub(crate) token_table: &'r TokenTable,
     pub(crate) roster: &'r Mutex<Roster<'a, B, F>>,
     pub(crate) shelf: &'r Mutex<RunShelf<W>>,
-    pub(crate) parts: &'r [Part<'a, B>],
+    pub(crate) parts: &'r [QueuePart<'a, B>],
     pub(crate) gate: &'r G,
     pub(crate) number: usize,
     ghost table: { frames.now.table ≡ B.table },

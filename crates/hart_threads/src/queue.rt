@@ -1,4 +1,4 @@
-// The run queue: `Part`, a queue of jobs (unfinished processes) under a lock, one for each hart; `parts_for` allocates them,
+// The run queue: `QueuePart`, a queue of jobs (unfinished processes) under a lock, one for each hart; `parts_for` allocates them,
 // `take` pops a job from the hart's own part or else from another, `put` appends one to a part that has room, `exchange` puts
 // one back into the hart's own part and takes the next. No contract names what is in a part, since other harts change it as
 // soon as its lock is released: that no job is lost or doubled follows from the types, as a `Job` is neither `Drop` nor `Copy`.
@@ -12,7 +12,7 @@ use std::sync::{Mutex, Wait};
 
 /// One part of the run queue, under its lock. No other part is on its cache lines, so a hart that locks its own part does
 /// not slow down the others.
-pub(crate) type Part<'a, B> = Mutex<CachePadded<JobQueue<'a, B>>>;
+pub(crate) type QueuePart<'a, B> = Mutex<CachePadded<JobQueue<'a, B>>>;
 
 /// Makes a part for each hart, at least one, each with room for `slots` jobs.
 ///
@@ -22,7 +22,7 @@ pub(crate) fn parts_for<'a, B: Plan>(
     alloc: Global,
     harts: usize,
     slots: usize,
-) -> Result<Vec<Part<'a, B>>, AllocError> {
+) -> Result<Vec<QueuePart<'a, B>>, AllocError> {
     let mut parts = Vec::new(alloc);
     'parts: for _ in 0..harts.max(1) {
         let jobs = JobQueue::with_room(alloc, slots)?;
@@ -35,7 +35,7 @@ pub(crate) fn parts_for<'a, B: Plan>(
 /// locked.
 pub(crate) fn take<'a, B: Plan, R: Wait>(
     rt: &R,
-    parts: &[Part<'a, B>],
+    parts: &[QueuePart<'a, B>],
     hart: usize,
 ) -> Option<Job<'a, B>> {
     'parts: for k in 0..parts.len() {
@@ -52,7 +52,7 @@ pub(crate) fn take<'a, B: Plan, R: Wait>(
 /// as there are slots.
 pub(crate) fn put<'a, B: Plan, R: Wait>(
     rt: &R,
-    parts: &[Part<'a, B>],
+    parts: &[QueuePart<'a, B>],
     hart: usize,
     job: Job<'a, B>,
 ) {
@@ -76,7 +76,7 @@ pub(crate) fn put<'a, B: Plan, R: Wait>(
 /// job itself if there is no other.
 pub(crate) fn exchange<'a, B: Plan, R: Wait>(
     rt: &R,
-    parts: &[Part<'a, B>],
+    parts: &[QueuePart<'a, B>],
     hart: usize,
     job: Job<'a, B>,
 ) -> Job<'a, B> {

@@ -20,7 +20,7 @@ use crate::gate::Gate;
 use crate::hart::HartThread;
 use crate::name_buffer::name_rooms;
 use crate::plan::Plan;
-use crate::queue::{Part, parts_for};
+use crate::queue::{QueuePart, parts_for};
 use crate::roster::Roster;
 use crate::run_shelf::{RunFiles, RunShelf};
 use crate::start::StartContext;
@@ -44,7 +44,7 @@ fn run_hart<'a, B: Plan, F: StartOutcomes, W: RunFiles, R: Wait, G: Gate>(
     token_table: &TokenTable,
     roster: &Mutex<Roster<'a, B, F>>,
     shelf: &Mutex<RunShelf<W>>,
-    parts: &[Part<'a, B>],
+    parts: &[QueuePart<'a, B>],
     gate: &G,
     number: usize,
     quantum: usize,
@@ -81,7 +81,7 @@ fn run_all<
     token_table: &'r TokenTable,
     roster: &'r Mutex<Roster<'a, B, F>>,
     shelf: &'r Mutex<RunShelf<W>>,
-    parts: &'r [Part<'a, B>],
+    parts: &'r [QueuePart<'a, B>],
     gate: &'r G,
     harts: usize,
     quantum: usize,
@@ -147,7 +147,7 @@ fn run_made<
     ends: Vec<Finished<'a>>,
     lists: &'a [Sequence<Call<'a>>],
     starts: &[Start<'_>],
-    parts: &[Part<'a, B>],
+    parts: &[QueuePart<'a, B>],
     all: &mut VecDeque<StartResult<'a>>,
     slots: usize,
     harts: usize,

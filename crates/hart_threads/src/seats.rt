@@ -6,7 +6,7 @@ ghost use Rattle.std.specs.Prelude.{[], ◌≡◌, true, IfErr, IfOk};
 ghost use Rattle.address_space.specs.Agreement.{HoldsTrampoline};
 ghost use Rattle.address_space.specs.Steps.{IsBare};
 ghost use Rattle.frame_store.specs.View.{IsHeld, read_full};
-ghost use Rattle.process_model.specs.declared.call.Outcome.TheVariants as outcome;
+ghost use Rattle.process_model.specs.declared.call.ProcessEnd.TheVariants as outcome;
 ghost use Rattle.process_model.specs.Frames.{start_need};
 ghost use Rattle.process_model.specs.ImageProcess.{process_of};
 ghost use Rattle.shared_frames.specs.SeatsOfTable.{FitsIn, view_of};
@@ -19,7 +19,7 @@ use address_space::Space;
 use exec_segments::{Image, start, start_frames};
 use frame_store::{FrameAccess, FrameSupply, NoFrame, SharersFull, opened_seat};
 use hart_calls::{Finished, ModelProcess, begun};
-use process_model::{Outcome, Refusal};
+use process_model::{ProcessEnd, Refusal};
 use shared_frames::{SharedSeat, SharedSupply};
 use std::alloc::Global;
 use std::sync::Wait;
@@ -117,7 +117,7 @@ pub(crate) fn end_unstarted<'a, R: Wait>(
     let _ = opening;
     Finished {
         name,
-        outcome: Outcome::Memory,
+        outcome: ProcessEnd::Memory,
         journal: Vec::new(alloc),
         seat: space.destroy(store),
     }

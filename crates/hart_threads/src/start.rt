@@ -14,7 +14,7 @@ use crate::name_buffer::NameBuffer;
 use crate::seats::{end_unstarted, frames_for, started};
 use crate::start_result::StartResult;
 use hart_calls::Finished;
-use process_model::{Outcome, Start};
+use process_model::{ProcessEnd, Start};
 use shared_frames::{SharedFrames, SharedSeat};
 use std::alloc::Global;
 use std::collections::VecDeque;
@@ -75,7 +75,7 @@ impl<'r, R: Wait> StartContext<'r, R> {
             },
             Err((refusal, seat)) => StartResult::Over(Finished {
                 name,
-                outcome: Outcome::Refused(refusal),
+                outcome: ProcessEnd::Refused(refusal),
                 journal: Vec::new(self.alloc),
                 seat,
             }),

@@ -36,7 +36,7 @@ pub fn sbrk<S: FrameSeat, F: FrameAccess<Seat = S>>(
     store: &mut F,
     delta: i64,
 ) -> Result<u64, SizeError>
-    requires fits { IsSeatOf F.rule store.old space.old.seat }
+    requires fits { IsSeatOf F.invariant store.old space.old.seat }
     requires ready { IsAlive (body_of S.view space.old) }
     ensures answer { (t : Tables) (p : Process) → IsSpace (body_of S.view space.old) t p →
         answer_of result ≡ size_before p (model.sbrk_result p delta) }
@@ -49,7 +49,7 @@ pub fn sbrk<S: FrameSeat, F: FrameAccess<Seat = S>>(
     ensures tallies { TakesFrames (S.view space.old.seat) (S.view space.new.seat) 0 [] }
     ensures root { space.new.root ≡ space.old.root }
     ensures trapframe { space.new.trapframe ≡ space.old.trapframe }
-    ensures keeps { KeepsSeats F.rule store.old space.old.seat store.new space.new.seat }
+    ensures keeps { KeepsSeats F.invariant store.old space.old.seat store.new space.new.seat }
     ensures free { F.alone → F.free store.old ≤ F.free store.new }
 {
     let before = space.layout.size();
@@ -105,7 +105,7 @@ fn release_pages<S: FrameSeat, F: FrameAccess<Seat = S>>(
     first: Vpn,
     end: Vpn,
 )
-    requires fits { IsSeatOf F.rule store.old space.old.seat }
+    requires fits { IsSeatOf F.invariant store.old space.old.seat }
     requires ready { IsAlive (body_of S.view space.old) }
     requires low { end ≤ trapframe_page space.old.layout.scheme }
     ensures released { (t : Tables) (p : Process) →
@@ -115,7 +115,7 @@ fn release_pages<S: FrameSeat, F: FrameAccess<Seat = S>>(
     ensures kept_store { end ≤ first → store.new ≡ store.old }
     ensures tallies { TakesFrames (S.view space.old.seat) (S.view space.new.seat) 0 [] }
     ensures place { KeepsPlace space.old space.new }
-    ensures keeps { KeepsSeats F.rule store.old space.old.seat store.new space.new.seat }
+    ensures keeps { KeepsSeats F.invariant store.old space.old.seat store.new space.new.seat }
     ensures free { F.alone → F.free store.old ≤ F.free store.new }
 {
     if end <= first {

@@ -26,13 +26,13 @@ pub(crate) fn count_run<S: FrameSeat, F: FrameAccess<Seat = S>>(
     store: &mut F,
     run: &Run,
 ) -> usize
-    requires fits { IsSeatOf F.rule store.old space.old.seat }
+    requires fits { IsSeatOf F.invariant store.old space.old.seat }
     requires ready { (t : Tables) × (p : Process) × IsSpace (body_of S.view space.old) t p × IsRunOf p (run_of run.now) }
     ensures count { (t : Tables) (p : Process) → IsSpace (body_of S.view space.old) t p → IsRunOf p (run_of run.now)
         → result ≡ length (moves_in p (run_of run.now)) }
     ensures few { run.now.first + result ≤ run.now.end }
     ensures reads { OnlyReads S.view space.old space.new store.old store.new }
-    ensures keeps { KeepsSeats F.rule store.old space.old.seat store.new space.new.seat }
+    ensures keeps { KeepsSeats F.invariant store.old space.old.seat store.new space.new.seat }
 {
     if run.file().is_none() {
         return 0;
@@ -57,7 +57,7 @@ pub(crate) fn write_run<S: FrameSeat, F: FrameAccess<Seat = S>, C: Files>(
     files: &mut C,
     run: &Run,
 )
-    requires fits { IsSeatOf F.rule store.old space.old.seat }
+    requires fits { IsSeatOf F.invariant store.old space.old.seat }
     requires ready { (t : Tables) × (p : Process) × IsSpaceInCall (body_of S.view space.old) t p no_extra × IsRunOf p (run_of run.now)
         × (length (moves_in p (run_of run.now)) ≤ C.room files.old) }
     ensures moves { (t : Tables) (p : Process) → IsSpaceInCall (body_of S.view space.old) t p no_extra → IsRunOf p (run_of run.now)
@@ -65,7 +65,7 @@ pub(crate) fn write_run<S: FrameSeat, F: FrameAccess<Seat = S>, C: Files>(
     ensures rest { (t : Tables) (p : Process) → IsSpaceInCall (body_of S.view space.old) t p no_extra → IsRunOf p (run_of run.now)
         → C.room files.old ≤ length (moves_in p (run_of run.now)) + C.room files.new }
     ensures reads { OnlyReads S.view space.old space.new store.old store.new }
-    ensures keeps { KeepsSeats F.rule store.old space.old.seat store.new space.new.seat }
+    ensures keeps { KeepsSeats F.invariant store.old space.old.seat store.new space.new.seat }
 {
     let Some((file, offset)) = run.file() else {
         return;
@@ -96,14 +96,14 @@ pub fn promise_write_back<S: FrameSeat, F: FrameAccess<Seat = S>, C: Files>(
     store: &mut F,
     files: &mut C,
 ) -> Result<(), PromiseError>
-    requires fits { IsSeatOf F.rule store.old space.old.seat }
+    requires fits { IsSeatOf F.invariant store.old space.old.seat }
     requires ready { IsAlive (body_of S.view space.old) }
     ensures promised { IfOk result (λ _. (t : Tables) (p : Process) → IsSpace (body_of S.view space.old) t p → length (all_moves p) ≤ C.room files.new) }
     ensures refused { IfErr result (λ e. (t : Tables) (p : Process) → IsSpace (body_of S.view space.old) t p
         → C.can_refuse files.old (length (all_moves p)) e) }
     ensures files { C.becomes files.old [] files.new }
     ensures reads { OnlyReads S.view space.old space.new store.old store.new }
-    ensures keeps { KeepsSeats F.rule store.old space.old.seat store.new space.new.seat }
+    ensures keeps { KeepsSeats F.invariant store.old space.old.seat store.new space.new.seat }
 {
     let mut pages = 0;
     'runs: for i in 0..space.layout.mappings().len() {
@@ -121,13 +121,13 @@ pub fn write_back<S: FrameSeat, F: FrameAccess<Seat = S>, C: Files>(
     store: &mut F,
     files: &mut C,
 )
-    requires fits { IsSeatOf F.rule store.old space.old.seat }
+    requires fits { IsSeatOf F.invariant store.old space.old.seat }
     requires ready { (t : Tables) × (p : Process) × IsSpaceInCall (body_of S.view space.old) t p no_extra × (length (all_moves p) ≤ C.room files.old) }
     ensures moves { (t : Tables) (p : Process) → IsSpaceInCall (body_of S.view space.old) t p no_extra → C.becomes files.old (all_moves p) files.new }
     ensures written { (t : Tables) (p : Process) → IsSpaceInCall (body_of S.view space.old) t p no_extra
         → C.files files.new ≡ all_written_back (C.files files.old) p }
     ensures reads { OnlyReads S.view space.old space.new store.old store.new }
-    ensures keeps { KeepsSeats F.rule store.old space.old.seat store.new space.new.seat }
+    ensures keeps { KeepsSeats F.invariant store.old space.old.seat store.new space.new.seat }
 {
     'runs: for i in 0..space.layout.mappings().len() {
         let run = Run::whole(space.layout.mappings()[i]);

@@ -32,7 +32,7 @@ pub fn munmap<S: FrameSeat, F: FrameAccess<Seat = S>, C: Files>(
     address: u64,
     length: u64,
 ) -> Result<(), Refusal>
-    requires fits { IsSeatOf F.rule store.old space.old.seat }
+    requires fits { IsSeatOf F.invariant store.old space.old.seat }
     requires ready { IsAlive (body_of S.view space.old) }
     ensures unmapped { IfOk result (λ _. (t : Tables) (p : Process) →
         IsSpace (body_of S.view space.old) t p →
@@ -48,7 +48,7 @@ pub fn munmap<S: FrameSeat, F: FrameAccess<Seat = S>, C: Files>(
     ensures tallies { TakesFrames (S.view space.old.seat) (S.view space.new.seat) 0 [] }
     ensures root { space.new.root ≡ space.old.root }
     ensures trapframe { space.new.trapframe ≡ space.old.trapframe }
-    ensures keeps { KeepsSeats F.rule store.old space.old.seat store.new space.new.seat }
+    ensures keeps { KeepsSeats F.invariant store.old space.old.seat store.new space.new.seat }
     ensures free { F.alone → F.free store.old ≤ F.free store.new }
 {
     let run = Run::requested(&space.layout, address, length)?;

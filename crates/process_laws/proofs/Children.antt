@@ -6,7 +6,7 @@ use Rattle.std.specs.FinMap.Entries.{find}
 use Rattle.std.proofs.lemmas.List.{length-set}
 use Rattle.process_laws.proofs.HeldBytes.{free_there, Puts, set_puts}
 use Rattle.process_laws.proofs.Running.{has_it, process_runs, ran_on, step_process, step_reply}
-use Rattle.process_laws.specs.Pages.{has_mark, has_stored_mark}
+use Rattle.process_laws.specs.Pages.{has_mark, has_dirty_mark}
 use Rattle.process_laws.specs.Words.{IsChild, IsMade, IsOnHart}
 use Rattle.process_model.specs.Calls.{forked, forked_unless}
 use Rattle.process_model.specs.Harts.{Hart}
@@ -27,7 +27,7 @@ unstored_at f none (e ∷ es) page = elim (eq_by_cmp nat_cmp page e.0) as (λ b.
   | false ↦ unstored_at f none es page
 ]
 
-child_unstored : (p : Process) (page : ℕ) → has_stored_mark (child_of p) page ≡ false
+child_unstored : (p : Process) (page : ℕ) → has_dirty_mark (child_of p) page ≡ false
 child_unstored p page = unstored_at (child_page p) (λ n x. refl) p.settled.entries page
 
 -- where a child comes

@@ -18,7 +18,7 @@ use Rattle.process_laws.proofs.Untouched.{get_set_other}
 use Rattle.process_laws.proofs.WrittenBack.{below_stays, length_stays, over_is, page_goes}
 use Rattle.process_laws.specs.FilePlaces.{file_bytes}
 use Rattle.process_laws.specs.Latest.{byte_at, page_byte}
-use Rattle.process_laws.specs.Pages.{Grant, grant, grant_in, has_mark, has_stored_mark, pages_on}
+use Rattle.process_laws.specs.Pages.{Grant, grant, grant_in, has_mark, has_dirty_mark, pages_on}
 use Rattle.process_laws.specs.Words.{is_page_written_back, IsWritten, Written, WroteBack}
 use Rattle.process_model.specs.declared.step.Step.{Step}
 use Rattle.process_model.specs.Bytes.{pages_for, write_bytes}
@@ -156,7 +156,7 @@ module _ (x : Step) (p : Process) (sized : AllSized p.settled) where
             of_file = ap (λ s. pages_on s (e.0 - m.first)) source;
             place = ap (λ k. offset + 4096 * (e.0 - m.first) + k) place;
             goes = ap (is_page_written_back x) page ∙ goes;
-            stored = ap (has_stored_mark p) page ∙ ap (has_mark (λ x. x.dirty)) there ∙ both.1;
+            stored = ap (has_dirty_mark p) page ∙ ap (has_mark (λ x. x.dirty)) there ∙ both.1;
             byte = ap (λ k. page_byte (get p.settled k) ((4096 * e.0 + i) % 4096)) page ∙ ap (λ k. page_byte (get p.settled e.0) k) place ∙ ap (λ o. page_byte o i) there ∙ ap Some is;
           },
           high,
@@ -290,7 +290,7 @@ module _ (x : Step) (p : Process) (sized : AllSized p.settled) where
           let same = same_Some _ _ both in
           let writes : m.writes ≡ true = ap (λ (g : Grant). g.writes) same ∙ wb.writes in
           let shared : is_shared_kind m.kind ≡ true = ap (λ (g : Grant). is_shared_kind g.kind) same ∙ ap is_shared_kind wb.shared in
-          let mark : (e.1).dirty ≡ true = sym (ap (has_mark (λ x. x.dirty)) there) ∙ ap (has_stored_mark p) (sym at) ∙ wb.stored in
+          let mark : (e.1).dirty ≡ true = sym (ap (has_mark (λ x. x.dirty)) there) ∙ ap (has_dirty_mark p) (sym at) ∙ wb.stored in
           let due : is_written_back m e.1 ≡ true = rw (writes, shared, mark) refl in
           let low : nat_le from e.0 ≡ true = le-leb from e.0 start in
           let high : nat_lt e.0 end ≡ true = lt-ltb e.0 end stop in

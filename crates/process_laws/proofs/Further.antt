@@ -6,7 +6,7 @@ use Rattle.std.specs.Prelude.{fold, Result, Ok, Err, zip}
 use Rattle.std.proofs.lemmas.Bool.{cases_eq}
 use Rattle.std.proofs.lemmas.Bool.Decides.{nat_tests}
 use Rattle.process_laws.proofs.Givens.{mark_at}
-use Rattle.process_laws.specs.Pages.{has_fork_mark, has_some_of, has_stored_mark, is_store}
+use Rattle.process_laws.specs.Pages.{has_cow_mark, has_some_of, has_dirty_mark, is_store}
 use Rattle.process_model.specs.Environment.{Environment, Progress, resident_at_address, resident_at, unless_dry, unless_resident}
 use Rattle.process_model.specs.Bytes.{numbers_from}
 use Rattle.process_model.specs.Copies.{Copied, copied_in, copied_out, copy_begun, next_in, next_out, one_in, one_out, with_byte_on}
@@ -28,10 +28,10 @@ pub record Further (may : ℕ → Bool) (p q : Process) : Type 0 where
   pub maps : q.mappings ≡ p.mappings
   pub size : q.size ≡ p.size
   pub base : q.heap_base ≡ p.heap_base
-  pub kept : (page : ℕ) → has_fork_mark p page ≡ true → (has_fork_mark q page ≡ true) ⊎ (may page ≡ true)
-  pub forked : (page : ℕ) → has_fork_mark q page ≡ true → has_fork_mark p page ≡ true
-  pub stored : (page : ℕ) → has_stored_mark p page ≡ true → has_stored_mark q page ≡ true
-  pub anew : (page : ℕ) → has_stored_mark q page ≡ true → (has_stored_mark p page ≡ true) ⊎ (may page ≡ true)
+  pub kept : (page : ℕ) → has_cow_mark p page ≡ true → (has_cow_mark q page ≡ true) ⊎ (may page ≡ true)
+  pub forked : (page : ℕ) → has_cow_mark q page ≡ true → has_cow_mark p page ≡ true
+  pub stored : (page : ℕ) → has_dirty_mark p page ≡ true → has_dirty_mark q page ≡ true
+  pub anew : (page : ℕ) → has_dirty_mark q page ≡ true → (has_dirty_mark p page ≡ true) ⊎ (may page ≡ true)
 
 further_on : (may : ℕ → Bool) (p q r : Process) → Further may p q → Further may q r → Further may p r
 further_on may p q r f g = record {

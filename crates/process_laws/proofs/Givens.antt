@@ -8,7 +8,7 @@ use Rattle.std.proofs.lemmas.Bool.{and_parts, cases_eq, eqb-true, eq-eqb, le-leb
 use Rattle.std.proofs.lemmas.Bool.Decides.{nat_tests}
 use Rattle.std.proofs.lemmas.Option.{same_Some}
 use Rattle.process_laws.proofs.Grants.{around_above, Found, here, skipped}
-use Rattle.process_laws.specs.Pages.{Grant, grant, grant_in, has_fork_mark, has_mark, has_stored_mark, heap_grant, image_size, is_between, loads_grant, mapping_grant}
+use Rattle.process_laws.specs.Pages.{Grant, grant, grant_in, has_cow_mark, has_mark, has_dirty_mark, heap_grant, image_size, is_between, loads_grant, mapping_grant}
 use Rattle.process_model.specs.Bytes.{pages_for}
 use Rattle.process_model.specs.GrantLaws.{none_true, size_granted}
 use Rattle.process_model.specs.Heap.{heap_limit, resized, size_refusal, without_pages}
@@ -337,7 +337,7 @@ listed_unmarked fresh (e ∷ es) page =
       )
     ]
 
-pub image_unmarked : (z : Scheme) (fresh : ℕ) (ls : List LoadSegment) (page : ℕ) → (has_fork_mark (process_of z fresh ls) page ≡ false) × (has_stored_mark (process_of z fresh ls) page ≡ false)
+pub image_unmarked : (z : Scheme) (fresh : ℕ) (ls : List LoadSegment) (page : ℕ) → (has_cow_mark (process_of z fresh ls) page ≡ false) × (has_dirty_mark (process_of z fresh ls) page ≡ false)
 unfolding process_of
 image_unmarked z fresh ls page = listed_unmarked fresh (image_pages ls) page
 

@@ -16,7 +16,7 @@ use Rattle.process_laws.proofs.Untouched.{free_is_empty}
 use Rattle.process_laws.specs.CopyNumbers.{HasNewCopies}
 use Rattle.process_laws.specs.Moments.{slot_on}
 use Rattle.process_laws.specs.FrameNeeds.{copy_on, HasNewFrames, IsNewCopy, IsTaken, KeepsFrames, SharesFrames}
-use Rattle.process_laws.specs.Pages.{has_fork_mark, has_mark}
+use Rattle.process_laws.specs.Pages.{has_cow_mark, has_mark}
 use Rattle.process_laws.specs.Words.{hart_of_step, IsOnHart}
 use Rattle.process_model.specs.Bytes.{pages_for, is_width}
 use Rattle.process_model.specs.Calls.{copy_in_outcome, copy_out_outcome, forked, forked_unless, mapped_to, replaced, replaced_unless, resized_to, started, started_unless, unmapped_to}
@@ -316,7 +316,7 @@ module _ (w : World) (h s : ℕ) (p : Process) (on : IsOnHart w h s p) (lone : L
         copies_by page copy y there same (Came.fresh le (inr t)) = inr (is_new copy (omega (arith, same, le)), inr (ap (has_mark (λ x. x.cow)) t.1 ∙ t.2, ap (has_mark (λ x. x.cow)) there ∙ t.3))
         copies_by page copy y there same (Came.kept x is alike mark bytes) = inl (ap (option_map (λ (z : Page). z.copy)) is ∙ ap Some (sym alike ∙ same))
 
-        alone_by : (page copy : ℕ) (y : Page) → get q.settled page ≡ Some y → y.copy ≡ copy → has_fork_mark p page ≡ true → has_fork_mark q page ≡ false → copy_on p page ≡ Some copy → Came w.counter (others_have w s) (get p.settled page) y
+        alone_by : (page copy : ℕ) (y : Page) → get q.settled page ≡ Some y → y.copy ≡ copy → has_cow_mark p page ≡ true → has_cow_mark q page ≡ false → copy_on p page ≡ Some copy → Came w.counter (others_have w s) (get p.settled page) y
             → others_have w s copy ≡ false
         alone_by page copy y there same marked unmarked was (Came.fresh le parted) = absurd (is_new copy (omega (arith, same, le)) s page p on.lives was)
         alone_by page copy y there same marked unmarked was (Came.kept x is alike mark bytes) =

@@ -21,7 +21,7 @@ use Rattle.process_laws.proofs.Running.{set_lives, step_process, step_reply}
 use Rattle.process_laws.proofs.Untouched.{free_is_empty}
 use Rattle.process_laws.specs.Moments.{Moment, slot_on}
 use Rattle.process_laws.specs.Headline.{Becomes}
-use Rattle.process_laws.specs.Pages.{are_joined, grant_in, has_mark, has_some_of, has_stored_mark, image_grant, image_size, in_one_of, is_between, is_remapped, is_store, is_store_at, is_stored_to, joins, mapping_grant, size_after, has_fork_mark}
+use Rattle.process_laws.specs.Pages.{are_joined, grant_in, has_mark, has_some_of, has_dirty_mark, image_grant, image_size, in_one_of, is_between, is_remapped, is_store, is_store_at, is_stored_to, joins, mapping_grant, size_after, has_cow_mark}
 use Rattle.process_laws.specs.Words.{is_end, is_fault, IsMade, IsOnHart, hart_of_step}
 use Rattle.process_model.specs.Environment.{Progress}
 use Rattle.process_model.specs.Bytes.{pages_for}
@@ -210,7 +210,7 @@ marked_stores : (f : ℕ → Page → Page) → ((n : ℕ) (x : Page) → (f n x
 marked_stores f same [] page = refl
 marked_stores f same (e ∷ es) page = mark_cond (eq_by_cmp nat_cmp page e.0) (f e.0 e.1) e.1 (find nat_cmp page (each_value f es)) (find nat_cmp page es) (same e.0 e.1) (marked_stores f same es page)
 
-fork_stored : (p : Process) (page : ℕ) → has_stored_mark (marked p) page ≡ has_stored_mark p page
+fork_stored : (p : Process) (page : ℕ) → has_dirty_mark (marked p) page ≡ has_dirty_mark p page
 fork_stored p page = marked_stores (marked_page p) (λ n x. refl) p.settled.entries page
 
 kept_cond : (b : Bool) (x y : Page) (o u : Option Page) → (y.cow ≡ true → x.cow ≡ true) → (has_mark (λ z. z.cow) u ≡ true → has_mark (λ z. z.cow) o ≡ true)
@@ -223,7 +223,7 @@ marks_kept : (f : ℕ → Page → Page) → ((n : ℕ) (x : Page) → x.cow ≡
 marks_kept f keeps [] page is = is
 marks_kept f keeps (e ∷ es) page is = kept_cond (eq_by_cmp nat_cmp page e.0) (f e.0 e.1) e.1 (find nat_cmp page (each_value f es)) (find nat_cmp page es) (keeps e.0 e.1) (marks_kept f keeps es page) is
 
-fork_kept : (p : Process) (page : ℕ) → has_fork_mark p page ≡ true → has_fork_mark (marked p) page ≡ true
+fork_kept : (p : Process) (page : ℕ) → has_cow_mark p page ≡ true → has_cow_mark (marked p) page ≡ true
 fork_kept p page is = marks_kept (marked_page p) (λ n x e. ap (λ b. b || grants_write p n) e) p.settled.entries page is
 
 -- calls that change regions, fork and exec

@@ -15,7 +15,7 @@ use Rattle.process_laws.proofs.Granting.{region_there}
 use Rattle.process_laws.proofs.HeldBytes.{none_some}
 use Rattle.process_laws.proofs.LookUps.{found_inserted, found_only}
 use Rattle.process_laws.specs.FrameNeeds.{has_tables, is_settled, SharesFrames}
-use Rattle.process_laws.specs.Pages.{has_fork_mark, has_mark}
+use Rattle.process_laws.specs.Pages.{has_cow_mark, has_mark}
 use Rattle.process_model.specs.Bytes.{numbers_from}
 use Rattle.process_model.specs.Copies.{Copied, copied_in, copied_out, copy_begun, next_in, next_out, one_in, one_out, with_byte_on, reached_in}
 use Rattle.process_model.specs.EachValue.{found_each}
@@ -56,7 +56,7 @@ pub record Reworks (n : ℕ) (shared : ℕ → Bool) (p q : Process) : Type 0 wh
 pub record Grows (n : ℕ) (shared : ℕ → Bool) (p q : Process) : Type 0 where
   pub reworks : Reworks n shared p q
   pub grows : (page : ℕ) → is_settled p page ≡ true → is_settled q page ≡ true
-  pub marks : (page : ℕ) → has_fork_mark q page ≡ true → has_fork_mark p page ≡ true
+  pub marks : (page : ℕ) → has_cow_mark q page ≡ true → has_cow_mark p page ≡ true
 
 tables_same : (t b c : Bool) → (b ≡ true → c ≡ true) → t ≡ (t || (b && not c))
 tables_same true b c e = refl

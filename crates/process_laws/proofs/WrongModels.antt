@@ -13,7 +13,7 @@ use Rattle.process_laws.specs.FilePlaces.{file_bytes}
 use Rattle.process_laws.specs.MadeSteps.{MakesOwn, MakesSteps}
 use Rattle.process_laws.specs.Latest.{byte_at, byte_had, page_byte, is_released, latest, left_by}
 use Rattle.process_laws.specs.Moments.{Moment, slot_on}
-use Rattle.process_laws.specs.Pages.{are_joined, grant, grant_after, has_fork_mark, has_mark, has_stored_mark, is_between, is_ready_on, is_remapped, is_store_at, is_stored_to, joins, mapping_grant}
+use Rattle.process_laws.specs.Pages.{are_joined, grant, grant_after, has_cow_mark, has_mark, has_dirty_mark, is_between, is_ready_on, is_remapped, is_store_at, is_stored_to, joins, mapping_grant}
 use Rattle.process_laws.specs.Words.{UserAccess, byte, cause, copied, CopiesBytes, Forbids, in_memory, is_fault, is_reply, IsAnswer, IsGranted, IsOnHart, IsResident, MayCall, hart_of, hart_of_step, Serves, stopped_by, is_no_frame_reply, Tries, writes_back, WroteBack, changed_at, is_on_hart, IsMade, marks_slot, stale_after, stale_on}
 use Rattle.process_model.specs.Bytes.{pages_for}
 use Rattle.process_model.specs.Files.{File}
@@ -71,7 +71,7 @@ ready_unmarked r (Some x) e = by x.cow _ e
     by false b f = refl
 
 pub copied_to_is_unmarked : (m : Moment) (h s address i : ℕ) (bytes : _) (p q : Process) → CopiesForKernel m h s address (copied m.reply) p → m.step ≡ CopyOut h address bytes → i < copied m.reply → process_in m.after s ≡ Some q
-    → has_fork_mark q (page_of (address + i)) ≡ false
+    → has_cow_mark q (page_of (address + i)) ≡ false
 copied_to_is_unmarked m h s address i bytes p q k step less there = ready_unmarked (region_at (regions q) (page_of (address + i))) (get q.settled (page_of (address + i))) (k.to_ready bytes q i step less there)
 
 -- a trap that takes a byte away, or changes it
@@ -105,10 +105,10 @@ mapped_as_asked m h len protection flags n at page p q k step reply inside =
     ∙ ap (λ x. grant_after (m.before).scheme x m.reply page) step ∙ ap (λ r. grant_after (m.before).scheme (Mmap h len protection flags n) r page) reply
 
 -- a service that holds back the stores to come, as a fork does
-pub no_mark_by_service : (m : Moment) (h page : ℕ) (p q : Process) → Becomes m h p q → m.step ≡ Serve h → has_fork_mark p page ≡ false → has_fork_mark q page ≡ false
-no_mark_by_service m h page p q k step none = by (has_fork_mark q page) refl
+pub no_mark_by_service : (m : Moment) (h page : ℕ) (p q : Process) → Becomes m h p q → m.step ≡ Serve h → has_cow_mark p page ≡ false → has_cow_mark q page ≡ false
+no_mark_by_service m h page p q k step none = by (has_cow_mark q page) refl
   where
-    by : (b : Bool) → has_fork_mark q page ≡ b → b ≡ false
+    by : (b : Bool) → has_cow_mark q page ≡ b → b ≡ false
     by false e = refl
     by true e = absurd (false≢true (sym none ∙ k.forked (λ fork. absurd (let no = sym step ∙ fork in cc)) page e))
 
@@ -117,10 +117,10 @@ pub fault_tells_its_cause : (m : Moment) (h s c : ℕ) (p : Process) (a : UserAc
 fault_tells_its_cause m h s c p a k t not is = let must = (k.faults t not).0 in cc
 
 -- a service for a load that leaves the dirty mark, so that the page would be written back
-pub loaded_page_stays_unmarked : (m : Moment) (h page : ℕ) (p q : Process) → Becomes m h p q → m.step ≡ Serve h → is_store_at p.pending page ≡ false → has_stored_mark p page ≡ false → has_stored_mark q page ≡ false
-loaded_page_stays_unmarked m h page p q k step load none = by (has_stored_mark q page) refl
+pub loaded_page_stays_unmarked : (m : Moment) (h page : ℕ) (p q : Process) → Becomes m h p q → m.step ≡ Serve h → is_store_at p.pending page ≡ false → has_dirty_mark p page ≡ false → has_dirty_mark q page ≡ false
+loaded_page_stays_unmarked m h page p q k step load none = by (has_dirty_mark q page) refl
   where
-    by : (b : Bool) → has_stored_mark q page ≡ b → b ≡ false
+    by : (b : Bool) → has_dirty_mark q page ≡ b → b ≡ false
     by false e = refl
     by true e = elim (k.stored page e) [
       | inl was ↦ absurd (false≢true (sym none ∙ was))
@@ -210,7 +210,7 @@ unsettled None e f = absurd cc
 unsettled (Some z) e f = absurd cc
 
 -- a copyin that gives a page a frame of its own, though it only reads the page
-pub read_page_keeps_its_frame : (m : Moment) (h s address n page old copy : ℕ) (p q : Process) → HoldsFrames m → IsOnHart m.before h s p → m.step ≡ CopyIn h address n → process_in m.after s ≡ Some q → has_fork_mark q page ≡ has_fork_mark p page
+pub read_page_keeps_its_frame : (m : Moment) (h s address n page old copy : ℕ) (p q : Process) → HoldsFrames m → IsOnHart m.before h s p → m.step ≡ CopyIn h address n → process_in m.after s ≡ Some q → has_cow_mark q page ≡ has_cow_mark p page
     → copy_on p page ≡ Some old → copy_on q page ≡ Some copy → copy ≡ old
 read_page_keeps_its_frame m h s address n page old copy p q k on step there marks had now =
     let f = k.kept h s p q on (ap hart_of_step step) (λ image e. let no = sym step ∙ e in absurd cc) there in
@@ -233,7 +233,7 @@ settled_on_its_own m h s t page other copy p q r k on step there none now lives 
     ]
 
 -- a service after which a page that was taken over is still on the frame of another process
-pub parted_if_shared : (m : Moment) (h s page copy : ℕ) (p q : Process) → HoldsFrames m → IsOnHart m.before h s p → m.step ≡ Serve h → process_in m.after s ≡ Some q → has_fork_mark p page ≡ true → has_fork_mark q page ≡ false
+pub parted_if_shared : (m : Moment) (h s page copy : ℕ) (p q : Process) → HoldsFrames m → IsOnHart m.before h s p → m.step ≡ Serve h → process_in m.after s ≡ Some q → has_cow_mark p page ≡ true → has_cow_mark q page ≡ false
     → copy_on p page ≡ Some copy → others_have m.before s copy ≡ true → copy_on q page ≢ Some copy
 parted_if_shared m h s page copy p q k on step there marked unmarked was shared now =
     let f = k.kept h s p q on (ap hart_of_step step) (λ image e. let no = sym step ∙ e in absurd cc) there in

@@ -132,7 +132,7 @@ abbrev pub is_read_only : List File → ℕ → ℕ → ℕ → Bool
 is_read_only files protection flags n = flags == 1 && protection / 2 % 2 == 1 && not (is_writable (slice_get files n))
 
 -- if the arguments are bad (`is_bad_mapping`), BadArgument; else if the file may not be written so, FileNotWritable; else
--- if the process has 16 mappings, MappingsFull; else if the pages fit nowhere above the heap, below the trapframe and apart
+-- if the process has `MOST_MAPPINGS` mappings, MappingsFull; else if the pages fit nowhere above the heap, below the trapframe and apart
 -- from the mappings (`Fits`), NoRoom; else the greatest address at which they fit
 pub data MapReply (files : List File) (p : Process) (len protection flags n : ℕ) : Reply → Type 0 where
   bad : is_bad_mapping files len protection flags n ≡ true → MapReply files p len protection flags n (Scalar (Refused BadArgument))

@@ -6,7 +6,7 @@
 use Rattle.std.specs.Prelude.{◌≡◌, ◌≢◌, ◌⊎◌, ℕ, Bool, true, false, not, ◌+◌, ◌-◌, ◌<◌, ◌&&◌, ◌||◌, Option, None, Some, List, ◌∷◌, Ok}
 use Rattle.std.specs.Prelude.{is_some, length, option_map, if◌then◌else◌}
 use Rattle.process_laws.specs.Latest.{page_byte}
-use Rattle.process_laws.specs.Pages.{Grant, grant, has_fork_mark, is_ready_page}
+use Rattle.process_laws.specs.Pages.{Grant, grant, has_cow_mark, is_ready_page}
 use Rattle.process_laws.specs.Words.{CopiesBytes, IsOnHart, MayCall}
 use Rattle.process_model.specs.Frames.{tables_needed}
 use Rattle.process_model.specs.ImageProcess.{page_numbers}
@@ -57,7 +57,7 @@ frames_for_child p = 1 + tables_needed p.scheme (keys p.settled)
 abbrev pub frames_for_page : World → ℕ → Process → Access → ℕ → ℕ
 frames_for_page w s p access page =
     if is_ready_page p access page then 0
-    else if is_settled p page then (if has_fork_mark p page && is_shared w s (copy_on p page) then 1 else 0)
+    else if is_settled p page then (if has_cow_mark p page && is_shared w s (copy_on p page) then 1 else 0)
     else 1 + (tables_needed p.scheme (page ∷ keys p.tabled) - tables_needed p.scheme (keys p.tabled))
 
 -- fewer frames are free than the page of the address needs, for an access of the process in slot s
@@ -82,7 +82,7 @@ pub record SharesFrames (p c : Process) : Type 0 where
 
 -- a page that is settled, or taken over: it loses the copy-on-write mark
 abbrev pub IsTaken : Process → Process → ℕ → Type 0
-IsTaken p q page = (is_settled p page ≡ false) ⊎ ((has_fork_mark p page ≡ true) × (has_fork_mark q page ≡ false))
+IsTaken p q page = (is_settled p page ≡ false) ⊎ ((has_cow_mark p page ≡ true) × (has_cow_mark q page ≡ false))
 
 -- process p, in slot s, becomes q, and keeps its frames: page tables come only with pages that are settled, and none goes; a
 -- page keeps its copy number, or is settled or taken over and gets a new one; and it is taken over and keeps its number only if
@@ -90,7 +90,7 @@ IsTaken p q page = (is_settled p page ≡ false) ⊎ ((has_fork_mark p page ≡ 
 pub record KeepsFrames (w : World) (s : ℕ) (p q : Process) : Type 0 where
   pub tables : (page : ℕ) → has_tables q page ≡ (has_tables p page || (is_settled q page && not (is_settled p page)))
   pub copies : (page copy : ℕ) → copy_on q page ≡ Some copy → (copy_on p page ≡ Some copy) ⊎ (IsNewCopy w copy × IsTaken p q page)
-  pub alone : (page copy : ℕ) → has_fork_mark p page ≡ true → has_fork_mark q page ≡ false → copy_on p page ≡ Some copy
+  pub alone : (page copy : ℕ) → has_cow_mark p page ≡ true → has_cow_mark q page ≡ false → copy_on p page ≡ Some copy
       → copy_on q page ≡ Some copy → others_have w s copy ≡ false
 
 -- page `one` of p and page `two` of q, which are on one frame: it is the same page, with the same bytes, and if p may write it,
@@ -98,7 +98,7 @@ pub record KeepsFrames (w : World) (s : ℕ) (p q : Process) : Type 0 where
 pub record IsSharedPage (p q : Process) (one two : ℕ) : Type 0 where
   pub same : one ≡ two
   pub bytes : (i : ℕ) → page_byte (get p.settled one) i ≡ page_byte (get q.settled two) i
-  pub marked : (g : Grant) → grant p one ≡ Some g → g.writes ≡ true → has_fork_mark p one ≡ true
+  pub marked : (g : Grant) → grant p one ≡ Some g → g.writes ≡ true → has_cow_mark p one ≡ true
 
 -- the steps that may say NoFrame: a start of a good image if a slot is free; if the kernel may be called for the process, an
 -- exec of a good image, and a fork if a slot is free; a service, and a kernel copy

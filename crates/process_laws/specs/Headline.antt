@@ -14,7 +14,7 @@ use Rattle.std.specs.Prelude.{option_map, slice_get, take, pos, Ok, if◌then◌
 use Rattle.std.specs.Borrow.{Bor}
 use Rattle.process_laws.specs.Latest.{AreLatest, byte_had, bytes_in, IsLatest, latest}
 use Rattle.process_laws.specs.Moments.{Moment, moment_of, moments_from, slot_on}
-use Rattle.process_laws.specs.Pages.{are_joined, grant, grant_after, has_fork_mark, has_stored_mark, is_remapped, is_stored_to, joins, may_remap, size_after}
+use Rattle.process_laws.specs.Pages.{are_joined, grant, grant_after, has_cow_mark, has_dirty_mark, is_remapped, is_stored_to, joins, may_remap, size_after}
 use Rattle.process_laws.specs.FrameNeeds.{copy_on, frames_for_child, frames_for_image, frames_for_page, HasNewFrames, IsSharedPage}
 use Rattle.process_laws.specs.FrameNeeds.{KeepsFrames, LacksFrames, MayLackFrames, SharesFrames}
 use Rattle.process_laws.specs.Words.{UserAccess, IsAccessStep, byte, cause, copied, CopiesBytes, Forbids, in_memory, is_end, is_fault}
@@ -140,10 +140,12 @@ pub record HoldsFrames (m : Moment) : Type 0 where
       → copy_on p one ≡ Some copy → copy_on q two ≡ Some copy → IsSharedPage p q one two
   -- A process that was started is on new frames, and so is one after an exec that is done; a child is on its parent's. By any
   -- other step of its own a process keeps its frames, but for pages that go or are taken over
-  pub started : (image : Image) (s : ℕ) (p : Process) → m.step ≡ Start image → m.reply ≡ Scalar (Started s) → process_in m.after s ≡ Some p → HasNewFrames m.before p
+  pub started : (image : Image) (s : ℕ) (p : Process) → m.step ≡ Start image
+      → m.reply ≡ Scalar (Started s) → process_in m.after s ≡ Some p → HasNewFrames m.before p
   pub replaced : (h s : ℕ) (p q : Process) (image : Image) → IsOnHart m.before h s p → m.step ≡ Exec h image → m.reply ≡ Scalar Done
       → process_in m.after s ≡ Some q → HasNewFrames m.before q
-  pub child : (h s t : ℕ) (p c : Process) → IsOnHart m.before h s p → m.step ≡ Fork h → m.reply ≡ Scalar (Forked t) → process_in m.after t ≡ Some c → SharesFrames p c
+  pub child : (h s t : ℕ) (p c : Process) → IsOnHart m.before h s p
+      → m.step ≡ Fork h → m.reply ≡ Scalar (Forked t) → process_in m.after t ≡ Some c → SharesFrames p c
   pub kept : (h s : ℕ) (p q : Process) → IsOnHart m.before h s p → hart_of_step m.step ≡ Some h
       → ((image : Image) → m.step ≡ Exec h image → m.reply ≢ Scalar Done) → process_in m.after s ≡ Some q → KeepsFrames m.before s p q
 
@@ -188,7 +190,7 @@ pub record LeavesOthers (m : Moment) : Type 0 where
   pub memory : (m.after).frames ≡ (m.before).frames
   pub slots : length (m.after).slots ≡ length (m.before).slots
   -- Each process is `IsInOrder`: its regions are in ascending order and apart, parts below the heap, mappings above it, all
-  -- below the trapframe, each part and mapping of a page or more. So no list of 16 empty mappings makes the first mmap answer
+  -- below the trapframe, each part and mapping of a page or more. So no list of `MOST_MAPPINGS` empty mappings makes the first mmap answer
   -- MappingsFull
   pub order : (s : ℕ) (q : Process) → process_in m.after s ≡ Some q → IsInOrder q
   -- Scheme and policy stay, and each process has the scheme
@@ -203,7 +205,7 @@ pub record Becomes (m : Moment) (h : ℕ) (p q : Process) : Type 0 where
   -- Each page keeps its grant (rights, kind of region, source of its initial bytes) and its dirty mark, but those that
   -- exec, sbrk, mmap and munmap remap
   pub stays : (page : ℕ) → is_remapped m.step m.reply page ≡ false → (grant q page ≡ grant p page)
-      × (has_stored_mark p page ≡ true → has_stored_mark q page ≡ true)
+      × (has_dirty_mark p page ≡ true → has_dirty_mark q page ≡ true)
   -- A page and the next are in one mapping exactly if they were; but if the step remaps one of them, exactly if it is an mmap
   -- of both. So no step cuts or merges mappings unasked; after `mmap 0 8192 1 2 0` the two pages are in one
   pub joined : (page : ℕ) → are_joined q page ≡ (if is_remapped m.step m.reply page
@@ -215,11 +217,11 @@ pub record Becomes (m : Moment) (h : ℕ) (p q : Process) : Type 0 where
   pub below : (page : ℕ) → is_remapped m.step m.reply page ≡ true → may_remap p m.step page ≡ true
   -- Only a fork adds a copy-on-write mark; on a page that is not remapped only the service of a store and a copy to the page
   -- remove it. These two alone add a dirty mark. After exec there is neither mark
-  pub forked : m.step ≢ Fork h → (page : ℕ) → has_fork_mark q page ≡ true → has_fork_mark p page ≡ true
-  pub unforked : (page : ℕ) → is_remapped m.step m.reply page ≡ false → has_fork_mark p page ≡ true → (has_fork_mark q page ≡ true)
+  pub forked : m.step ≢ Fork h → (page : ℕ) → has_cow_mark q page ≡ true → has_cow_mark p page ≡ true
+  pub unforked : (page : ℕ) → is_remapped m.step m.reply page ≡ false → has_cow_mark p page ≡ true → (has_cow_mark q page ≡ true)
       ⊎ (is_stored_to p m.step page ≡ true)
-  pub stored : (page : ℕ) → has_stored_mark q page ≡ true → (has_stored_mark p page ≡ true) ⊎ (is_stored_to p m.step page ≡ true)
-  pub cleared : (image : Image) → m.step ≡ Exec h image → m.reply ≡ Scalar Done → (page : ℕ) → (has_fork_mark q page ≡ false) × (has_stored_mark q page ≡ false)
+  pub stored : (page : ℕ) → has_dirty_mark q page ≡ true → (has_dirty_mark p page ≡ true) ⊎ (is_stored_to p m.step page ≡ true)
+  pub cleared : (image : Image) → m.step ≡ Exec h image → m.reply ≡ Scalar Done → (page : ℕ) → (has_cow_mark q page ≡ false) × (has_dirty_mark q page ≡ false)
   -- The size is what sbrk or exec makes of it, else what it was. The heap's base stays; after an exec that is done the heap is
   -- empty
   pub size : pos q.size ≡ size_after (m.before).scheme m.step m.reply p.size

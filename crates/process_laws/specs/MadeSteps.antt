@@ -42,7 +42,8 @@ pub record MakesSteps (m : Moment) : Type 0 where
   -- A step on a hart is refused with BadArgument, Impossible or NoEntry, the first that applies (`refusal_on`): `tramp 0 2`
   -- answers `refused 15 BadArgument` in every phase. If none applies, it is made, but for the refusals of the five calls above.
   -- A step of a process is made only on a hart that has one
-  pub refused : (h : ℕ) (e : Refusal) → hart_of m.step ≡ Some h → refusal_on m.before m.step (slice_get (m.before).harts h) ≡ Some e → m.reply ≡ Scalar (Refused e)
+  pub refused : (h : ℕ) (e : Refusal) → hart_of m.step ≡ Some h
+      → refusal_on m.before m.step (slice_get (m.before).harts h) ≡ Some e → m.reply ≡ Scalar (Refused e)
   pub made : (h : ℕ) → hart_of m.step ≡ Some h → refusal_on m.before m.step (slice_get (m.before).harts h) ≡ None → has_refusals m.step ≡ false
       → (hart_of_step m.step ≡ Some h → (s : ℕ) × (p : Process) × IsOnHart m.before h s p) → IsMade m.reply
   pub hosted : (h : ℕ) → hart_of_step m.step ≡ Some h → IsMade m.reply → (s : ℕ) × (p : Process) × IsOnHart m.before h s p

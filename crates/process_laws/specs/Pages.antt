@@ -61,11 +61,11 @@ abbrev pub has_mark : (Page → Bool) → Option Page → Bool
 has_mark mark None = false
 has_mark mark (Some x) = mark x
 
-abbrev pub has_fork_mark : Process → ℕ → Bool
-has_fork_mark p page = has_mark (λ x. x.cow) (get p.settled page)
+abbrev pub has_cow_mark : Process → ℕ → Bool
+has_cow_mark p page = has_mark (λ x. x.cow) (get p.settled page)
 
-abbrev pub has_stored_mark : Process → ℕ → Bool
-has_stored_mark p page = has_mark (λ x. x.dirty) (get p.settled page)
+abbrev pub has_dirty_mark : Process → ℕ → Bool
+has_dirty_mark p page = has_mark (λ x. x.dirty) (get p.settled page)
 
 -- runs of pages
 

@@ -8,7 +8,7 @@ use Rattle.process_laws.specs.RuleDenials.{IsFirst}
 use Rattle.process_laws.specs.Moments.{Moment, slot_on}
 use Rattle.process_laws.specs.FilePlaces.{file_bytes}
 use Rattle.process_laws.specs.Latest.{byte_at, byte_had}
-use Rattle.process_laws.specs.Pages.{Grant, grant as grant_of, grant_after, has_fork_mark, has_stored_mark, is_between, is_ready_page, size_after}
+use Rattle.process_laws.specs.Pages.{Grant, grant as grant_of, grant_after, has_cow_mark, has_dirty_mark, is_between, is_ready_page, size_after}
 use Rattle.process_model.specs.Bytes.{pages_for}
 use Rattle.process_model.specs.Files.{File, is_writable}
 use Rattle.process_model.specs.Harts.{fenced, Hart, Key, present_asid, with_key}
@@ -304,7 +304,7 @@ in_memory w n = record w { frames = n }
 -- above the stack
 pub record Begins (m : Moment) (p : Process) : Type 0 where
   pub grants : (page : ℕ) → grant_of p page ≡ grant_after (m.before).scheme m.step m.reply page
-  pub unmarked : (page : ℕ) → (has_fork_mark p page ≡ false) × (has_stored_mark p page ≡ false)
+  pub unmarked : (page : ℕ) → (has_cow_mark p page ≡ false) × (has_dirty_mark p page ≡ false)
   pub quiet : is_unserved_access p.pending ≡ false
   pub size : pos p.size ≡ size_after (m.before).scheme m.step m.reply 0
   pub base : p.heap_base ≡ p.size
@@ -315,7 +315,7 @@ pub record IsChild (p c : Process) : Type 0 where
   pub base : c.heap_base ≡ p.heap_base
   pub size : c.size ≡ p.size
   pub quiet : is_unserved_access c.pending ≡ false
-  pub unstored : (page : ℕ) → has_stored_mark c page ≡ false
+  pub unstored : (page : ℕ) → has_dirty_mark c page ≡ false
 
 -- files
 
@@ -336,7 +336,7 @@ pub record WroteBack (x : Step) (p : Process) (n i b : ℕ) : Type 0 where
   pub of_file : grant.source ≡ file n offset
   pub place : offset + address % 4096 ≡ i
   pub goes : is_page_written_back x (page_of address) ≡ true
-  pub stored : has_stored_mark p (page_of address) ≡ true
+  pub stored : has_dirty_mark p (page_of address) ≡ true
   pub byte : byte_had (Some p) address ≡ Some b
 
 -- no file comes or goes; each keeps its length and whether it may be written, and each byte of it stays or becomes one that p

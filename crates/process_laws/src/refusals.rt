@@ -9,7 +9,7 @@ ghost use Rattle.process_laws.specs.Latest.{byte_at, byte_had, page_byte, is_rel
 ghost use Rattle.process_laws.specs.MadeSteps.{MakesOwn, MakesSteps};
 ghost use Rattle.process_laws.specs.Moments.{Moment, slot_on};
 ghost use Rattle.process_laws.specs.FrameNeeds.{copy_on, frames_for_image, frames_for_page, has_tables, is_settled};
-ghost use Rattle.process_laws.specs.Pages.{are_joined, grant, has_fork_mark, has_stored_mark, is_between, is_store_at, mapping_grant};
+ghost use Rattle.process_laws.specs.Pages.{are_joined, grant, has_cow_mark, has_dirty_mark, is_between, is_store_at, mapping_grant};
 ghost use Rattle.process_laws.specs.Words.{UserAccess, cause, copied, in_memory, IsGranted, IsOnHart, IsResident, MayCall, Serves, Tries};
 ghost use Rattle.process_laws.specs.Words.{writes_back, WroteBack, changed_at, is_on_hart, IsMade, stale_on};
 ghost use Rattle.process_model.specs.Bytes.{pages_for};
@@ -48,8 +48,8 @@ ghost use Rattle.sv39_entry.specs.declared.rule.Rule.TheVariants.{NoFrame};
 /// service settles a page on a frame that a process has. `unasked_frame`: copyin gives another frame to a page that it only
 /// reads. `shared_frame`: service takes a page over that stays on the frame of another process. `tables`: munmap takes or
 /// gives page tables. `no_range`: munmap is done for an address inside a page or a length of 0. `below_base`: sbrk is done
-/// below the heap's base. `high`: mmap maps below a page at which the pages fit, or a 17th time. `written`: a byte that had
-/// to be written back is not. `one_frame`: two processes have pages with different bytes on one frame. `order`: a copy of
+/// below the heap's base. `high`: mmap maps below a page at which the pages fit, or once more than `MOST_MAPPINGS` times.
+/// `written`: a byte that had to be written back is not. `one_frame`: two processes have pages with different bytes on one frame. `order`: a copy of
 /// more than `LONGEST_COPY` bytes gets another refusal than BadArgument. `phase`: a call outside the kernel gets another one
 /// than Impossible with the hart's phase. `copy_mark`: a page to which copyout puts a byte keeps the copy-on-write mark.
 /// `count`: a file is added or dropped. `last`: where two pages map one place of a file, the byte of the lower one is there
@@ -78,10 +78,10 @@ pub fn wrong_models_are_refused()
     ensures over { (m : Moment) (h len protection flags n at page : ℕ) (p q : Process) → Becomes m h p q
         → m.step ≡ Mmap h len protection flags n → m.reply ≡ Scalar (MappedAt at)
         → is_between (page_of at) (page_of at + pages_for len) page ≡ true → grant p page ≡ None }
-    ensures cow { (m : Moment) (h page : ℕ) (p q : Process) → Becomes m h p q → m.step ≡ Serve h → has_fork_mark p page ≡ false → has_fork_mark q page ≡ false }
+    ensures cow { (m : Moment) (h page : ℕ) (p q : Process) → Becomes m h p q → m.step ≡ Serve h → has_cow_mark p page ≡ false → has_cow_mark q page ≡ false }
     ensures dirty { (m : Moment) (h page : ℕ) (p q : Process) → Becomes m h p q → m.step ≡ Serve h → is_store_at p.pending page ≡ false
-        → has_stored_mark p page ≡ false
-        → has_stored_mark q page ≡ false }
+        → has_dirty_mark p page ≡ false
+        → has_dirty_mark q page ≡ false }
     ensures child { (m : Moment) (h s t : ℕ) (p c : Process) → ChangesOwn m h s p → m.step ≡ Fork h → m.reply ≡ Scalar (Forked t)
         → process_in m.after t ≡ Some c → regions c ≡ regions p }
     ensures kind { (m : Moment) (h address : ℕ) (bytes : _) (bytes_in : _) → MakesSteps m → m.step ≡ CopyOut h address bytes → m.reply ≢ CopiedIn bytes_in }
@@ -99,16 +99,17 @@ pub fn wrong_models_are_refused()
     ensures exec_frees { (m : Moment) (h s : ℕ) (p : Process) (image : Image) (ls : List LoadSegment) → CountsFrames m
         → IsOnHart m.before h s p → MayCall m.before h p → image_loads (m.before).scheme image ≡ Ok ls
         → m.step ≡ Exec h image → m.reply ≡ Scalar Done → free m.after + (1 + frames_for_image (m.before).scheme ls) ≡ free (without_process m.before s) }
-    ensures heap_base { (m : Moment) (h : ℕ) (image : Image) (p q : Process) → Becomes m h p q → m.step ≡ Exec h image → m.reply ≡ Scalar Done → q.heap_base ≡ q.size }
+    ensures heap_base { (m : Moment) (h : ℕ) (image : Image) (p q : Process) → Becomes m h p q
+        → m.step ≡ Exec h image → m.reply ≡ Scalar Done → q.heap_base ≡ q.size }
     ensures settled_frame { (m : Moment) (h s t page other copy : ℕ) (p q r : Process) → HoldsFrames m → IsOnHart m.before h s p
         → m.step ≡ Serve h → process_in m.after s ≡ Some q → is_settled p page ≡ false
         → copy_on q page ≡ Some copy → process_in m.before t ≡ Some r → copy_on r other ≢ Some copy }
     ensures unasked_frame { (m : Moment) (h s address n page old copy : ℕ) (p q : Process) → HoldsFrames m → IsOnHart m.before h s p
         → m.step ≡ CopyIn h address n → process_in m.after s ≡ Some q
-        → has_fork_mark q page ≡ has_fork_mark p page → copy_on p page ≡ Some old → copy_on q page ≡ Some copy → copy ≡ old }
+        → has_cow_mark q page ≡ has_cow_mark p page → copy_on p page ≡ Some old → copy_on q page ≡ Some copy → copy ≡ old }
     ensures shared_frame { (m : Moment) (h s page copy : ℕ) (p q : Process) → HoldsFrames m → IsOnHart m.before h s p → m.step ≡ Serve h
-        → process_in m.after s ≡ Some q → has_fork_mark p page ≡ true
-        → has_fork_mark q page ≡ false → copy_on p page ≡ Some copy → others_have m.before s copy ≡ true → copy_on q page ≢ Some copy }
+        → process_in m.after s ≡ Some q → has_cow_mark p page ≡ true
+        → has_cow_mark q page ≡ false → copy_on p page ≡ Some copy → others_have m.before s copy ≡ true → copy_on q page ≢ Some copy }
     ensures tables { (m : Moment) (h s address len page : ℕ) (p q : Process) → HoldsFrames m → IsOnHart m.before h s p
         → m.step ≡ Munmap h address len → process_in m.after s ≡ Some q → is_settled q page ≡ false
         → has_tables q page ≡ has_tables p page }
@@ -125,13 +126,14 @@ pub fn wrong_models_are_refused()
     ensures one_frame { (m : Moment) (s t one two copy i : ℕ) (p q : Process) → HoldsFrames m → s ≢ t → process_in m.after s ≡ Some p
         → process_in m.after t ≡ Some q → copy_on p one ≡ Some copy → copy_on q two ≡ Some copy
         → page_byte (get p.settled one) i ≡ page_byte (get q.settled two) i }
-    ensures order { (m : Moment) (h address n : ℕ) → MakesSteps m → m.step ≡ CopyIn h address n → LONGEST_COPY < n → m.reply ≡ Scalar (Refused refusal.BadArgument) }
+    ensures order { (m : Moment) (h address n : ℕ) → MakesSteps m → m.step ≡ CopyIn h address n
+        → LONGEST_COPY < n → m.reply ≡ Scalar (Refused refusal.BadArgument) }
     ensures phase { (m : Moment) (h : ℕ) (delta : ℤ) (hart : Hart) → MakesSteps m → slice_get (m.before).harts h ≡ Some hart
         → m.step ≡ Sbrk h delta → is_kernel hart.phase ≡ false
         → m.reply ≡ Scalar (Refused (refusal.Impossible hart.phase)) }
     ensures copy_mark { (m : Moment) (h s address i : ℕ) (bytes : _) (p q : Process) → CopiesForKernel m h s address (copied m.reply) p
         → m.step ≡ CopyOut h address bytes → i < copied m.reply → process_in m.after s ≡ Some q
-        → has_fork_mark q (page_of (address + i)) ≡ false }
+        → has_cow_mark q (page_of (address + i)) ≡ false }
     ensures none_free { (m : Moment) (h address n frames : ℕ) (bytes : _) → CountsFrames m → m.step ≡ CopyIn h address n
         → m.reply ≡ CopiedIn bytes → free m.before ≡ 0
         → free (in_memory m.before frames) ≤ free (in_memory m.after frames) }

@@ -10,7 +10,8 @@ use Rattle.process_model.specs.Process.{Process, Page, Pending, regions, without
 use Rattle.process_model.specs.Residence.{can_complete, region_on, with_page, access_answer}
 use Rattle.process_model.specs.Mappings.{all_written_back}
 use Rattle.process_model.specs.Harts.{Hart, is_user, entry_serves}
-use Rattle.process_model.specs.World.{World, StepOutcome, answers, refuses, free, with_process, without_process, with_hart, others_have, on_hart, with_its_process}
+use Rattle.process_model.specs.World.{World, StepOutcome, answers, refuses, free, with_process, without_process, with_hart, others_have}
+use Rattle.process_model.specs.World.{on_hart, with_its_process}
 use Rattle.sv39_entry.specs.Address.{page_of}
 use Rattle.sv39_entry.specs.Causes.{page_fault_cause}
 use Rattle.sv39_entry.specs.declared.access.Access.{Access}

@@ -1,4 +1,4 @@
-// Processes on threads. Enums `Call` (an access, a system call or a kernel copy) and `Outcome` (how a process ended); struct
+// Processes on threads. Enums `Call` (an access, a system call or a kernel copy) and `ProcessEnd` (how a process ended); struct
 // `Start` (a process to start).
 
 use crate::image::Image;
@@ -77,7 +77,7 @@ pub struct Start<'a> {
 
 /// How a process on threads ended.
 #[derive(Clone, Copy, PartialEq, Eq, Debug)]
-pub enum Outcome {
+pub enum ProcessEnd {
     /// It exited with this status.
     Exited(i32),
     /// The kernel ended it by this rule, which denied an access of its own; by `NoFrame` if the access needed a frame that

@@ -53,7 +53,7 @@ pub enum BadImage {
     TooHigh,
     /// The segment begins below the end, rounded up to a page, of the last one before it that has pages.
     Order,
-    /// The segment is the 17th that has pages.
+    /// The segment has pages, and `MOST_SEGMENTS` before it have some.
     TooMany,
     /// No segment has pages.
     NoLoad,

@@ -14,7 +14,7 @@ mod reply;
 mod sequence;
 mod step;
 
-pub use call::{Call, Outcome, Start};
+pub use call::{Call, ProcessEnd, Start};
 pub use config::{Config, Policy, kernel_frames};
 pub use file::FileText;
 pub use image::{BadImage, Image, Segment};

@@ -9,7 +9,7 @@ use sv39_entry::Scheme;
 /// What is wrong with a line of a script or of a file for threads. The first cause that applies, in this order, is reported.
 #[derive(Clone, Copy, PartialEq, Eq, Debug)]
 pub enum Cause {
-    /// The line has more than 2,097,664 bytes without its end, or the whole script more than 16,777,216.
+    /// The line has more than `LONGEST_LINE` bytes without its end, or the whole script more than `LONGEST_SCRIPT`.
     TooLong,
     /// A byte is above 127.
     NotAscii,

@@ -7,7 +7,7 @@ ghost use Rattle.script_language.specs.Threads as words;
 
 use crate::digits::{put, put_decimal, put_signed};
 use crate::text::{put_count, put_rule, refusal_words};
-use process_model::Outcome;
+use process_model::ProcessEnd;
 
 /// The room, in bytes, that each of `put_end` and `put_free` needs: neither appends more.
 pub const LONGEST_END: usize = 160;
@@ -28,29 +28,29 @@ fn put_calls(text: &mut Vec<u8>, calls: u64, end: &[u8])
 /// Appends to `text` how a process ended, the text after its name, without a line feed: the number of calls in its journal
 /// (`calls`) and the outcome; for a refused start the refusal alone. Requires room (unused capacity) for `LONGEST_END`
 /// bytes.
-pub fn put_end(text: &mut Vec<u8>, calls: u64, outcome: Outcome)
+pub fn put_end(text: &mut Vec<u8>, calls: u64, outcome: ProcessEnd)
     requires room { vec_len text.old + LONGEST_END ≤ vec_capacity text.old }
     ensures text { text.new.items ≡ text.old.items ++ words.end_text calls outcome }
     ensures len { vec_len text.new ≤ vec_len text.old + LONGEST_END }
     ensures capacity { vec_capacity text.old ≤ vec_capacity text.new }
 {
     match outcome {
-        Outcome::Exited(status) => {
+        ProcessEnd::Exited(status) => {
             put_calls(text, calls, b" exit ");
             put_signed(text, status);
         }
-        Outcome::Ended(rule) => {
+        ProcessEnd::Ended(rule) => {
             put_calls(text, calls, b"");
             put_rule(text, b" ended ", rule);
         }
-        Outcome::Refused(refusal) => {
+        ProcessEnd::Refused(refusal) => {
             let (name, detail) = refusal_words(refusal);
             put(text, b" refused ");
             put(text, name.as_bytes());
             put(text, detail.as_bytes());
         }
-        Outcome::Memory => put_calls(text, calls, b" ended 21 Memory"),
-        Outcome::JournalFull => put_calls(text, calls, b" ended 22 JournalFull"),
+        ProcessEnd::Memory => put_calls(text, calls, b" ended 21 Memory"),
+        ProcessEnd::JournalFull => put_calls(text, calls, b" ended 22 JournalFull"),
     }
 }
 

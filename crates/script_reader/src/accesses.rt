@@ -6,7 +6,7 @@ ghost use Rattle.process_model.specs.Bytes as bytes;
 ghost use Rattle.process_model.specs.declared.step.Step.TheVariants as step;
 ghost use Rattle.script_language.specs.Script as words;
 
-use crate::limits::one;
+use crate::in_limits::one;
 use process_model::{Step, is_width};
 use script_language::{Cause, Item};
 

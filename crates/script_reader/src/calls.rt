@@ -8,7 +8,7 @@ ghost use Rattle.script_language.specs.Script as words;
 ghost use Rattle.script_reader.specs.Alone.{item_alone};
 
 use crate::field_access::{index_at, number_at, take_bytes};
-use crate::limits::{in_limits, one};
+use crate::in_limits::{in_limits, one};
 use process_model::{LONGEST_COPY, Step};
 use script_language::{Cause, Command, FieldValue, Item, Keyword};
 use std::alloc::Global;

@@ -8,7 +8,7 @@ ghost use Rattle.script_language.specs.declared.script.Item.TheVariants as item;
 
 use crate::draft::Draft;
 use crate::field_access::{index_at, number_at};
-use crate::limits::in_limits;
+use crate::in_limits::in_limits;
 use process_model::LONGEST_COPY;
 use script_language::{Cause, Command, FieldValue, Item, Keyword};
 

@@ -9,7 +9,7 @@ ghost use Rattle.script_language.specs.declared.declarations.OwnedImage.TheVaria
 ghost use Rattle.script_reader.specs.Alone.{item_alone};
 
 use crate::field_access::{index_at, policy_at, scheme_at, take_bytes, take_segments, writable_at};
-use crate::limits::in_limits;
+use crate::in_limits::in_limits;
 use process_model::{Config, FileText, LONGEST_FILE};
 use script_language::{Cause, FieldValue, Item, Keyword, OwnedImage};
 use std::alloc::{AllocError, Global};

@@ -5,7 +5,7 @@ ghost use Rattle.std.specs.Prelude.{◌≡◌};
 ghost use Rattle.process_model.specs.declared.step.Step.TheVariants as step;
 ghost use Rattle.script_language.specs.Script as words;
 
-use crate::limits::one;
+use crate::in_limits::one;
 use process_model::Step;
 use script_language::Item;
 

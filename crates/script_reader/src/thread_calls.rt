@@ -10,7 +10,7 @@ ghost use Rattle.script_language.specs.ThreadScript as words;
 ghost use Rattle.script_reader.specs.CallAlone.{call_alone};
 
 use crate::field_access::{index_at, number_at, signed_at, take_bytes};
-use crate::limits::in_limits;
+use crate::in_limits::in_limits;
 use process_model::{Call, LONGEST_COPY, is_width};
 use script_language::{Cause, FieldValue, Keyword, ListedCall, ThreadItem};
 use std::alloc::Global;

@@ -8,7 +8,7 @@ ghost use Rattle.script_language.specs.ThreadScript as words;
 ghost use Rattle.script_reader.specs.CallAlone.{call_alone};
 
 use crate::field_access::index_at;
-use crate::limits::in_limits;
+use crate::in_limits::in_limits;
 use crate::thread_calls::one;
 use crate::thread_draft::ThreadDraft;
 use process_model::Call;

@@ -1,4 +1,4 @@
--- Lemmas: the invariant of shared frames (`IsSharedRule`) is kept as one seat's hold of one frame changes, together with this
+-- Lemmas: the invariant of shared frames (`IsSharedInvariant`) is kept as one seat's hold of one frame changes, together with this
 -- frame's count and words (`kept_step`), and as only the free count and the seat's credits change (`kept_free`).
 use Rattle.std.proofs.Common.{◌≡◌, ◌≢◌, inl, inr, ⊎_elim, ℕ, ◌+◌, ◌<◌, ◌≤◌, List, length, slice_index, set, refl, sym, ap, ◌∙◌, subst, arith}
 use Rattle.std.proofs.lemmas.Bool.Decides.{eqb_tells}
@@ -10,7 +10,7 @@ use Rattle.atomic_table.proofs.Lists.{at_set}
 use Rattle.frame_store.specs.Laws.{IsAnchored}
 use Rattle.frame_store.specs.View.{View, Hold, hold_of, not_held, references}
 use Rattle.frame_store.specs.Holds.{hold_of-frames}
-use Rattle.shared_frames.specs.Rule.{count_at, memory_at, all_references, zero_counts, FrameAgrees, ViewAgrees, IsSharedRule}
+use Rattle.shared_frames.specs.Invariant.{count_at, memory_at, all_references, zero_counts, FrameAgrees, ViewAgrees, IsSharedInvariant}
 use Rattle.shared_frames.proofs.Sums.{total-set, total-two}
 use Rattle.shared_frames.proofs.Zeros.{zero_counts-same}
 
@@ -48,7 +48,7 @@ frame_apart f words words' o g all all' h ne same a = record {
   bare = a.bare;
 }
 
-module _ (n : ℕ) (words words' : List ℕ) (views : List View) (k : IsSharedRule n words views) (id : ℕ) (v w : View) (at : get_elem? views id ≡ some v) where
+module _ (n : ℕ) (words words' : List ℕ) (views : List View) (k : IsSharedInvariant n words views) (id : ℕ) (v w : View) (at : get_elem? views id ≡ some v) where
   -- The seat has h of the frame f then. The other seats have what they had, and it is still so
   pub record Step (f : ℕ) (h : Hold) : Type 0 where
     pub frame : f < n
@@ -62,7 +62,7 @@ module _ (n : ℕ) (words words' : List ℕ) (views : List View) (k : IsSharedRu
     pub mine : FrameAgrees words' f (slice_index words' (count_at f)) h
     pub theirs : (u : Hold) → u.references + references v f ≤ slice_index words (count_at f) → FrameAgrees words f (slice_index words (count_at f)) u → FrameAgrees words' f (slice_index words' (count_at f)) u
 
-  pub kept_step : (f : ℕ) (h : Hold) → Step f h → IsSharedRule n words' (set views id w)
+  pub kept_step : (f : ℕ) (h : Hold) → Step f h → IsSharedInvariant n words' (set views id w)
   kept_step f h s = record {
     narrow = k.narrow;
     wide = s.outside.long ∙ k.wide;
@@ -117,8 +117,8 @@ pub record FreeAlone (words words' : List ℕ) : Type 0 where
   pub memory : (g i : ℕ) → slice_index words' (memory_at g i) ≡ slice_index words (memory_at g i)
 
 -- the free word and the seat's credits change, and what the seat has of the frames does not
-pub kept_free : (n : ℕ) (words words' : List ℕ) (views : List View) → IsSharedRule n words views → (id : ℕ) (v w : View) → get_elem? views id ≡ some v
-    → w.frames ≡ v.frames → FreeAlone words words' → slice_index words' 0 + w.credits ≡ slice_index words 0 + v.credits → IsSharedRule n words' (set views id w)
+pub kept_free : (n : ℕ) (words words' : List ℕ) (views : List View) → IsSharedInvariant n words views → (id : ℕ) (v w : View) → get_elem? views id ≡ some v
+    → w.frames ≡ v.frames → FreeAlone words words' → slice_index words' 0 + w.credits ≡ slice_index words 0 + v.credits → IsSharedInvariant n words' (set views id w)
 kept_free n words words' views k id v w at frames o credits = record {
   narrow = k.narrow;
   wide = o.long ∙ k.wide;

@@ -12,7 +12,7 @@ use lib.ListN.{get_elem?, length-replicate}
 use Rattle.atomic_table.specs.Table.{Final, Seen}
 use Rattle.frame_store.specs.View.{View, Hold, hold_of, not_held, sole_hold, references, IsHeld, IsSole, empty_view, opening_view}
 use Rattle.frame_store.specs.Holds.{hold_of-with_hold_same, hold_of-with_hold_other, hold_of-empty}
-use Rattle.shared_frames.specs.Rule.{count_at, all_references, one_at_zero, zero_counts, FrameAgrees, ViewAgrees, IsSharedRule, Kept}
+use Rattle.shared_frames.specs.Invariant.{count_at, all_references, one_at_zero, zero_counts, FrameAgrees, ViewAgrees, IsSharedInvariant, Kept}
 use Rattle.shared_frames.specs.Totals.{AreTotals, AreLastTotals, first_words, held_frames}
 use Rattle.shared_frames.specs.SeatsOfTable.{FrameFits, IsWithin}
 use Rattle.shared_frames.proofs.Sums.{total-one, total-two, total-lone}
@@ -90,7 +90,7 @@ module _ (n : ℕ) (some_frame : 1 ≤ n) (few : n ≤ 256) where
   ]
 
   -- the rule holds at the start
-  pub begins : IsSharedRule n (first_words n) (opening_view n ∷ [])
+  pub begins : IsSharedInvariant n (first_words n) (opening_view n ∷ [])
   begins = record {
     narrow = few;
     wide = wide;
@@ -105,7 +105,7 @@ module _ (n : ℕ) (some_frame : 1 ≤ n) (few : n ≤ 256) where
   }
 
 -- ---- the end
-module _ (n : ℕ) (words : List ℕ) (views : List View) (k : IsSharedRule n words views) (id : ℕ) (v : View) (at : get_elem? views id ≡ some v) (own : get_or words 1 0 ≡ references v 0) where
+module _ (n : ℕ) (words : List ℕ) (views : List View) (k : IsSharedInvariant n words views) (id : ℕ) (v : View) (at : get_elem? views id ≡ some v) (own : get_or words 1 0 ≡ references v 0) where
   -- no other seat has a reference of frame 0, so that none has any
   none : (f j : ℕ) (u : View) → j ≢ id → get_elem? views j ≡ some u → references u f ≡ 0
   none f j u ne e = elim (eqb_tells (references u f) 0) as (λ _. references u f ≡ 0) [
@@ -141,7 +141,7 @@ module _ (n : ℕ) (words : List ℕ) (views : List View) (k : IsSharedRule n wo
         omega (arith, one, k.balanced, ends n (omega arith), full)
 
 -- a sole holder of frame 0 has all references to it
-sole_count : (n : ℕ) (words : List ℕ) (views : List View) → IsSharedRule n words views → (id : ℕ) (v : View) → get_elem? views id ≡ some v → IsSole v 0 → get_or words 1 0 ≡ references v 0
+sole_count : (n : ℕ) (words : List ℕ) (views : List View) → IsSharedInvariant n words views → (id : ℕ) (v : View) → get_elem? views id ≡ some v → IsSole v 0 → get_or words 1 0 ≡ references v 0
 sole_count n words views k id v at sole =
     let agreed = k.agrees id v at in
     let h = (agreed.frames 0).sole sole in

@@ -17,7 +17,7 @@ use Rattle.frame_store.specs.Laws.{IsAnchored}
 use Rattle.frame_store.specs.View.{counted, spent, View, Hold, hold_of, sole_hold, references, IsHeld, IsSole, with_word, with_credits, without_credits, saw_none, claimed, shared, looked, read_full, released}
 use Rattle.frame_store.specs.Holds.{hold_of-frames}
 use Rattle.frame_store.specs.ViewChanges.{SetsHold, puts, left_of, left-references, released-puts}
-use Rattle.shared_frames.specs.Rule.{count_at, memory_at, one_at_zero, FrameAgrees, IsSharedRule, Kept}
+use Rattle.shared_frames.specs.Invariant.{count_at, memory_at, one_at_zero, FrameAgrees, IsSharedInvariant, Kept}
 use Rattle.shared_frames.specs.StepEffects.{saw_free, let_go, unshared, LoadsFree, GivesBack, Looks, Releases, Learns, Loads, Stores, Reserves, Claims, Shares}
 use Rattle.shared_frames.proofs.Sums.{total-one}
 use Rattle.shared_frames.proofs.Zeros.{one_at_zero-zero, one_at_zero-more, zero_counts-le, zero_counts-same, zero_counts-set}
@@ -75,16 +75,16 @@ module _ (n : ℕ) (s : St) (r : Kept n s) (id : ℕ) (v : View) (at : get_elem?
   mine f l = subst (λ t. FrameAgrees s.words f t (hold_of v f)) (sym (r.counted f l)) ((r.agrees id v at).frames f)
 
   -- a step that changes nothing
-  kept_same : (i : ℕ) → IsSharedRule n (set s.words i (get_or s.words i 0)) (set s.views id v)
-  kept_same i = subst (λ ws. IsSharedRule n ws (set s.views id v)) (sym (set-get_or s.words i 0)) (subst (λ vs. IsSharedRule n s.words vs) (sym (set_again s.views id v at)) r)
+  kept_same : (i : ℕ) → IsSharedInvariant n (set s.words i (get_or s.words i 0)) (set s.views id v)
+  kept_same i = subst (λ ws. IsSharedInvariant n ws (set s.views id v)) (sym (set-get_or s.words i 0)) (subst (λ vs. IsSharedInvariant n s.words vs) (sym (set_again s.views id v at)) r)
 
   -- a step that changes tallies alone
-  kept_seen : (i : ℕ) (w : View) → w.frames ≡ v.frames → w.credits ≡ v.credits → IsSharedRule n (set s.words i (get_or s.words i 0)) (set s.views id w)
-  kept_seen i w same as_many = subst (λ ws. IsSharedRule n ws (set s.views id w)) (sym (set-get_or s.words i 0))
+  kept_seen : (i : ℕ) (w : View) → w.frames ≡ v.frames → w.credits ≡ v.credits → IsSharedInvariant n (set s.words i (get_or s.words i 0)) (set s.views id w)
+  kept_seen i w same as_many = subst (λ ws. IsSharedInvariant n ws (set s.views id w)) (sym (set-get_or s.words i 0))
       (kept_free n s.words s.words s.views r id v w at same record { long = refl; count = λ g. refl; memory = λ g j. refl } (omega (arith, as_many)))
 
   -- the free word becomes x
-  kept_word : (x : ℕ) (w : View) → w.frames ≡ v.frames → x + w.credits ≡ get_or s.words 0 0 + v.credits → IsSharedRule n (set s.words 0 x) (set s.views id w)
+  kept_word : (x : ℕ) (w : View) → w.frames ≡ v.frames → x + w.credits ≡ get_or s.words 0 0 + v.credits → IsSharedInvariant n (set s.words 0 x) (set s.views id w)
   kept_word x w same is = let l = r.wide in let here : get_or (set s.words 0 x) 0 0 ≡ x = get_or-set_same s.words 0 x 0 (omega arith) in
       kept_free n s.words (set s.words 0 x) s.views r id v w at same
       record {
@@ -105,7 +105,7 @@ module _ (n : ℕ) (s : St) (r : Kept n s) (id : ℕ) (v : View) (at : get_elem?
     pub agrees : FrameAgrees s.words f c h
     pub anchored : IsAnchored w
 
-  kept_count : (f c : ℕ) (h : Hold) (w : View) → Counts f c h w → IsSharedRule n (set s.words (count_at f) c) (set s.views id w)
+  kept_count : (f c : ℕ) (h : Hold) (w : View) → Counts f c h w → IsSharedInvariant n (set s.words (count_at f) c) (set s.views id w)
   kept_count f c h w k = kept_step n s.words words' s.views r id v w at f h record {
     frame = k.frame;
     outside = record {
@@ -238,7 +238,7 @@ module _ (n : ℕ) (s : St) (r : Kept n s) (id : ℕ) (v : View) (at : get_elem?
         anchored = still_anchored f h v _ (puts f h v v refl) (omega arith) ((r.agrees id v at).anchored f held);
       }
 
-  kept_memory : (f i x : ℕ) → i < 512 → IsSole v f → IsSharedRule n (set s.words (memory_at f i) x) (set s.views id (with_word f i x v))
+  kept_memory : (f i x : ℕ) → i < 512 → IsSole v f → IsSharedInvariant n (set s.words (memory_at f i) x) (set s.views id (with_word f i x v))
   kept_memory f i x low mark =
       let first = ((r.agrees id v at).frames f).sole mark in
       let l = held_frame f first.0 in
@@ -282,16 +282,16 @@ module _ (n : ℕ) (s : St) (r : Kept n s) (id : ℕ) (v : View) (at : get_elem?
       }
 
   -- an exchange that found the word expected, and one that did not
-  reserve_keeps : (old new : ℕ) → new ≤ old → (b : Bool) → (b ≡ true → get_or s.words 0 0 ≡ old) → IsSharedRule n (set s.words 0 (either b new (get_or s.words 0 0))) (set s.views id (cond b (with_credits (old - new) v) v))
+  reserve_keeps : (old new : ℕ) → new ≤ old → (b : Bool) → (b ≡ true → get_or s.words 0 0 ≡ old) → IsSharedInvariant n (set s.words 0 (either b new (get_or s.words 0 0))) (set s.views id (cond b (with_credits (old - new) v) v))
   reserve_keeps old new le true is = let e = is refl in kept_word new (with_credits (old - new) v) refl (omega (arith, le, e))
   reserve_keeps old new le false is = kept_same 0
 
-  claim_keeps : (f : ℕ) → f < n → IsHeld v 0 → 0 < v.credits → (b : Bool) → (b ≡ true → now f ≡ 0) → IsSharedRule n (set s.words (count_at f) (either b 1 (now f))) (set s.views id (cond b (claimed f v) v))
+  claim_keeps : (f : ℕ) → f < n → IsHeld v 0 → 0 < v.credits → (b : Bool) → (b ≡ true → now f ≡ 0) → IsSharedInvariant n (set s.words (count_at f) (either b 1 (now f))) (set s.views id (cond b (claimed f v) v))
   claim_keeps f l base rich true is = kept_count f 1 sole_hold (claimed f v) (claim_counts f l base rich (is refl))
   claim_keeps f l base rich false is = kept_same (count_at f)
 
-  share_keeps : (f old : ℕ) → IsHeld v f → old < 65535 → (b : Bool) → (b ≡ true → now f ≡ old) → IsSharedRule n (set s.words (count_at f) (either b (old + 1) (now f))) (set s.views id (cond b (shared f v) (unshared (now f) v)))
-  share_keeps f old held room true is = subst (λ z. IsSharedRule n (set s.words (count_at f) (z + 1)) (set s.views id (shared f v))) (is refl)
+  share_keeps : (f old : ℕ) → IsHeld v f → old < 65535 → (b : Bool) → (b ≡ true → now f ≡ old) → IsSharedInvariant n (set s.words (count_at f) (either b (old + 1) (now f))) (set s.views id (cond b (shared f v) (unshared (now f) v)))
+  share_keeps f old held room true is = subst (λ z. IsSharedInvariant n (set s.words (count_at f) (z + 1)) (set s.views id (shared f v))) (is refl)
       (kept_count f (now f + 1) _ (shared f v) (share_counts f held (let e = is refl in omega (arith, e, room))))
   share_keeps f old held room false is = kept_seen (count_at f) (unshared (now f) v) (unshared-frames (now f) v) (unshared-credits (now f) v)
 
@@ -308,7 +308,7 @@ module _ (n slots id : ℕ) (me : M) where
       let t = total-one (λ u. u.credits) s.views id me.0 at in
       let b = zero_counts-le s.words n in
       let is : x + k ≡ (x + k) % 18446744073709551616 = omega (arith, t, b, r.balanced, r.narrow, enough) in
-      (without_credits k me.0, keeps, tt, subst (λ z. IsSharedRule n (set s.words 0 z) (set s.views id (without_credits k me.0))) is (kept_word n s r id me.0 at (x + k) (without_credits k me.0) refl (omega (arith, enough))), refl)
+      (without_credits k me.0, keeps, tt, subst (λ z. IsSharedInvariant n (set s.words 0 z) (set s.views id (without_credits k me.0))) is (kept_word n s r id me.0 at (x + k) (without_credits k me.0) refl (omega (arith, enough))), refl)
 
   pub reserves : (old new : ℕ) → new ≤ old → Allows (Kept n) slots id me 0 (λ x. either (x == old) new x) (Reserves (step slots 0 old new none) me)
   reserves old new le s r _ at small = let x = get_or s.words 0 0 in
@@ -331,7 +331,7 @@ module _ (n slots id : ℕ) (me : M) where
         let_go f x me.0,
         keeps,
         tt,
-        subst (λ z. IsSharedRule n (set s.words (count_at f) z) (set s.views id (let_go f x me.0))) is
+        subst (λ z. IsSharedInvariant n (set s.words (count_at f) z) (set s.views id (let_go f x me.0))) is
             (kept_count n s r id me.0 at f (x - 1) _ (let_go f x me.0) (release_counts n s r id me.0 at f (x - 1) held stays (omega (arith, b.0, held)))),
         λ g e. ap (λ (m : ℕ). (let_go m x me.0, me.1)) (same_frame f g e),
       )

@@ -15,7 +15,7 @@ use Rattle.frame_store.specs.Holds.{hold_of-empty}
 use Rattle.frame_store.specs.ViewJoin.{get-union, hold_of-joined}
 use Rattle.frame_store.specs.ViewChanges.{SetsHold, fewer, stays, goes, moved_from-puts, moved_to-puts}
 use Rattle.shared_frames.specs.SeatsOfTable.{FrameFits, IsWithin}
-use Rattle.shared_frames.specs.Rule.{memory_at, all_references, FrameAgrees, ViewAgrees, IsSharedRule, Kept}
+use Rattle.shared_frames.specs.Invariant.{memory_at, all_references, FrameAgrees, ViewAgrees, IsSharedInvariant, Kept}
 use Rattle.shared_frames.proofs.Sums.{total-set, total-snoc, total-one, total-two}
 use Rattle.shared_frames.proofs.Changes.{each_set, not_held_agrees}
 use Rattle.shared_frames.proofs.Within.{within_puts, not_held_fits}
@@ -84,8 +84,8 @@ each_snoc P views w mine others j u e = ⊎_elim (λ was. others j u was) (λ sa
 same_sums : (n : ℕ) (words : List ℕ) (all all' : ℕ → ℕ) (u : View) → ((g : ℕ) → all' g ≡ all g) → ViewAgrees n words all u → ViewAgrees n words all' u
 same_sums n words all all' u same a = record { within = a.within; anchored = a.anchored; frames = λ g. subst (λ t. FrameAgrees words g t (hold_of u g)) (sym (same g)) (a.frames g) }
 
-kept_split : (n : ℕ) (words : List ℕ) (views : List View) (id : ℕ) (v a b : View) → IsSharedRule n words views → get_elem? views id ≡ some v
-    → AreParts words (λ f. all_references f views) v a b → IsAnchored a → IsAnchored b → IsSharedRule n words (set views id a ++ b ∷ [])
+kept_split : (n : ℕ) (words : List ℕ) (views : List View) (id : ℕ) (v a b : View) → IsSharedInvariant n words views → get_elem? views id ≡ some v
+    → AreParts words (λ f. all_references f views) v a b → IsAnchored a → IsAnchored b → IsSharedInvariant n words (set views id a ++ b ∷ [])
 kept_split n words views id v a b k at p left right = record {
   narrow = k.narrow;
   wide = k.wide;

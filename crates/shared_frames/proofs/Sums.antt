@@ -5,7 +5,7 @@ use Rattle.std.proofs.Common.{◌≡◌, ◌≢◌, ℕ, zero, suc, ◌+◌, ◌
 use mathlib.Core.Option.{some, some-injective, some-ne-none}
 use lib.ListN.{get_elem?}
 use Rattle.frame_store.specs.View.{View}
-use Rattle.shared_frames.specs.Rule.{total}
+use Rattle.shared_frames.specs.Invariant.{total}
 
 module _ (g : View → ℕ) where
   -- one view becomes another

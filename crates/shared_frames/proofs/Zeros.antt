@@ -2,7 +2,7 @@
 -- frames; it stays if the counts stay; how one changed count changes it.
 use Rattle.std.proofs.Common.{◌≡◌, ◌≢◌, ℕ, zero, suc, ◌+◌, ◌<◌, ◌≤◌, List, length, get_or, set, refl, ap, ◌∙◌, inl, inr, arith, get_or-set_same, get_or-set_other}
 use Rattle.std.proofs.lemmas.Bool.Decides.{eqb_tells}
-use Rattle.shared_frames.specs.Rule.{count_at, one_at_zero, zero_counts}
+use Rattle.shared_frames.specs.Invariant.{count_at, one_at_zero, zero_counts}
 
 pub one_at_zero-zero : (c : ℕ) → c ≡ 0 → one_at_zero c ≡ 1
 one_at_zero-zero c e = ap one_at_zero e

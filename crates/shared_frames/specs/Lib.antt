@@ -1,4 +1,4 @@
-pub mod Rule
+pub mod Invariant
 pub mod StepEffects
 pub mod SeatsOfTable
 pub mod Totals

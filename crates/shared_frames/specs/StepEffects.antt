@@ -5,7 +5,7 @@ use Rattle.std.specs.Prelude.{◌≡◌, ℕ, ◌+◌, ◌-◌, ◌<◌, ◌≤�
 use Rattle.atomic_table.specs.Table.{Me, Step}
 use Rattle.frame_store.specs.View.{View, known_word, references, looked, released, without_credits, with_credits, with_word, saw_none}
 use Rattle.frame_store.specs.View.{claimed, shared, read_full}
-use Rattle.shared_frames.specs.Rule.{count_at, memory_at}
+use Rattle.shared_frames.specs.Invariant.{count_at, memory_at}
 use Rattle.process_model.specs.declared.limits.TheConstants.{MOST_REFERENCES}
 
 -- a seat of the table: its view, and its slots, of which there are none here
@@ -47,14 +47,14 @@ abbrev pub Stores : StepEffect
 Stores st m found w = (f i : ℕ) → i < 512 → st.word ≡ memory_at f i → w ≡ (with_word f i st.first m.0, m.1)
 
 -- The next three are exchanges. If the value found is the one expected, the view changes; otherwise it does not, except that
--- `Shares` tallies a count of 65,535 that it found
+-- `Shares` tallies a count of `MOST_REFERENCES` that it found
 abbrev pub Reserves : StepEffect
 Reserves st m found w = w ≡ (cond (found == st.first) (with_credits (st.first - st.second) m.0) m.0, m.1)
 
 abbrev pub Claims : StepEffect
 Claims st m found w = (f : ℕ) → st.word ≡ count_at f → (w ≡ (cond (found == 0) (claimed f m.0) m.0, m.1)) × (found ≡ 0 → references m.0 f ≡ 0)
 
--- the view after an exchange that found a count that it did not expect: 65,535, the most there can be, is tallied as read
+-- the view after an exchange that found a count that it did not expect: `MOST_REFERENCES`, is tallied as read
 abbrev pub unshared : ℕ → View → View
 unshared found v = cond (found == MOST_REFERENCES) (read_full v) v
 

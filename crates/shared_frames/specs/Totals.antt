@@ -6,7 +6,7 @@ use Rattle.std.specs.Prelude.{◌≡◌, ◌≢◌, ℕ, zero, suc, ◌+◌, ◌
 use mathlib.Core.Option.{some}
 use lib.ListN.{get_elem?}
 use Rattle.frame_store.specs.View.{View, references}
-use Rattle.shared_frames.specs.Rule.{IsSharedRule, count_at, one_at_zero, zero_counts}
+use Rattle.shared_frames.specs.Invariant.{IsSharedInvariant, count_at, one_at_zero, zero_counts}
 
 -- of n frames, frame 0 has one reference and the others are free
 abbrev pub first_words : ℕ → List ℕ
@@ -25,7 +25,7 @@ pub record AreTotals (n : ℕ) (v : View) (free trampoline : ℕ) : Type 0 where
   pub words : List ℕ
   pub views : List View
   -- the invariant holds of them
-  pub kept : IsSharedRule n words views
+  pub kept : IsSharedInvariant n words views
   -- the closing seat's view is one of the views
   pub seated : (id : ℕ) × (get_elem? views id ≡ some v)
   -- `free` is how many frames have count 0

@@ -44,7 +44,7 @@ impl<'a> FrameAccess for SharedAccess<'a> {
 
     ghost use Rattle.shared_frames.specs.SeatsOfTable.{AllFit, held_within, to_front, to_back};
 
-    ghost rule = { AllFit };
+    ghost invariant = { AllFit };
 
     ghost alone = { ⊥ };
 

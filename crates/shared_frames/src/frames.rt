@@ -7,13 +7,13 @@ ghost use Rattle.std.specs.Slots.{IsFull, slots_items, slots_len};
 ghost use Rattle.frame_store.specs.View.{IsSole, opening_view, references};
 ghost use Rattle.shared_frames.specs.SeatsOfTable.{FitsIn, IsSized, view_of};
 ghost use Rattle.shared_frames.specs.Pool.{Pool};
-ghost use Rattle.shared_frames.specs.Rule.{zero_counts};
+ghost use Rattle.shared_frames.specs.Invariant.{zero_counts};
 ghost use Rattle.shared_frames.specs.Totals.{AreLastTotals, AreTotals, first_words, held_frames};
 
 use crate::access::SharedAccess;
 use crate::seat::{Knowledge, SharedSeat};
 use crate::supply::SharedSupply;
-use crate::table::FramesRule;
+use crate::table::FramesInvariant;
 use atomic_table::{Closed, Table};
 use process_model::MOST_SHARED_FRAMES;
 use std::alloc::{AllocError, Global};
@@ -24,7 +24,7 @@ use sv39_entry::FrameNo;
 /// The frames that threads share, with their memory. Contracts see the identity of the table and the number of frames.
 #[derive(Drop)]
 pub struct SharedFrames {
-    table: Table<(), Knowledge, usize, FramesRule, Global>,
+    table: Table<(), Knowledge, usize, FramesInvariant, Global>,
     frames: usize,
 }
 

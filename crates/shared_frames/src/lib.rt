@@ -3,7 +3,7 @@
 //! `SharedSeat` is a seat, and `Totals` has the counts at the end.
 //!
 //! Word 0 of the table is the free count; then each frame has its reference count and its 512 words. Each step is one atomic
-//! operation on one word. Between any two steps the invariant of `specs/Rule.antt` holds of all words and of the views of
+//! operation on one word. Between any two steps the invariant of `specs/Invariant.antt` holds of all words and of the views of
 //! all seats, and a step changes the view of its own seat alone; `split` also makes a seat, and `join` takes in another one
 //! and ends it. The invariant belongs to the table's type, so contracts of single calls say only that a seat is at this
 //! table (`specs/SeatsOfTable.antt`).

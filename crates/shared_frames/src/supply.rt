@@ -60,7 +60,7 @@ impl<'a, R> FrameAccess for SharedSupply<'a, R> {
 
     ghost use Rattle.shared_frames.specs.SeatsOfTable.{AllFit, held_within, to_front, to_back};
 
-    ghost rule = { AllFit };
+    ghost invariant = { AllFit };
 
     ghost alone = { ⊥ };
 

@@ -37,7 +37,7 @@ pub fn map<F: FrameSupply>(
     page: Vpn,
     leaf: Entry,
 )
-    requires fits { IsSeatOf F.rule store.old seat.old }
+    requires fits { IsSeatOf F.invariant store.old seat.old }
     requires anchored { IsHeld (F.Seat.view seat.old) 0 }
     requires leaf { kind_of leaf ≡ Leaf }
     requires backed { IsBacked (F.Seat.view seat.old) leaf }
@@ -49,7 +49,7 @@ pub fn map<F: FrameSupply>(
     ensures here { Maps scheme (held_memory (F.Seat.view seat.new)) (ppn_of root.0) page leaf 0 }
     ensures others { OthersStay scheme (held_memory (F.Seat.view seat.old)) (held_memory (F.Seat.view seat.new)) (ppn_of root.0) page }
     ensures anchored { IsHeld (F.Seat.view seat.new) 0 }
-    ensures keeps { KeepsSeats F.rule store.old seat.old store.new seat.new }
+    ensures keeps { KeepsSeats F.invariant store.old seat.old store.new seat.new }
     ensures free { F.alone → F.free store.new ≡ F.free store.old }
 {
     let mut last = None;
@@ -68,7 +68,7 @@ pub fn map_with_last<F: FrameSupply>(
     leaf: Entry,
     last: &mut Option<LastTable>,
 )
-    requires fits { IsSeatOf F.rule store.old seat.old }
+    requires fits { IsSeatOf F.invariant store.old seat.old }
     requires anchored { IsHeld (F.Seat.view seat.old) 0 }
     requires leaf { kind_of leaf ≡ Leaf }
     requires backed { IsBacked (F.Seat.view seat.old) leaf }
@@ -81,7 +81,7 @@ pub fn map_with_last<F: FrameSupply>(
     ensures here { Maps scheme (held_memory (F.Seat.view seat.new)) (ppn_of root.0) page leaf 0 }
     ensures others { OthersStay scheme (held_memory (F.Seat.view seat.old)) (held_memory (F.Seat.view seat.new)) (ppn_of root.0) page }
     ensures anchored { IsHeld (F.Seat.view seat.new) 0 }
-    ensures keeps { KeepsSeats F.rule store.old seat.old store.new seat.new }
+    ensures keeps { KeepsSeats F.invariant store.old seat.old store.new seat.new }
     ensures free { F.alone → F.free store.new ≡ F.free store.old }
 {
     let table = grown_with_last(store, seat, scheme, root, page, last);
@@ -100,7 +100,7 @@ pub fn protect<F: FrameAccess>(
     page: Vpn,
     leaf: Entry,
 )
-    requires fits { IsSeatOf F.rule store.old seat.old }
+    requires fits { IsSeatOf F.invariant store.old seat.old }
     requires leaf { kind_of leaf ≡ Leaf }
     requires backed { IsBacked (F.Seat.view seat.old) leaf }
     requires mapped { (t : Tables) × HasTables scheme (F.Seat.view seat.old) root.0 t × IsSome (get t.leaves (walk_leaf scheme page)) }
@@ -111,7 +111,7 @@ pub fn protect<F: FrameAccess>(
         × ChangesTables (F.Seat.view seat.old) (F.Seat.view seat.new) t t 0 }
     ensures here { Maps scheme (held_memory (F.Seat.view seat.new)) (ppn_of root.0) page leaf 0 }
     ensures others { OthersStay scheme (held_memory (F.Seat.view seat.old)) (held_memory (F.Seat.view seat.new)) (ppn_of root.0) page }
-    ensures keeps { KeepsSeats F.rule store.old seat.old store.new seat.new }
+    ensures keeps { KeepsSeats F.invariant store.old seat.old store.new seat.new }
     ensures free { F.alone → F.free store.new ≡ F.free store.old }
     ensures counts { F.alone → (f : ℕ) → F.count store.new f ≡ F.count store.old f }
 {
@@ -128,12 +128,12 @@ pub fn leaf_of<F: FrameAccess>(
     root: FrameNo,
     page: Vpn,
 ) -> Option<Entry>
-    requires fits { IsSeatOf F.rule store.old seat.old }
+    requires fits { IsSeatOf F.invariant store.old seat.old }
     requires held { (t : Tables) × HasTables scheme (F.Seat.view seat.old) root.0 t }
     ensures leaf { (t : Tables) → HasTables scheme (F.Seat.view seat.old) root.0 t → result ≡ get t.leaves (walk_leaf scheme page) }
     ensures view { F.Seat.view seat.new ≡ F.Seat.view seat.old }
     ensures same { store.new ≡ store.old }
-    ensures keeps { KeepsSeats F.rule store.old seat.old store.new seat.new }
+    ensures keeps { KeepsSeats F.invariant store.old seat.old store.new seat.new }
 {
     let mut last = None;
     leaf_with_last(store, seat, scheme, root, page, &mut last)
@@ -150,14 +150,14 @@ pub fn leaf_with_last<F: FrameAccess>(
     page: Vpn,
     last: &mut Option<LastTable>,
 ) -> Option<Entry>
-    requires fits { IsSeatOf F.rule store.old seat.old }
+    requires fits { IsSeatOf F.invariant store.old seat.old }
     requires held { (t : Tables) × HasTables scheme (F.Seat.view seat.old) root.0 t × IsLastTable scheme t last.old }
     ensures leaf { (t : Tables) → HasTables scheme (F.Seat.view seat.old) root.0 t → IsLastTable scheme t last.old
         → result ≡ get t.leaves (walk_leaf scheme page) }
     ensures kept { (t : Tables) → HasTables scheme (F.Seat.view seat.old) root.0 t → IsLastTable scheme t last.old → IsLastTable scheme t last.new }
     ensures view { F.Seat.view seat.new ≡ F.Seat.view seat.old }
     ensures same { store.new ≡ store.old }
-    ensures keeps { KeepsSeats F.rule store.old seat.old store.new seat.new }
+    ensures keeps { KeepsSeats F.invariant store.old seat.old store.new seat.new }
 {
     let (_, leaf) = leaf_in_table(store, seat, scheme, root, page, last)?;
     Some(leaf)
@@ -173,7 +173,7 @@ pub fn unmap<F: FrameAccess>(
     root: FrameNo,
     page: Vpn,
 ) -> Option<Entry>
-    requires fits { IsSeatOf F.rule store.old seat.old }
+    requires fits { IsSeatOf F.invariant store.old seat.old }
     requires held { (t : Tables) × HasTables scheme (F.Seat.view seat.old) root.0 t }
     ensures leaf { (t : Tables) → HasTables scheme (F.Seat.view seat.old) root.0 t → result ≡ get t.leaves (walk_leaf scheme page) }
     ensures word { (t : Tables) (f : ℕ) → HasTables scheme (F.Seat.view seat.old) root.0 t → get t.tables (last_table scheme page) ≡ Some f
@@ -184,7 +184,7 @@ pub fn unmap<F: FrameAccess>(
         × ChangesTables (F.Seat.view seat.old) (F.Seat.view seat.new) t t 0 }
     ensures here { (leaf level : ℕ) → Maps scheme (held_memory (F.Seat.view seat.new)) (ppn_of root.0) page leaf level → ⊥ }
     ensures others { OthersStay scheme (held_memory (F.Seat.view seat.old)) (held_memory (F.Seat.view seat.new)) (ppn_of root.0) page }
-    ensures keeps { KeepsSeats F.rule store.old seat.old store.new seat.new }
+    ensures keeps { KeepsSeats F.invariant store.old seat.old store.new seat.new }
     ensures free { F.alone → F.free store.new ≡ F.free store.old }
     ensures counts { F.alone → (f : ℕ) → F.count store.new f ≡ F.count store.old f }
 {
@@ -203,7 +203,7 @@ pub fn unmap_with_last<F: FrameAccess>(
     page: Vpn,
     last: &mut Option<LastTable>,
 ) -> Option<Entry>
-    requires fits { IsSeatOf F.rule store.old seat.old }
+    requires fits { IsSeatOf F.invariant store.old seat.old }
     requires held { (t : Tables) × HasTables scheme (F.Seat.view seat.old) root.0 t × IsLastTable scheme t last.old }
     ensures leaf { (t : Tables) → HasTables scheme (F.Seat.view seat.old) root.0 t → IsLastTable scheme t last.old
         → result ≡ get t.leaves (walk_leaf scheme page) }
@@ -216,7 +216,7 @@ pub fn unmap_with_last<F: FrameAccess>(
         × ChangesTables (F.Seat.view seat.old) (F.Seat.view seat.new) t t 0 }
     ensures here { (leaf level : ℕ) → Maps scheme (held_memory (F.Seat.view seat.new)) (ppn_of root.0) page leaf level → ⊥ }
     ensures others { OthersStay scheme (held_memory (F.Seat.view seat.old)) (held_memory (F.Seat.view seat.new)) (ppn_of root.0) page }
-    ensures keeps { KeepsSeats F.rule store.old seat.old store.new seat.new }
+    ensures keeps { KeepsSeats F.invariant store.old seat.old store.new seat.new }
     ensures free { F.alone → F.free store.new ≡ F.free store.old }
     ensures counts { F.alone → (f : ℕ) → F.count store.new f ≡ F.count store.old f }
 {
@@ -236,7 +236,7 @@ fn leaf_in_table<F: FrameAccess>(
     page: Vpn,
     last: &mut Option<LastTable>,
 ) -> Option<(FrameNo, Entry)>
-    requires fits { IsSeatOf F.rule store.old seat.old }
+    requires fits { IsSeatOf F.invariant store.old seat.old }
     requires held { (t : Tables) × HasTables scheme (F.Seat.view seat.old) root.0 t × IsLastTable scheme t last.old }
     ensures leaf { (t : Tables) → HasTables scheme (F.Seat.view seat.old) root.0 t → IsLastTable scheme t last.old
         → option_map (λ p. p.1) result ≡ get t.leaves (walk_leaf scheme page) }
@@ -245,7 +245,7 @@ fn leaf_in_table<F: FrameAccess>(
     ensures kept { (t : Tables) → HasTables scheme (F.Seat.view seat.old) root.0 t → IsLastTable scheme t last.old → IsLastTable scheme t last.new }
     ensures view { F.Seat.view seat.new ≡ F.Seat.view seat.old }
     ensures same { store.new ≡ store.old }
-    ensures keeps { KeepsSeats F.rule store.old seat.old store.new seat.new }
+    ensures keeps { KeepsSeats F.invariant store.old seat.old store.new seat.new }
 {
     let table = table_with_last(store, seat, scheme, root, page, last)?;
     let word = store.load(seat, table, page.index(0));

@@ -22,13 +22,13 @@ pub(crate) fn grown_table<F: FrameSupply>(
     root: FrameNo,
     page: Vpn,
 ) -> FrameNo
-    requires fits { IsSeatOf F.rule store.old seat.old }
+    requires fits { IsSeatOf F.invariant store.old seat.old }
     requires anchored { IsHeld (F.Seat.view seat.old) 0 }
     requires tables { (t : Tables) × HasTables scheme (F.Seat.view seat.old) root.0 t × (missing scheme t page ≤ (F.Seat.view seat.old).credits) }
     ensures tables { (t : Tables) → HasTables scheme (F.Seat.view seat.old) root.0 t → (u : Tables)
         × IsGrown scheme t u page (top_level scheme) × HasTables scheme (F.Seat.view seat.new) root.0 u
         × ChangesTables (F.Seat.view seat.old) (F.Seat.view seat.new) t u (missing scheme t page) × (get u.tables (last_table scheme page) ≡ Some result.0) }
-    ensures keeps { KeepsSeats F.rule store.old seat.old store.new seat.new }
+    ensures keeps { KeepsSeats F.invariant store.old seat.old store.new seat.new }
     ensures free { F.alone → F.free store.new ≡ F.free store.old }
 {
     let mut table = root;
@@ -46,14 +46,14 @@ pub(crate) fn grown_table<F: FrameSupply>(
 /// Claims a frame with one credit (reserved frame) of the seat, sets its words to 0 and returns it: an empty table, which is
 /// a root of its own until a pointer to it is written. Cannot fail: the seat must have a credit. It must hold frame 0 too.
 pub fn new_table<F: FrameSupply>(store: &mut F, seat: &mut F::Seat) -> FrameNo
-    requires fits { IsSeatOf F.rule store.old seat.old }
+    requires fits { IsSeatOf F.invariant store.old seat.old }
     requires anchored { IsHeld (F.Seat.view seat.old) 0 }
     requires credit { 0 < (F.Seat.view seat.old).credits }
     ensures fresh { references (F.Seat.view seat.old) result.0 ≡ 0 }
     ensures view { F.Seat.view seat.new ≡ with_hold result.0 blank_hold (claimed result.0 (F.Seat.view seat.old)) }
     ensures root { (s : Scheme) → HasTables s (F.Seat.view seat.new) result.0 (bare_root s result.0) }
     ensures anchored { IsHeld (F.Seat.view seat.new) 0 }
-    ensures keeps { KeepsSeats F.rule store.old seat.old store.new seat.new }
+    ensures keeps { KeepsSeats F.invariant store.old seat.old store.new seat.new }
     ensures free { F.alone → F.free store.new ≡ F.free store.old }
 {
     let table = store.claim(seat);
@@ -68,7 +68,7 @@ fn new_child<F: FrameSupply>(
     table: FrameNo,
     index: usize,
 ) -> FrameNo
-    requires fits { IsSeatOf F.rule store.old seat.old }
+    requires fits { IsSeatOf F.invariant store.old seat.old }
     requires anchored { IsHeld (F.Seat.view seat.old) 0 }
     requires credit { 0 < (F.Seat.view seat.old).credits }
     requires held { IsHeld (F.Seat.view seat.old) table.0 }
@@ -77,7 +77,7 @@ fn new_child<F: FrameSupply>(
     ensures fresh { references (F.Seat.view seat.old) result.0 ≡ 0 }
     ensures view { F.Seat.view seat.new ≡ with_word table.0 index (pointer_word result.0)
         (with_hold result.0 blank_hold (claimed result.0 (F.Seat.view seat.old))) }
-    ensures keeps { KeepsSeats F.rule store.old seat.old store.new seat.new }
+    ensures keeps { KeepsSeats F.invariant store.old seat.old store.new seat.new }
     ensures free { F.alone → F.free store.new ≡ F.free store.old }
 {
     let child = new_table(store, seat);
@@ -87,10 +87,10 @@ fn new_child<F: FrameSupply>(
 
 /// Sets each word of a frame that was just claimed to 0.
 fn clear<F: FrameAccess>(store: &mut F, seat: &mut F::Seat, frame: FrameNo)
-    requires fits { IsSeatOf F.rule store.old seat.old }
+    requires fits { IsSeatOf F.invariant store.old seat.old }
     requires claimed { hold_of (F.Seat.view seat.old) frame.0 ≡ sole_hold }
     ensures view { F.Seat.view seat.new ≡ with_hold frame.0 blank_hold (F.Seat.view seat.old) }
-    ensures keeps { KeepsSeats F.rule store.old seat.old store.new seat.new }
+    ensures keeps { KeepsSeats F.invariant store.old seat.old store.new seat.new }
     ensures free { F.alone → F.free store.new ≡ F.free store.old }
 {
     store.clear(seat, frame, 0);

@@ -26,12 +26,12 @@ impl<F: FrameAccess> Words for HeldWords<'_, F> {
 
     ghost memory = { λ w. held_memory (F.Seat.view w.seat.now) };
 
-    ghost readable = { λ w ppn. IsSeatOf F.rule w.store.now w.seat.now × IsReadable (F.Seat.view w.seat.now) ppn };
+    ghost readable = { λ w ppn. IsSeatOf F.invariant w.store.now w.seat.now × IsReadable (F.Seat.view w.seat.now) ppn };
 
     ghost there = { λ w ppn index. is_some (frame_at ppn) };
 
     ghost stays = { λ a b. (b.store.ghost_name ≡ a.store.ghost_name) × (b.seat.ghost_name ≡ a.seat.ghost_name) × (b.store.now ≡ a.store.now)
-        × (F.Seat.view b.seat.now ≡ F.Seat.view a.seat.now) × KeepsSeats F.rule a.store.now a.seat.now b.store.now b.seat.now };
+        × (F.Seat.view b.seat.now ≡ F.Seat.view a.seat.now) × KeepsSeats F.invariant a.store.now a.seat.now b.store.now b.seat.now };
 
     ghost stays_itself = { λ a. (refl, refl, refl, refl, λ others h. h) };
 
@@ -43,7 +43,7 @@ impl<F: FrameAccess> Words for HeldWords<'_, F> {
 
     ghost one_memory = { λ a ppn index r low. sym (known_there _ ppn index r.1 low) };
 
-    ghost same_readable = { λ a b ppn p r. (fits_after F.rule p.4 r.0, rw p.3 r.1) };
+    ghost same_readable = { λ a b ppn p r. (fits_after F.invariant p.4 r.0, rw p.3 r.1) };
 
     fn word(&mut self, ppn: u64, index: usize) -> Option<u64> {
         let frame = FrameNo::from_ppn(ppn)?;

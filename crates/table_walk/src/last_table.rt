@@ -47,14 +47,14 @@ pub(crate) fn table_with_last<F: FrameAccess>(
     page: Vpn,
     last: &mut Option<LastTable>,
 ) -> Option<FrameNo>
-    requires fits { IsSeatOf F.rule store.old seat.old }
+    requires fits { IsSeatOf F.invariant store.old seat.old }
     requires held { (t : Tables) × HasTables scheme (F.Seat.view seat.old) root.0 t × IsLastTable scheme t last.old }
     ensures table { (t : Tables) → HasTables scheme (F.Seat.view seat.old) root.0 t → IsLastTable scheme t last.old
         → option_map (λ f. f.0) result ≡ get t.tables (last_table scheme page) }
     ensures kept { (t : Tables) → HasTables scheme (F.Seat.view seat.old) root.0 t → IsLastTable scheme t last.old → IsLastTable scheme t last.new }
     ensures view { F.Seat.view seat.new ≡ F.Seat.view seat.old }
     ensures same { store.new ≡ store.old }
-    ensures keeps { KeepsSeats F.rule store.old seat.old store.new seat.new }
+    ensures keeps { KeepsSeats F.invariant store.old seat.old store.new seat.new }
 {
     if let Some(table) = kept_table(*last, page) {
         return Some(table);
@@ -72,13 +72,13 @@ fn walk_and_keep<F: FrameAccess>(
     page: Vpn,
     last: &mut Option<LastTable>,
 ) -> Option<FrameNo>
-    requires fits { IsSeatOf F.rule store.old seat.old }
+    requires fits { IsSeatOf F.invariant store.old seat.old }
     requires held { (t : Tables) × HasTables scheme (F.Seat.view seat.old) root.0 t }
     ensures table { (t : Tables) → HasTables scheme (F.Seat.view seat.old) root.0 t → option_map (λ f. f.0) result ≡ get t.tables (last_table scheme page) }
     ensures kept { (t : Tables) → HasTables scheme (F.Seat.view seat.old) root.0 t → IsLastTable scheme t last.old → IsLastTable scheme t last.new }
     ensures view { F.Seat.view seat.new ≡ F.Seat.view seat.old }
     ensures same { store.new ≡ store.old }
-    ensures keeps { KeepsSeats F.rule store.old seat.old store.new seat.new }
+    ensures keeps { KeepsSeats F.invariant store.old seat.old store.new seat.new }
 {
     let frame = table_of(store, seat, scheme, root, page)?;
     *last = Some(LastTable { page, frame });
@@ -96,7 +96,7 @@ pub(crate) fn grown_with_last<F: FrameSupply>(
     page: Vpn,
     last: &mut Option<LastTable>,
 ) -> FrameNo
-    requires fits { IsSeatOf F.rule store.old seat.old }
+    requires fits { IsSeatOf F.invariant store.old seat.old }
     requires anchored { IsHeld (F.Seat.view seat.old) 0 }
     requires tables { (t : Tables) × HasTables scheme (F.Seat.view seat.old) root.0 t × IsLastTable scheme t last.old
         × (missing scheme t page ≤ (F.Seat.view seat.old).credits) }
@@ -104,7 +104,7 @@ pub(crate) fn grown_with_last<F: FrameSupply>(
         × IsGrown scheme t u page (top_level scheme) × HasTables scheme (F.Seat.view seat.new) root.0 u
         × ChangesTables (F.Seat.view seat.old) (F.Seat.view seat.new) t u (missing scheme t page)
         × (get u.tables (last_table scheme page) ≡ Some result.0) × IsLastTable scheme u last.new }
-    ensures keeps { KeepsSeats F.rule store.old seat.old store.new seat.new }
+    ensures keeps { KeepsSeats F.invariant store.old seat.old store.new seat.new }
     ensures free { F.alone → F.free store.new ≡ F.free store.old }
 {
     if let Some(table) = kept_table(*last, page) {
@@ -123,14 +123,14 @@ fn grow_and_keep<F: FrameSupply>(
     page: Vpn,
     last: &mut Option<LastTable>,
 ) -> FrameNo
-    requires fits { IsSeatOf F.rule store.old seat.old }
+    requires fits { IsSeatOf F.invariant store.old seat.old }
     requires anchored { IsHeld (F.Seat.view seat.old) 0 }
     requires tables { (t : Tables) × HasTables scheme (F.Seat.view seat.old) root.0 t × (missing scheme t page ≤ (F.Seat.view seat.old).credits) }
     ensures tables { (t : Tables) → HasTables scheme (F.Seat.view seat.old) root.0 t → (u : Tables)
         × IsGrown scheme t u page (top_level scheme) × HasTables scheme (F.Seat.view seat.new) root.0 u
         × ChangesTables (F.Seat.view seat.old) (F.Seat.view seat.new) t u (missing scheme t page)
         × (get u.tables (last_table scheme page) ≡ Some result.0) × IsLastTable scheme u last.new }
-    ensures keeps { KeepsSeats F.rule store.old seat.old store.new seat.new }
+    ensures keeps { KeepsSeats F.invariant store.old seat.old store.new seat.new }
     ensures free { F.alone → F.free store.new ≡ F.free store.old }
 {
     let frame = grown_table(store, seat, scheme, root, page);

@@ -29,13 +29,13 @@ pub fn next_leaf_before<F: FrameAccess>(
     from: Vpn,
     end: u64,
 ) -> Option<(Vpn, Entry)>
-    requires fits { IsSeatOf F.rule store.old seat.old }
+    requires fits { IsSeatOf F.invariant store.old seat.old }
     requires held { (t : Tables) × HasTables scheme (F.Seat.view seat.old) root.0 t }
     requires low { end ≤ page_limit scheme }
     ensures leaf { (t : Tables) → HasTables scheme (F.Seat.view seat.old) root.0 t → IsNextLeafBefore scheme t from end result }
     ensures view { F.Seat.view seat.new ≡ F.Seat.view seat.old }
     ensures same { store.new ≡ store.old }
-    ensures keeps { KeepsSeats F.rule store.old seat.old store.new seat.new }
+    ensures keeps { KeepsSeats F.invariant store.old seat.old store.new seat.new }
 {
     let (number, word) = next_below(store, seat, root, scheme.top_level(), from.number(), end)?;
     if end <= number {
@@ -56,7 +56,7 @@ fn next_below<F: FrameAccess>(
     from: u64,
     end: u64,
 ) -> Option<(u64, u64)>
-    requires fits { IsSeatOf F.rule store.old seat.old }
+    requires fits { IsSeatOf F.invariant store.old seat.old }
     requires low { level ≤ 3 }
     requires held { (s : Scheme) × (root k : ℕ) × (t : Tables) × HasTables s (F.Seat.view seat.old) root t × (get t.tables k ≡ Some table.0)
         × IsTableAt k level }
@@ -64,7 +64,7 @@ fn next_below<F: FrameAccess>(
         → IsTableAt k level → IsFirstLeafBefore t k (places level) from end result }
     ensures view { F.Seat.view seat.new ≡ F.Seat.view seat.old }
     ensures same { store.new ≡ store.old }
-    ensures keeps { KeepsSeats F.rule store.old seat.old store.new seat.new }
+    ensures keeps { KeepsSeats F.invariant store.old seat.old store.new seat.new }
 {
     let width = index_places(level);
     let stop = end.min(512 * width);
@@ -93,7 +93,7 @@ fn next_at<F: FrameAccess>(
     from: u64,
     end: u64,
 ) -> Option<(u64, u64)>
-    requires fits { IsSeatOf F.rule store.old seat.old }
+    requires fits { IsSeatOf F.invariant store.old seat.old }
     requires low { level ≤ 3 }
     requires some { 0 < word }
     requires within { from < 512 ^ level }
@@ -103,7 +103,7 @@ fn next_at<F: FrameAccess>(
         → HasEntry (F.Seat.view seat.old) t k level i word → IsFirstLeafBefore t (k * 512 + i) (512 ^ level) from end result }
     ensures view { F.Seat.view seat.new ≡ F.Seat.view seat.old }
     ensures same { store.new ≡ store.old }
-    ensures keeps { KeepsSeats F.rule store.old seat.old store.new seat.new }
+    ensures keeps { KeepsSeats F.invariant store.old seat.old store.new seat.new }
 {
     if level == 0 {
         return Some((0, word));
@@ -123,14 +123,14 @@ fn next_entry<F: FrameAccess>(
     first: usize,
     last: usize,
 ) -> Option<(usize, u64)>
-    requires fits { IsSeatOf F.rule store.old seat.old }
+    requires fits { IsSeatOf F.invariant store.old seat.old }
     requires held { IsHeld (F.Seat.view seat.old) table.0 }
     requires low { first ≤ last }
     requires in_page { last ≤ 512 }
     ensures word { IsNextEntry (F.Seat.view seat.old) table.0 level first last result }
     ensures view { F.Seat.view seat.new ≡ F.Seat.view seat.old }
     ensures same { store.new ≡ store.old }
-    ensures keeps { KeepsSeats F.rule store.old seat.old store.new seat.new }
+    ensures keeps { KeepsSeats F.invariant store.old seat.old store.new seat.new }
 {
     if level == 0 {
         return store.next_word(seat, table, first, last);

@@ -24,14 +24,14 @@ pub fn release_tables<F: FrameAccess>(
     scheme: Scheme,
     root: FrameNo,
 )
-    requires fits { IsSeatOf F.rule store.old seat.old }
+    requires fits { IsSeatOf F.invariant store.old seat.old }
     requires bare { (t : Tables) × HasTables scheme (F.Seat.view seat.old) root.0 t × AreLast (F.Seat.view seat.old) t }
     ensures gone { (t : Tables) → HasTables scheme (F.Seat.view seat.old) root.0 t → (k f : ℕ) → get t.tables k ≡ Some f
         → hold_of (F.Seat.view seat.new) f ≡ not_held }
     ensures others { (t : Tables) → HasTables scheme (F.Seat.view seat.old) root.0 t → (f : ℕ) → ((k : ℕ) → get t.tables k ≡ Some f → ⊥)
         → hold_of (F.Seat.view seat.new) f ≡ hold_of (F.Seat.view seat.old) f }
     ensures tallies { SameTallies (F.Seat.view seat.old) (F.Seat.view seat.new) }
-    ensures keeps { KeepsSeats F.rule store.old seat.old store.new seat.new }
+    ensures keeps { KeepsSeats F.invariant store.old seat.old store.new seat.new }
     ensures free { F.alone → F.free store.old ≤ F.free store.new }
 {
     release_below(store, seat, root, scheme.top_level());
@@ -42,14 +42,14 @@ pub fn release_tables<F: FrameAccess>(
 /// stays.
 #[cycle(release)]
 fn release_below<F: FrameAccess>(store: &mut F, seat: &mut F::Seat, table: FrameNo, level: u32)
-    requires fits { IsSeatOf F.rule store.old seat.old }
+    requires fits { IsSeatOf F.invariant store.old seat.old }
     requires low { level ≤ 3 }
     requires bare { (s : Scheme) × (root k : ℕ) × (t : Tables) × HasTables s (F.Seat.view seat.old) root t
         × AreLast (F.Seat.view seat.old) t × (get t.tables k ≡ Some table.0) × IsTableAt k level }
     ensures below { (s : Scheme) (root k : ℕ) (t : Tables) → HasTables s (F.Seat.view seat.old) root t → AreLast (F.Seat.view seat.old) t
         → get t.tables k ≡ Some table.0 → IsTableAt k level → (u : Tables)
         × ReleasesTables s (F.Seat.view seat.old) (F.Seat.view seat.new) root k t u × ((i : ℕ) → i < 512 → get u.tables (k * 512 + i) ≡ None) }
-    ensures keeps { KeepsSeats F.rule store.old seat.old store.new seat.new }
+    ensures keeps { KeepsSeats F.invariant store.old seat.old store.new seat.new }
     ensures free { F.alone → F.free store.old ≤ F.free store.new }
 {
     if level == 0 {
@@ -72,7 +72,7 @@ fn release_at<F: FrameAccess>(
     level: u32,
     index: usize,
 )
-    requires fits { IsSeatOf F.rule store.old seat.old }
+    requires fits { IsSeatOf F.invariant store.old seat.old }
     requires low { level ≤ 3 }
     requires above { 0 < level }
     requires in_table { index < 512 }
@@ -81,7 +81,7 @@ fn release_at<F: FrameAccess>(
     ensures here { (s : Scheme) (root k : ℕ) (t : Tables) → HasTables s (F.Seat.view seat.old) root t → AreLast (F.Seat.view seat.old) t
         → get t.tables k ≡ Some table.0 → IsTableAt k level → (u : Tables)
         × ReleasesTables s (F.Seat.view seat.old) (F.Seat.view seat.new) root k t u × (get u.tables (k * 512 + index) ≡ None) }
-    ensures keeps { KeepsSeats F.rule store.old seat.old store.new seat.new }
+    ensures keeps { KeepsSeats F.invariant store.old seat.old store.new seat.new }
     ensures free { F.alone → F.free store.old ≤ F.free store.new }
 {
     if let Some(next) = child(store, seat, table, index) {
@@ -98,7 +98,7 @@ fn next_entry<F: FrameAccess>(
     table: FrameNo,
     first: usize,
 ) -> usize
-    requires fits { IsSeatOf F.rule store.old seat.old }
+    requires fits { IsSeatOf F.invariant store.old seat.old }
     requires held { IsHeld (F.Seat.view seat.old) table.0 }
     requires low { first ≤ 512 }
     ensures from { first ≤ result }
@@ -106,7 +106,7 @@ fn next_entry<F: FrameAccess>(
     ensures zeros { AreZeros (F.Seat.view seat.old) table.0 first result }
     ensures view { F.Seat.view seat.new ≡ F.Seat.view seat.old }
     ensures same { store.new ≡ store.old }
-    ensures keeps { KeepsSeats F.rule store.old seat.old store.new seat.new }
+    ensures keeps { KeepsSeats F.invariant store.old seat.old store.new seat.new }
 {
     let Some((index, _)) = store.next_word(seat, table, first, 512) else {
         return 512;

@@ -19,7 +19,7 @@ pub(crate) fn child<F: FrameAccess>(
     table: FrameNo,
     index: usize,
 ) -> Option<FrameNo>
-    requires fits { IsSeatOf F.rule store.old seat.old }
+    requires fits { IsSeatOf F.invariant store.old seat.old }
     requires held { (s : Scheme) × (root k : ℕ) × (t : Tables) × HasTables s (F.Seat.view seat.old) root t × (get t.tables k ≡ Some table.0)
         × (k * 512 + index < first_leaf) }
     requires in_table { index < 512 }
@@ -27,7 +27,7 @@ pub(crate) fn child<F: FrameAccess>(
         → k * 512 + index < first_leaf → option_map (λ f. f.0) result ≡ get t.tables (k * 512 + index) }
     ensures view { F.Seat.view seat.new ≡ F.Seat.view seat.old }
     ensures same { store.new ≡ store.old }
-    ensures keeps { KeepsSeats F.rule store.old seat.old store.new seat.new }
+    ensures keeps { KeepsSeats F.invariant store.old seat.old store.new seat.new }
 {
     let word = store.load(seat, table, index);
     table_in(word)
@@ -56,7 +56,7 @@ fn deepest_table<F: FrameAccess>(
     root: FrameNo,
     page: Vpn,
 ) -> (FrameNo, u32)
-    requires fits { IsSeatOf F.rule store.old seat.old }
+    requires fits { IsSeatOf F.invariant store.old seat.old }
     requires held { (t : Tables) × HasTables scheme (F.Seat.view seat.old) root.0 t }
     ensures there { (t : Tables) → HasTables scheme (F.Seat.view seat.old) root.0 t
         → get t.tables (node scheme page (top_level scheme - result.1)) ≡ Some result.0.0 }
@@ -65,7 +65,7 @@ fn deepest_table<F: FrameAccess>(
     ensures low { result.1 ≤ top_level scheme }
     ensures view { F.Seat.view seat.new ≡ F.Seat.view seat.old }
     ensures same { store.new ≡ store.old }
-    ensures keeps { KeepsSeats F.rule store.old seat.old store.new seat.new }
+    ensures keeps { KeepsSeats F.invariant store.old seat.old store.new seat.new }
 {
     let mut table = root;
     let top = scheme.top_level();
@@ -88,13 +88,13 @@ pub fn table_at<F: FrameAccess>(
     page: Vpn,
     depth: u32,
 ) -> Option<FrameNo>
-    requires fits { IsSeatOf F.rule store.old seat.old }
+    requires fits { IsSeatOf F.invariant store.old seat.old }
     requires held { (t : Tables) × HasTables scheme (F.Seat.view seat.old) root.0 t }
     requires low { depth ≤ top_level scheme }
     ensures table { (t : Tables) → HasTables scheme (F.Seat.view seat.old) root.0 t → option_map (λ f. f.0) result ≡ get t.tables (node scheme page depth) }
     ensures view { F.Seat.view seat.new ≡ F.Seat.view seat.old }
     ensures same { store.new ≡ store.old }
-    ensures keeps { KeepsSeats F.rule store.old seat.old store.new seat.new }
+    ensures keeps { KeepsSeats F.invariant store.old seat.old store.new seat.new }
 {
     let mut table = root;
     let top = scheme.top_level();
@@ -112,12 +112,12 @@ pub(crate) fn table_of<F: FrameAccess>(
     root: FrameNo,
     page: Vpn,
 ) -> Option<FrameNo>
-    requires fits { IsSeatOf F.rule store.old seat.old }
+    requires fits { IsSeatOf F.invariant store.old seat.old }
     requires held { (t : Tables) × HasTables scheme (F.Seat.view seat.old) root.0 t }
     ensures table { (t : Tables) → HasTables scheme (F.Seat.view seat.old) root.0 t → option_map (λ f. f.0) result ≡ get t.tables (last_table scheme page) }
     ensures view { F.Seat.view seat.new ≡ F.Seat.view seat.old }
     ensures same { store.new ≡ store.old }
-    ensures keeps { KeepsSeats F.rule store.old seat.old store.new seat.new }
+    ensures keeps { KeepsSeats F.invariant store.old seat.old store.new seat.new }
 {
     table_at(store, seat, scheme, root, page, scheme.top_level())
 }
@@ -131,13 +131,13 @@ pub fn missing_tables<F: FrameAccess>(
     root: FrameNo,
     page: Vpn,
 ) -> usize
-    requires fits { IsSeatOf F.rule store.old seat.old }
+    requires fits { IsSeatOf F.invariant store.old seat.old }
     requires held { (t : Tables) × HasTables scheme (F.Seat.view seat.old) root.0 t }
     ensures missing { (t : Tables) → HasTables scheme (F.Seat.view seat.old) root.0 t → result ≡ missing scheme t page }
     ensures few { result ≤ top_level scheme }
     ensures view { F.Seat.view seat.new ≡ F.Seat.view seat.old }
     ensures same { store.new ≡ store.old }
-    ensures keeps { KeepsSeats F.rule store.old seat.old store.new seat.new }
+    ensures keeps { KeepsSeats F.invariant store.old seat.old store.new seat.new }
 {
     let (_, level) = deepest_table(store, seat, scheme, root, page);
     level as usize

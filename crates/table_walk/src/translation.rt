@@ -78,13 +78,13 @@ pub fn translate_held<F: FrameAccess>(
     access: Access,
     mode: Mode,
 ) -> Walk
-    requires fits { IsSeatOf F.rule store.old seat.old }
+    requires fits { IsSeatOf F.invariant store.old seat.old }
     requires held { (t : Tables) × HasTables scheme (F.Seat.view seat.old) root.0 t }
     ensures outcome { (t : Tables) → HasTables scheme (F.Seat.view seat.old) root.0 t → LeavesAreThere scheme t
         → result ≡ walk_answer scheme t va.0 access mode }
     ensures view { F.Seat.view seat.new ≡ F.Seat.view seat.old }
     ensures same { store.new ≡ store.old }
-    ensures keeps { KeepsSeats F.rule store.old seat.old store.new seat.new }
+    ensures keeps { KeepsSeats F.invariant store.old seat.old store.new seat.new }
 {
     // these laws say what walks over these tables find, and that an access is translated to one outcome
     walks_of_tables();

@@ -51,10 +51,10 @@ pub known_by_filling : (words : List ℕ) (i f x : ℕ) (v w : View) → w ≡ f
 known_by_filling words i f x v w is known = sym (get_or_from_slice_get words i x 0 (sym (ap (λ u. known_word u f i) is ∙ known_word-filled f words v i) ∙ known))
 
 -- a seat opens a second one, which steps beside it
-module _ {Store Seat : Type 0} (rule : Store → List Seat → Type 0) {s t : Store} {a b new : Seat} (front : ComesFront (rule t))
-    (opening : (others : List Seat) → rule s (a ∷ others) → rule t (b ∷ new ∷ others)) where
-  pub second_fits : IsSeatOf rule s a → IsSeatOf rule t new
+module _ {Store Seat : Type 0} (invariant : Store → List Seat → Type 0) {s t : Store} {a b new : Seat} (front : ComesFront (invariant t))
+    (opening : (others : List Seat) → invariant s (a ∷ others) → invariant t (b ∷ new ∷ others)) where
+  pub second_fits : IsSeatOf invariant s a → IsSeatOf invariant t new
   second_fits fits = (b ∷ fits.0, front (b ∷ []) new fits.0 (opening fits.0 fits.1))
 
-  pub second_steps : {u : Store} {later : Seat} → GoesBack (rule u) → KeepsSeats rule t new u later → (others : List Seat) → rule s (a ∷ others) → rule u (b ∷ later ∷ others)
+  pub second_steps : {u : Store} {later : Seat} → GoesBack (invariant u) → KeepsSeats invariant t new u later → (others : List Seat) → invariant s (a ∷ others) → invariant u (b ∷ later ∷ others)
   second_steps {later} back stepping others r = back (b ∷ []) later others (stepping (b ∷ others) (front (b ∷ []) new others (opening others r)))

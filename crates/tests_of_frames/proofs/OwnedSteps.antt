@@ -2,7 +2,7 @@
 -- `OwnsBoth`) when frames are reserved, claimed, filled or changed.
 use Rattle.std.proofs.Common.{◌≡◌, ◌≢◌, ℕ, ◌<◌, List, [], ◌∷◌, refl, ap, sym, subst, ◌∙◌, lit<, arith}
 use Rattle.std.specs.Prelude.{IsTrue}
-use Rattle.frame_store.specs.Plain.{PlainState, PlainStateRule}
+use Rattle.frame_store.specs.Plain.{PlainState, PlainStateInvariant}
 use Rattle.frame_store.specs.View.{View, Hold, hold_of, references, IsHeld, IsSole, sole_hold, opening_view, with_credits, claimed}
 use Rattle.frame_store.specs.Holds.{hold_of-with_hold_same, hold_of-with_hold_other, hold_of-frames, opening_holds}
 use Rattle.frame_bytes.specs.Contents.{HasBytes, ChangesWords}
@@ -50,11 +50,11 @@ module _ (f : ℕ) (v w : View) (changes : ChangesWords f v w) where
 
 module _ (s : PlainState) (v : View) (f g : ℕ) (owns : OwnsBoth s v f g) where
   pub owns_turned : OwnsBoth s v g f
-  owns_turned = record { rule = owns.rule; one = owns.other; other = owns.one; apart = λ e. owns.apart (sym e) }
+  owns_turned = record { invariant = owns.invariant; one = owns.other; other = owns.one; apart = λ e. owns.apart (sym e) }
 
-  pub one_changed : (t : PlainState) (w : View) → PlainStateRule t (w ∷ []) → ChangesWords f v w → (bytes : List ℕ) → HasBytes w f bytes → OwnsBoth t w f g
-  one_changed t w rule changes bytes has = record {
-    rule = rule;
+  pub one_changed : (t : PlainState) (w : View) → PlainStateInvariant t (w ∷ []) → ChangesWords f v w → (bytes : List ℕ) → HasBytes w f bytes → OwnsBoth t w f g
+  one_changed t w invariant changes bytes has = record {
+    invariant = invariant;
     one = owns_changed f v w changes owns.one.held owns.one.sole bytes has;
     other = owns_apart f v w changes g (λ e. owns.apart (sym e)) owns.other;
     apart = owns.apart;
@@ -72,11 +72,11 @@ module _ (f g : ℕ) (r a b : View) (first : a ≡ claimed f r) (fresh : referen
   other_sole w changes = changed_sole f b w changes g (claimed_sole g a b second)
 
   pub both_filled : (w x : View) (ones twos : List ℕ) → ChangesWords f b w → HasBytes w f ones → ChangesWords g w x → HasBytes x g twos
-      → (s : PlainState) → PlainStateRule s (x ∷ []) → OwnsBoth s x f g
-  both_filled w x ones twos fill_one has_one fill_other has_other s rule =
+      → (s : PlainState) → PlainStateInvariant s (x ∷ []) → OwnsBoth s x f g
+  both_filled w x ones twos fill_one has_one fill_other has_other s invariant =
       let held : IsHeld b f = still_held g a b second f apart (claimed_held f r a first) in
       record {
-        rule = rule;
+        invariant = invariant;
         one = owns_apart g w x fill_other f apart (owns_changed f b w fill_one held one_sole ones has_one);
         other = owns_changed g w x fill_other (changed_held f b w fill_one g (claimed_held g a b second)) (other_sole w fill_one) twos has_other;
         apart = apart;

@@ -6,7 +6,7 @@ use Rattle.std.proofs.lemmas.Bool.Decides.{eqb_tells}
 use Rattle.frame_store.specs.Laws.{IsAnchored, IsDry}
 use Rattle.frame_store.specs.View.{View, Hold, hold_of, references, IsHeld, IsSole, sole_hold, empty_view, with_credits, without_credits, with_word, claimed, shared, looked, read_full, released, split_off}
 use Rattle.frame_store.specs.Holds.{hold_of-frames, hold_of-empty}
-use Rattle.frame_store.specs.Plain.{PlainState, PlainStateRule, to_front}
+use Rattle.frame_store.specs.Plain.{PlainState, PlainStateInvariant, to_front}
 use Rattle.frame_store.specs.ViewChanges.{SetsHold, puts, left_of, left-references, released-puts, stays, moved_from-puts, moved_to-puts}
 
 here : (f : ℕ) (h : Hold) (v w : View) → SetsHold f h v w → references w f ≡ h.references
@@ -148,5 +148,5 @@ pub release-anchored : (f : ℕ) (v : View) → 0 ≢ f → IsHeld v 0 → IsAnc
 release-anchored f v ne held g h = subst (λ (z : Hold). 0 < z.references) (sym ((released-puts f v).apart 0 ne)) held
 
 -- of two seats either may come first
-pub turn : (s : PlainState) (v w : View) → PlainStateRule s (v ∷ w ∷ []) → PlainStateRule s (w ∷ v ∷ [])
+pub turn : (s : PlainState) (v w : View) → PlainStateInvariant s (v ∷ w ∷ []) → PlainStateInvariant s (w ∷ v ∷ [])
 turn s v w r = to_front s.words s.counts s.free (v ∷ []) w [] r

@@ -67,11 +67,11 @@ fn filled_word<F: FrameSupply>(
     words: &[u64; 512],
     index: usize,
 ) -> Result<u64, NoFrame>
-    requires fits { IsSeatOf F.rule store.old seat.old }
+    requires fits { IsSeatOf F.invariant store.old seat.old }
     requires anchored { IsHeld (F.Seat.view seat.old) 0 }
     requires in_page { index < 512 }
     ensures word { IfOk result (λ w. w ≡ slice_index words.now index) }
-    ensures keeps { KeepsSeats F.rule store.old seat.old store.new seat.new }
+    ensures keeps { KeepsSeats F.invariant store.old seat.old store.new seat.new }
 {
     let frame = filled_frame(store, seat, words)?;
     Ok(read_word(store, seat, frame, index))
@@ -85,12 +85,12 @@ fn word_through_a_new_seat<F: FrameSupply>(
     words: &[u64; 512],
     index: usize,
 ) -> Result<u64, Refusal>
-    requires fits { IsSeatOf F.rule store.old seat.old }
+    requires fits { IsSeatOf F.invariant store.old seat.old }
     requires anchored { IsHeld (F.Seat.view seat.old) 0 }
     requires in_page { index < 512 }
     ensures word { IfOk result (λ w. w ≡ slice_index words.now index) }
     ensures anchored { IsHeld (F.Seat.view seat.new) 0 }
-    ensures keeps { KeepsSeats F.rule store.old seat.old store.new seat.new }
+    ensures keeps { KeepsSeats F.invariant store.old seat.old store.new seat.new }
 {
     let mut opened = opened_seat(store, seat)?;
     let word = filled_word(store, &mut opened, words, index);
@@ -127,9 +127,9 @@ fn runs_over_both_stores(rt: HostRuntime) -> Result<(), Fail> {
 /// Fills a frame that has three words other than 0. Returns whether, for each case of a table, `next_word` and
 /// `next_busy_word` find the first of these words from index `first` on and below index `last`.
 fn finds_next_words<F: FrameSupply>(store: &mut F, seat: &mut F::Seat) -> Result<bool, NoFrame>
-    requires fits { IsSeatOf F.rule store.old seat.old }
+    requires fits { IsSeatOf F.invariant store.old seat.old }
     requires anchored { IsHeld (F.Seat.view seat.old) 0 }
-    ensures keeps { KeepsSeats F.rule store.old seat.old store.new seat.new }
+    ensures keeps { KeepsSeats F.invariant store.old seat.old store.new seat.new }
 {
     let mut words = [0; 512];
     words[0] = 1;

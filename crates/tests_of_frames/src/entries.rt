@@ -204,8 +204,8 @@ fn names_causes_and_rules(rt: HostRuntime) {
         (Rule::GuardPage, 4, "GuardPage"),
         (Rule::NoFrame, 9, "NoFrame"),
     ];
-    for (rule, number, name) in rules {
-        assert_eq!(rt; rule.number(), number);
-        assert_eq!(rt; rule.name(), name);
+    for (invariant, number, name) in rules {
+        assert_eq!(rt; invariant.number(), number);
+        assert_eq!(rt; invariant.name(), name);
     }
 }

@@ -35,9 +35,9 @@ impl From<SharersFull> for Refusal {
 
 /// Reserves three frames, claims two of them and shares one, then releases and gives back all of it. Works over any store.
 fn round<F: FrameSupply>(store: &mut F, seat: &mut F::Seat) -> Result<(), Refusal>
-    requires fits { IsSeatOf F.rule store.old seat.old }
+    requires fits { IsSeatOf F.invariant store.old seat.old }
     requires base { IsHeld (F.Seat.view seat.old) 0 }
-    ensures keeps { KeepsSeats F.rule store.old seat.old store.new seat.new }
+    ensures keeps { KeepsSeats F.invariant store.old seat.old store.new seat.new }
     ensures base { IsHeld (F.Seat.view seat.new) 0 }
 {
     store.reserve(seat, 3)?;

@@ -22,12 +22,12 @@ fn is_settled<S: FrameSeat, F: FrameAccess<Seat = S>>(
     store: &mut F,
     page: Vpn,
 ) -> bool
-    requires fits { IsSeatOf F.rule store.old space.old.seat }
+    requires fits { IsSeatOf F.invariant store.old space.old.seat }
     requires alive { IsAlive (body_of S.view space.old) }
     ensures vacant { (t : Tables) (p : Process) → IsSpace (body_of S.view space.old) t p → result ≡ false → get p.settled page ≡ None }
     ensures place { KeepsPlace space.old space.new }
     ensures view { S.view space.new.seat ≡ S.view space.old.seat }
-    ensures keeps { KeepsSeats F.rule store.old space.old.seat store.new space.new.seat }
+    ensures keeps { KeepsSeats F.invariant store.old space.old.seat store.new space.new.seat }
 {
     let end = space.layout.scheme().trapframe().page();
     match space.next_settled(store, page.number(), end) {
@@ -44,10 +44,10 @@ fn fill<S: FrameSeat, F: FrameSupply<Seat = S>>(
     bytes: &[u8; 4096],
     stored: bool,
 ) -> Result<(), Refusal>
-    requires fits { IsSeatOf F.rule store.old space.old.seat }
+    requires fits { IsSeatOf F.invariant store.old space.old.seat }
     requires ready { (t : Tables) × (p : Process) × (can : CanSettle (body_of S.view space.old) t p page) × (stored ≡ true → can.region.writes ≡ true) }
     ensures alive { IsAlive (body_of S.view space.new) }
-    ensures keeps { KeepsSeats F.rule store.old space.old.seat store.new space.new.seat }
+    ensures keeps { KeepsSeats F.invariant store.old space.old.seat store.new space.new.seat }
 {
     if space.settle(store, page, bytes).is_err() {
         return Err(Refusal::NoFrame);
@@ -67,10 +67,10 @@ fn settle<S: FrameSeat, F: FrameSupply<Seat = S>>(
     bytes: &[u8; 4096],
     access: Access,
 ) -> Result<(), Refusal>
-    requires fits { IsSeatOf F.rule store.old space.old.seat }
+    requires fits { IsSeatOf F.invariant store.old space.old.seat }
     requires alive { IsAlive (body_of S.view space.old) }
     ensures alive { IsAlive (body_of S.view space.new) }
-    ensures keeps { KeepsSeats F.rule store.old space.old.seat store.new space.new.seat }
+    ensures keeps { KeepsSeats F.invariant store.old space.old.seat store.new space.new.seat }
 {
     let Some(region) = space.layout.region_at(page.number()) else {
         return Err(Refusal::BadArgument);
@@ -108,10 +108,10 @@ pub(crate) fn serve<S: FrameSeat, F: FrameSupply<Seat = S>, C: Files>(
     page: Vpn,
     access: Access,
 ) -> Result<(), Refusal>
-    requires fits { IsSeatOf F.rule store.old space.old.seat }
+    requires fits { IsSeatOf F.invariant store.old space.old.seat }
     requires alive { IsAlive (body_of S.view space.old) }
     ensures alive { IsAlive (body_of S.view space.new) }
-    ensures keeps { KeepsSeats F.rule store.old space.old.seat store.new space.new.seat }
+    ensures keeps { KeepsSeats F.invariant store.old space.old.seat store.new space.new.seat }
 {
     let Some((file, offset)) = place_in_file(space, page.number()) else {
         return Err(Refusal::BadArgument);

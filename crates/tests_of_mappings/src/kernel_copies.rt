@@ -32,10 +32,10 @@ pub(crate) fn copy_from<S: FrameSeat, F: FrameSupply<Seat = S>, C: Files>(
     va: Va,
     count: usize,
 ) -> Reply
-    requires fits { IsSeatOf F.rule store.old space.old.seat }
+    requires fits { IsSeatOf F.invariant store.old space.old.seat }
     requires alive { IsAlive (body_of S.view space.old) }
     ensures alive { IsAlive (body_of S.view space.new) }
-    ensures keeps { KeepsSeats F.rule store.old space.old.seat store.new space.new.seat }
+    ensures keeps { KeepsSeats F.invariant store.old space.old.seat store.new space.new.seat }
 {
     if count > 256 {
         return Reply::Scalar(ScalarReply::Refused(Refusal::BadArgument));
@@ -56,10 +56,10 @@ pub(crate) fn copy_to<S: FrameSeat, F: FrameSupply<Seat = S>, C: Files>(
     first: u8,
     count: usize,
 ) -> Reply
-    requires fits { IsSeatOf F.rule store.old space.old.seat }
+    requires fits { IsSeatOf F.invariant store.old space.old.seat }
     requires alive { IsAlive (body_of S.view space.old) }
     ensures alive { IsAlive (body_of S.view space.new) }
-    ensures keeps { KeepsSeats F.rule store.old space.old.seat store.new space.new.seat }
+    ensures keeps { KeepsSeats F.invariant store.old space.old.seat store.new space.new.seat }
 {
     let bytes = counted(first, count);
     match copy_out(space, store, files, va, bytes.as_slice()) {

@@ -28,10 +28,10 @@ pub(crate) fn first_wrong<S: FrameSeat, F: FrameSupply<Seat = S>, C: Files>(
     files: &mut C,
     rows: &[Row],
 ) -> Wrong
-    requires fits { IsSeatOf F.rule store.old space.old.seat }
+    requires fits { IsSeatOf F.invariant store.old space.old.seat }
     requires alive { IsAlive (body_of S.view space.old) }
     ensures alive { IsAlive (body_of S.view space.new) }
-    ensures keeps { KeepsSeats F.rule store.old space.old.seat store.new space.new.seat }
+    ensures keeps { KeepsSeats F.invariant store.old space.old.seat store.new space.new.seat }
 {
     for (number, (operation, expected)) in rows.iter().enumerate() {
         let reply = perform(space, store, files, *operation);
@@ -49,10 +49,10 @@ fn perform<S: FrameSeat, F: FrameSupply<Seat = S>, C: Files>(
     files: &mut C,
     operation: Operation,
 ) -> Reply
-    requires fits { IsSeatOf F.rule store.old space.old.seat }
+    requires fits { IsSeatOf F.invariant store.old space.old.seat }
     requires alive { IsAlive (body_of S.view space.old) }
     ensures alive { IsAlive (body_of S.view space.new) }
-    ensures keeps { KeepsSeats F.rule store.old space.old.seat store.new space.new.seat }
+    ensures keeps { KeepsSeats F.invariant store.old space.old.seat store.new space.new.seat }
 {
     match operation {
         Operation::Map(length, protection, flags, file) => {
@@ -110,10 +110,10 @@ fn access<S: FrameSeat, F: FrameAccess<Seat = S>>(
     store: &mut F,
     request: AccessRequest,
 ) -> Reply
-    requires fits { IsSeatOf F.rule store.old space.old.seat }
+    requires fits { IsSeatOf F.invariant store.old space.old.seat }
     requires alive { IsAlive (body_of S.view space.old) }
     ensures alive { IsAlive (body_of S.view space.new) }
-    ensures keeps { KeepsSeats F.rule store.old space.old.seat store.new space.new.seat }
+    ensures keeps { KeepsSeats F.invariant store.old space.old.seat store.new space.new.seat }
 {
     if !is_width(request.width) {
         return Scalar(Refused(Refusal::BadArgument));
@@ -128,10 +128,10 @@ fn write_all<S: FrameSeat, F: FrameAccess<Seat = S>, C: Files>(
     store: &mut F,
     files: &mut C,
 ) -> Result<(), Refusal>
-    requires fits { IsSeatOf F.rule store.old space.old.seat }
+    requires fits { IsSeatOf F.invariant store.old space.old.seat }
     requires alive { IsAlive (body_of S.view space.old) }
     ensures alive { IsAlive (body_of S.view space.new) }
-    ensures keeps { KeepsSeats F.rule store.old space.old.seat store.new space.new.seat }
+    ensures keeps { KeepsSeats F.invariant store.old space.old.seat store.new space.new.seat }
 {
     promise_write_back(space, store, files)?;
     write_back(space, store, files);

@@ -113,12 +113,12 @@ fn lived<S: FrameSeat, F: FrameSupply<Seat = S>, C: Files>(
     story: &Story,
     files: &mut C,
 ) -> Result<(Wrong, S), (NoFrame, S)>
-    requires fits { IsSeatOf F.rule store.old seat }
+    requires fits { IsSeatOf F.invariant store.old seat }
     requires opening { HoldsTrampoline (S.view seat) }
     requires low { story.now.page < trapframe_page Sv39 }
     ensures bare { IfOk result (λ r. IsBare (S.view r.1)) }
-    ensures keeps { IfOk result (λ r. KeepsSeats F.rule store.old seat store.new r.1) }
-    ensures keeps_refused { IfErr result (λ e. KeepsSeats F.rule store.old seat store.new e.1) }
+    ensures keeps { IfOk result (λ r. KeepsSeats F.invariant store.old seat store.new r.1) }
+    ensures keeps_refused { IfErr result (λ e. KeepsSeats F.invariant store.old seat store.new e.1) }
 {
     let mut space = Space::build(store, seat, Scheme::Sv39, &one_page(story.page))?;
     let wrong = first_wrong(&mut space, store, files, story.rows);

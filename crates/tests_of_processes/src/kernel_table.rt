@@ -62,10 +62,10 @@ fn first_wrong<S: FrameSeat, F: FrameSupply<Seat = S>>(
     scheme: Scheme,
     rows: &[Row; 14],
 ) -> Result<(Option<Row>, S), (NoFrame, S)>
-    requires fits { IsSeatOf F.rule store.old seat }
+    requires fits { IsSeatOf F.invariant store.old seat }
     requires opening { HoldsTrampoline (S.view seat) }
-    ensures keeps { IfOk result (λ r. KeepsSeats F.rule store.old seat store.new r.1) }
-    ensures keeps_dry { IfErr result (λ e. KeepsSeats F.rule store.old seat store.new e.1) }
+    ensures keeps { IfOk result (λ r. KeepsSeats F.invariant store.old seat store.new r.1) }
+    ensures keeps_dry { IfErr result (λ e. KeepsSeats F.invariant store.old seat store.new e.1) }
 {
     let mut kernel = KernelTable::build(store, seat, scheme, 64, 4)?;
     for row in rows {

@@ -90,14 +90,14 @@ fn roomy<S: FrameSeat, F: FrameSupply<Seat = S>>(
     scheme: Scheme,
     page: u64,
 ) -> Result<Space<S>, (NoFrame, S)>
-    requires fits { IsSeatOf F.rule store.old seat }
+    requires fits { IsSeatOf F.invariant store.old seat }
     requires opening { HoldsTrampoline (S.view seat) }
     requires in_heap { 5 ≤ page }
     requires low { page < trapframe_page scheme }
     ensures lives { IfOk result (λ s. Lives (S.view s.seat) s.root.0 s.trapframe.0 s.layout page false) }
     ensures scheme { IfOk result (λ s. s.layout.scheme ≡ scheme) }
-    ensures keeps { IfOk result (λ s. KeepsSeats F.rule store.old seat store.new s.seat) }
-    ensures keeps_refused { IfErr result (λ e. KeepsSeats F.rule store.old seat store.new e.1) }
+    ensures keeps { IfOk result (λ s. KeepsSeats F.invariant store.old seat store.new s.seat) }
+    ensures keeps_refused { IfErr result (λ e. KeepsSeats F.invariant store.old seat store.new e.1) }
 {
     let mut space = Space::build(store, seat, scheme, &standard_parts())?;
     space.set_size((page + 1) * PAGE_SIZE);
@@ -124,13 +124,13 @@ fn kept<S: FrameSeat, F: FrameAccess<Seat = S>>(
     va: Va,
     value: u64,
 ) -> u64
-    requires fits { IsSeatOf F.rule store.old space.old.seat }
+    requires fits { IsSeatOf F.invariant store.old space.old.seat }
     requires ready { (t : Tables) × (p : Process) × IsSpace (body_of S.view space.old) t p × IsWritable p (page_of va.0) }
     requires aligned { va.0 % 8 ≡ 0 }
     ensures agrees { (t : Tables) (p : Process) → IsSpace (body_of S.view space.old) t p → IsWritable p (page_of va.0) →
         (s : Page) × (s.cow ≡ false) × IsSpace (body_of S.view space.new) t (with_page p (page_of va.0) s) }
     ensures layout { space.new.layout ≡ space.old.layout }
-    ensures keeps { KeepsSeats F.rule store.old space.old.seat store.new space.new.seat }
+    ensures keeps { KeepsSeats F.invariant store.old space.old.seat store.new space.new.seat }
 {
     space.write(store, va, 8, value);
     let read = space.read(store, va, 8);
@@ -145,11 +145,11 @@ fn try_settle<S: FrameSeat, F: FrameSupply<Seat = S>>(
     store: &mut F,
     page: Vpn,
 ) -> bool
-    requires fits { IsSeatOf F.rule store.old space.old.seat }
+    requires fits { IsSeatOf F.invariant store.old space.old.seat }
     requires lives { Lives (S.view space.old.seat) space.old.root.0 space.old.trapframe.0 space.old.layout page false }
     ensures lives { Lives (S.view space.new.seat) space.new.root.0 space.new.trapframe.0 space.new.layout page result }
     ensures layout { space.new.layout ≡ space.old.layout }
-    ensures keeps { KeepsSeats F.rule store.old space.old.seat store.new space.new.seat }
+    ensures keeps { KeepsSeats F.invariant store.old space.old.seat store.new space.new.seat }
 {
     space.settle(store, page, &[]).is_ok()
 }
@@ -161,12 +161,12 @@ fn try_far<S: FrameSeat, F: FrameSupply<Seat = S>>(
     store: &mut F,
     page: u64,
 ) -> Reads
-    requires fits { IsSeatOf F.rule store.old space.old.seat }
+    requires fits { IsSeatOf F.invariant store.old space.old.seat }
     requires low { page < 2 ^ 36 }
     requires lives { Lives (S.view space.old.seat) space.old.root.0 space.old.trapframe.0 space.old.layout page false }
     ensures agrees { IsAlive (body_of S.view space.new) }
     ensures layout { space.new.layout ≡ space.old.layout }
-    ensures keeps { KeepsSeats F.rule store.old space.old.seat store.new space.new.seat }
+    ensures keeps { KeepsSeats F.invariant store.old space.old.seat store.new space.new.seat }
 {
     let (near, far) = (Va(PAGE_SIZE), Va(page * PAGE_SIZE));
     let before = kept(space, store, near, NEAR);
@@ -199,13 +199,13 @@ fn settled_far<S: FrameSeat, F: FrameSupply<Seat = S>>(
     scheme: Scheme,
     page: u64,
 ) -> Result<(Reads, S), (NoFrame, S)>
-    requires fits { IsSeatOf F.rule store.old seat }
+    requires fits { IsSeatOf F.invariant store.old seat }
     requires opening { HoldsTrampoline (S.view seat) }
     requires in_heap { 5 ≤ page }
     requires low { page < trapframe_page scheme }
     ensures bare { IfOk result (λ r. IsBare (S.view r.1)) }
-    ensures keeps { IfOk result (λ r. KeepsSeats F.rule store.old seat store.new r.1) }
-    ensures keeps_refused { IfErr result (λ e. KeepsSeats F.rule store.old seat store.new e.1) }
+    ensures keeps { IfOk result (λ r. KeepsSeats F.invariant store.old seat store.new r.1) }
+    ensures keeps_refused { IfErr result (λ e. KeepsSeats F.invariant store.old seat store.new e.1) }
 {
     let mut space = roomy(store, seat, scheme, page)?;
     let reads = try_far(&mut space, store, page);

@@ -40,40 +40,40 @@ opened_ready v w is = subst HoldsTrampoline (sym is) (record {
 abbrev pub seats_beside : {S : Type 0} → Option (Space S) → List S
 seats_beside c = option_to_list (option_map (λ y. y.seat) c)
 
-module _ {Store S : Type 0} (rule : Store → List S → Type 0) where
+module _ {Store S : Type 0} (invariant : Store → List S → Type 0) where
   -- a seat that was opened steps, and the one that opened it stands behind it
-  pub opened_fits : {s t : Store} {a b new : S} → ComesFront (rule t) → ((others : List S) → rule s (a ∷ others) → rule t (b ∷ new ∷ others)) → IsSeatOf rule s a → IsSeatOf rule t new
+  pub opened_fits : {s t : Store} {a b new : S} → ComesFront (invariant t) → ((others : List S) → invariant s (a ∷ others) → invariant t (b ∷ new ∷ others)) → IsSeatOf invariant s a → IsSeatOf invariant t new
   opened_fits {b = b} {new = new} front opening fits = (b ∷ fits.0, front (b ∷ []) new fits.0 (opening fits.0 fits.1))
 
-  pub opened_keeps : {s t u : Store} {a b new later : S} → ComesFront (rule t) → ((others : List S) → rule s (a ∷ others) → rule t (b ∷ new ∷ others))
-      → KeepsSeats rule t new u later → (others : List S) → rule s (a ∷ others) → rule u (later ∷ b ∷ others)
+  pub opened_keeps : {s t u : Store} {a b new later : S} → ComesFront (invariant t) → ((others : List S) → invariant s (a ∷ others) → invariant t (b ∷ new ∷ others))
+      → KeepsSeats invariant t new u later → (others : List S) → invariant s (a ∷ others) → invariant u (later ∷ b ∷ others)
   opened_keeps {b = b} {new = new} front opening keeps others r = keeps (b ∷ others) (front (b ∷ []) new others (opening others r))
 
   -- a process steps, with its child beside it
 
-  pub keeps_alone : (s t : Store) (a b : S) (xs : List S) → KeepsSeats rule s a t b → (others : List S) → rule s ((a ∷ xs) ++ others) → rule t ((b ∷ xs) ++ others)
+  pub keeps_alone : (s t : Store) (a b : S) (xs : List S) → KeepsSeats invariant s a t b → (others : List S) → invariant s ((a ∷ xs) ++ others) → invariant t ((b ∷ xs) ++ others)
   keeps_alone s t a b xs keeps others r = keeps (xs ++ others) r
 
   -- a seat that stands behind both steps
-  pub keeper_fits : (s : Store) (first : List S) (k : S) (others : List S) → ComesFront (rule s) → rule s (first ++ k ∷ others) → IsSeatOf rule s k
+  pub keeper_fits : (s : Store) (first : List S) (k : S) (others : List S) → ComesFront (invariant s) → invariant s (first ++ k ∷ others) → IsSeatOf invariant s k
   keeper_fits s first k others front r = (first ++ others, front first k others r)
 
-  pub keeper_keeps : (s t : Store) (first : List S) (k m : S) → ComesFront (rule s) → GoesBack (rule t) → KeepsSeats rule s k t m → (others : List S) → rule s (first ++ k ∷ others) → rule t (first ++ m ∷ others)
+  pub keeper_keeps : (s t : Store) (first : List S) (k m : S) → ComesFront (invariant s) → GoesBack (invariant t) → KeepsSeats invariant s k t m → (others : List S) → invariant s (first ++ k ∷ others) → invariant t (first ++ m ∷ others)
   keeper_keeps s t first k m front back keeps others r = back first m others (keeps (first ++ others) (front first k others r))
 
   -- a child came
-  pub keeps_forked : (s t : Store) (a b made : S) (c : Option (Space S)) → c ≡ None → ((others : List S) → rule s (a ∷ others) → rule t (b ∷ made ∷ others))
-      → (others : List S) → rule s ((a ∷ seats_beside c) ++ others) → rule t (b ∷ made ∷ others)
-  keeps_forked s t a b made c none kept others r = kept others (subst (λ d. rule s ((a ∷ seats_beside d) ++ others)) none r)
+  pub keeps_forked : (s t : Store) (a b made : S) (c : Option (Space S)) → c ≡ None → ((others : List S) → invariant s (a ∷ others) → invariant t (b ∷ made ∷ others))
+      → (others : List S) → invariant s ((a ∷ seats_beside c) ++ others) → invariant t (b ∷ made ∷ others)
+  keeps_forked s t a b made c none kept others r = kept others (subst (λ d. invariant s ((a ∷ seats_beside d) ++ others)) none r)
 
   -- the process ends alone
-  pub ended_alone : (s t : Store) (a k : S) (c : Option (Space S)) → c ≡ None → KeepsSeats rule s a t k → (others : List S) → rule s ((a ∷ seats_beside c) ++ others) → rule t (k ∷ others)
-  ended_alone s t a k c none keeps others r = keeps others (subst (λ d. rule s ((a ∷ seats_beside d) ++ others)) none r)
+  pub ended_alone : (s t : Store) (a k : S) (c : Option (Space S)) → c ≡ None → KeepsSeats invariant s a t k → (others : List S) → invariant s ((a ∷ seats_beside c) ++ others) → invariant t (k ∷ others)
+  ended_alone s t a k c none keeps others r = keeps others (subst (λ d. invariant s ((a ∷ seats_beside d) ++ others)) none r)
 
   -- the child's seat comes to the front, once the process has ended
-  pub child_front : (s t : Store) (a k : S) (z : Space S) (c : Option (Space S)) → c ≡ Some z → ComesFront (rule t) → KeepsSeats rule s a t k
-      → (others : List S) → rule s ((a ∷ seats_beside c) ++ others) → rule t (z.seat ∷ k ∷ others)
-  child_front s t a k z c is front keeps others r = front (k ∷ []) z.seat others (keeps (z.seat ∷ others) (subst (λ d. rule s ((a ∷ seats_beside d) ++ others)) is r))
+  pub child_front : (s t : Store) (a k : S) (z : Space S) (c : Option (Space S)) → c ≡ Some z → ComesFront (invariant t) → KeepsSeats invariant s a t k
+      → (others : List S) → invariant s ((a ∷ seats_beside c) ++ others) → invariant t (z.seat ∷ k ∷ others)
+  child_front s t a k z c is front keeps others r = front (k ∷ []) z.seat others (keeps (z.seat ∷ others) (subst (λ d. invariant s ((a ∷ seats_beside d) ++ others)) is r))
 
 -- there is no child yet
 pub no_child : {A : Type 0} (o : Option A) → is_some o ≡ false → o ≡ None

@@ -16,11 +16,11 @@ AreAlive view space child = IsAlive (body_of view space) × IfSome child (λ c. 
 abbrev pub seats_of : {S : Type 0} → Space S → Option (Space S) → List S
 seats_of space child = space.seat ∷ option_to_list (option_map (λ c. c.seat) child)
 
--- the store's invariant (`rule`) holds of these seats and of some others
+-- the store's invariant (`invariant`) holds of these seats and of some others
 abbrev pub FamilyFits : {Store S : Type 0} → (Store → List S → Type 0) → Store → Space S → Option (Space S) → Type 0
-FamilyFits {Store} {S} rule store space child = (others : List S) × rule store (seats_of space child ++ others)
+FamilyFits {Store} {S} invariant store space child = (others : List S) × invariant store (seats_of space child ++ others)
 
 -- the step keeps the store's invariant with any other seats beside these; the views of the others do not change
 abbrev pub FamilyKeeps : {Store S : Type 0} → (Store → List S → Type 0) → Store → Space S → Option (Space S) → Store → Space S → Option (Space S) → Type 0
-FamilyKeeps {Store} {S} rule store space child after space_after child_after =
-    (others : List S) → rule store (seats_of space child ++ others) → rule after (seats_of space_after child_after ++ others)
+FamilyKeeps {Store} {S} invariant store space child after space_after child_after =
+    (others : List S) → invariant store (seats_of space child ++ others) → invariant after (seats_of space_after child_after ++ others)

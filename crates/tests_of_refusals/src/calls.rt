@@ -25,10 +25,10 @@ pub(crate) fn call<S: FrameSeat, F: FrameSupply<Seat = S>>(
     images: &[Image],
     operation: Operation,
 ) -> Answer
-    requires fits { IsSeatOf F.rule store.old space.old.seat }
+    requires fits { IsSeatOf F.invariant store.old space.old.seat }
     requires alive { IsAlive (body_of S.view space.old) }
     ensures alive { IsAlive (body_of S.view space.new) }
-    ensures keeps { KeepsSeats F.rule store.old space.old.seat store.new space.new.seat }
+    ensures keeps { KeepsSeats F.invariant store.old space.old.seat store.new space.new.seat }
 {
     match operation {
         Operation::Fork => Answer::Refused(Refusal::NoSlot),
@@ -73,10 +73,10 @@ fn executed<S: FrameSeat, F: FrameSupply<Seat = S>>(
     files: &mut OneFile,
     image: Image,
 ) -> Answer
-    requires fits { IsSeatOf F.rule store.old space.old.seat }
+    requires fits { IsSeatOf F.invariant store.old space.old.seat }
     requires alive { IsAlive (body_of S.view space.old) }
     ensures alive { IsAlive (body_of S.view space.new) }
-    ensures keeps { KeepsSeats F.rule store.old space.old.seat store.new space.new.seat }
+    ensures keeps { KeepsSeats F.invariant store.old space.old.seat store.new space.new.seat }
 {
     match exec_segments::Image::judged(space.layout.scheme(), image) {
         Ok(image) => done(exec(space, store, &image, files)),

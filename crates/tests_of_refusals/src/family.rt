@@ -33,10 +33,10 @@ pub(crate) fn first_wrong<S: FrameSeat + Drop, F: FrameSupply<Seat = S> + Accoun
     images: &[Image],
     rows: &[Row],
 ) -> Result<Wrong, AllocError>
-    requires fits { FamilyFits F.rule store.old space.old child.old }
+    requires fits { FamilyFits F.invariant store.old space.old child.old }
     requires alive { AreAlive S.view space.old child.old }
     ensures alive { AreAlive S.view space.new child.new }
-    ensures keeps { FamilyKeeps F.rule store.old space.old child.old store.new space.new child.new }
+    ensures keeps { FamilyKeeps F.invariant store.old space.old child.old store.new space.new child.new }
 {
     'rows: for (number, (operation, expected, same)) in rows.iter().enumerate() {
         let (answer, as_before) = played(alloc, space, child, store, files, images, *operation)?;
@@ -57,10 +57,10 @@ fn played<S: FrameSeat + Drop, F: FrameSupply<Seat = S> + Accounts>(
     images: &[Image],
     operation: Operation,
 ) -> Result<(Answer, bool), AllocError>
-    requires fits { FamilyFits F.rule store.old space.old child.old }
+    requires fits { FamilyFits F.invariant store.old space.old child.old }
     requires alive { AreAlive S.view space.old child.old }
     ensures alive { AreAlive S.view space.new child.new }
-    ensures keeps { FamilyKeeps F.rule store.old space.old child.old store.new space.new child.new }
+    ensures keeps { FamilyKeeps F.invariant store.old space.old child.old store.new space.new child.new }
 {
     let before = seen(alloc, space, store, files)?;
     let answer = act(space, child, store, files, images, operation);
@@ -77,10 +77,10 @@ fn act<S: FrameSeat + Drop, F: FrameSupply<Seat = S>>(
     images: &[Image],
     operation: Operation,
 ) -> Answer
-    requires fits { FamilyFits F.rule store.old space.old child.old }
+    requires fits { FamilyFits F.invariant store.old space.old child.old }
     requires alive { AreAlive S.view space.old child.old }
     ensures alive { AreAlive S.view space.new child.new }
-    ensures keeps { FamilyKeeps F.rule store.old space.old child.old store.new space.new child.new }
+    ensures keeps { FamilyKeeps F.invariant store.old space.old child.old store.new space.new child.new }
 {
     match operation {
         Operation::Fork => fork_once(space, child, store),
@@ -94,10 +94,10 @@ fn fork_once<S: FrameSeat + Drop, F: FrameSupply<Seat = S>>(
     child: &mut Option<Space<S>>,
     store: &mut F,
 ) -> Answer
-    requires fits { FamilyFits F.rule store.old space.old child.old }
+    requires fits { FamilyFits F.invariant store.old space.old child.old }
     requires alive { AreAlive S.view space.old child.old }
     ensures alive { AreAlive S.view space.new child.new }
-    ensures keeps { FamilyKeeps F.rule store.old space.old child.old store.new space.new child.new }
+    ensures keeps { FamilyKeeps F.invariant store.old space.old child.old store.new space.new child.new }
 {
     if child.is_some() {
         return Answer::Refused(Refusal::NoSlot);
@@ -117,9 +117,9 @@ pub(crate) fn ended<S: FrameSeat, F: FrameAccess<Seat = S>>(
     child: Option<Space<S>>,
     store: &mut F,
 ) -> S
-    requires fits { FamilyFits F.rule store.old space child }
+    requires fits { FamilyFits F.invariant store.old space child }
     requires alive { AreAlive S.view space child }
-    ensures keeps { (others : List S) → F.rule store.old (seats_of space child ++ others) → F.rule store.new (result ∷ others) }
+    ensures keeps { (others : List S) → F.invariant store.old (seats_of space child ++ others) → F.invariant store.new (result ∷ others) }
 {
     let seat = space.destroy(store);
     let Some(child) = child else {

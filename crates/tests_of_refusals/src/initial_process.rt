@@ -18,10 +18,10 @@ fn share_frame_zero<S: FrameSeat, F: FrameSupply<Seat = S>>(
     keeper: &mut S,
     times: usize,
 ) -> Result<(), SharersFull>
-    requires fits { IsSeatOf F.rule store.old keeper.old }
+    requires fits { IsSeatOf F.invariant store.old keeper.old }
     requires anchored { IsHeld (S.view keeper.old) 0 }
     ensures anchored { IsHeld (S.view keeper.new) 0 }
-    ensures keeps { KeepsSeats F.rule store.old keeper.old store.new keeper.new }
+    ensures keeps { KeepsSeats F.invariant store.old keeper.old store.new keeper.new }
 {
     'times: for _ in 0..times {
         store.share(keeper, FrameNo(0))?;
@@ -34,8 +34,8 @@ pub(crate) fn reserved_all<S: FrameSeat, F: FrameSupply<Seat = S>>(
     store: &mut F,
     keeper: &mut S,
 ) -> usize
-    requires fits { IsSeatOf F.rule store.old keeper.old }
-    ensures keeps { KeepsSeats F.rule store.old keeper.old store.new keeper.new }
+    requires fits { IsSeatOf F.invariant store.old keeper.old }
+    ensures keeps { KeepsSeats F.invariant store.old keeper.old store.new keeper.new }
 {
     'frames: for count in 0..256 {
         if store.reserve(keeper, 1).is_err() {
@@ -57,10 +57,11 @@ pub(crate) fn begun<S: FrameSeat + Drop, F: FrameSupply<Seat = S>>(
     reserved: usize,
     sharers: usize,
 ) -> Result<Space<S>, Fail>
-    requires fits { IsSeatOf F.rule store.old keeper.old }
+    requires fits { IsSeatOf F.invariant store.old keeper.old }
     requires anchored { IsHeld (S.view keeper.old) 0 }
     ensures alive { IfOk result (λ space. IsAlive (body_of S.view space)) }
-    ensures keeps { IfOk result (λ space. (others : List S) → F.rule store.old (keeper.old ∷ others) → F.rule store.new (space.seat ∷ keeper.new ∷ others)) }
+    ensures keeps { IfOk result (λ space. (others : List S) → F.invariant store.old (keeper.old ∷ others)
+        → F.invariant store.new (space.seat ∷ keeper.new ∷ others)) }
 {
     store.reserve(keeper, reserved)?;
     share_frame_zero(store, keeper, sharers)?;

@@ -36,10 +36,10 @@ pub(crate) fn seen<S: FrameSeat, F: FrameAccess<Seat = S> + Accounts>(
     store: &mut F,
     files: &OneFile,
 ) -> Result<Observation, AllocError>
-    requires fits { IsSeatOf F.rule store.old space.old.seat }
+    requires fits { IsSeatOf F.invariant store.old space.old.seat }
     requires alive { IsAlive (body_of S.view space.old) }
     ensures alive { IsAlive (body_of S.view space.new) }
-    ensures keeps { KeepsSeats F.rule store.old space.old.seat store.new space.new.seat }
+    ensures keeps { KeepsSeats F.invariant store.old space.old.seat store.new space.new.seat }
 {
     let accounts = store.accounts();
     let mut picture = without_pages(alloc, &space.layout, files, accounts)?;
@@ -75,10 +75,10 @@ fn see_pages<S: FrameSeat, F: FrameAccess<Seat = S>>(
     store: &mut F,
     picture: &mut Observation,
 ) -> Result<(), AllocError>
-    requires fits { IsSeatOf F.rule store.old space.old.seat }
+    requires fits { IsSeatOf F.invariant store.old space.old.seat }
     requires alive { IsAlive (body_of S.view space.old) }
     ensures alive { IsAlive (body_of S.view space.new) }
-    ensures keeps { KeepsSeats F.rule store.old space.old.seat store.new space.new.seat }
+    ensures keeps { KeepsSeats F.invariant store.old space.old.seat store.new space.new.seat }
 {
     let mut bytes = [0; 4096];
     let mut from = 0;

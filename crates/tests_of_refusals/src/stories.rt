@@ -48,9 +48,9 @@ pub(crate) fn played_over<S: FrameSeat + Drop, F: FrameSupply<Seat = S> + Accoun
     images: &[Image],
     story: &Story,
 ) -> Result<(Told, S), Fail>
-    requires fits { IsSeatOf F.rule store.old keeper }
+    requires fits { IsSeatOf F.invariant store.old keeper }
     requires anchored { IsHeld (S.view keeper) 0 }
-    ensures keeps { IfOk result (λ r. KeepsSeats F.rule store.old keeper store.new r.1) }
+    ensures keeps { IfOk result (λ r. KeepsSeats F.invariant store.old keeper store.new r.1) }
 {
     let Some(image) = images.first() else {
         return Err(Fail::from("no image"));

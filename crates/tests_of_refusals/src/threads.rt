@@ -43,10 +43,10 @@ fn access<S: FrameSeat, F: FrameAccess<Seat = S>>(
     address: u64,
     value: u64,
 ) -> Reply
-    requires fits { IsSeatOf F.rule store.old space.old.seat }
+    requires fits { IsSeatOf F.invariant store.old space.old.seat }
     requires alive { IsAlive (body_of S.view space.old) }
     ensures alive { IsAlive (body_of S.view space.new) }
-    ensures keeps { KeepsSeats F.rule store.old space.old.seat store.new space.new.seat }
+    ensures keeps { KeepsSeats F.invariant store.old space.old.seat store.new space.new.seat }
 {
     let asked = AccessRequest {
         access,
@@ -66,10 +66,10 @@ fn store_served<S: FrameSeat, F: FrameSupply<Seat = S>, C: Files>(
     address: u64,
     number: u64,
 ) -> bool
-    requires fits { IsSeatOf F.rule store.old space.old.seat }
+    requires fits { IsSeatOf F.invariant store.old space.old.seat }
     requires alive { IsAlive (body_of S.view space.old) }
     ensures alive { IsAlive (body_of S.view space.new) }
-    ensures keeps { KeepsSeats F.rule store.old space.old.seat store.new space.new.seat }
+    ensures keeps { KeepsSeats F.invariant store.old space.old.seat store.new space.new.seat }
 {
     if access(space, store, Access::Store, address, number) == Reply::Scalar(ScalarReply::Stored) {
         return true;
@@ -88,10 +88,10 @@ fn keep<S: FrameSeat, F: FrameSupply<Seat = S>, C: Files>(
     addresses: [u64; 2],
     number: u64,
 ) -> bool
-    requires fits { IsSeatOf F.rule store.old space.old.seat }
+    requires fits { IsSeatOf F.invariant store.old space.old.seat }
     requires alive { IsAlive (body_of S.view space.old) }
     ensures alive { IsAlive (body_of S.view space.new) }
-    ensures keeps { KeepsSeats F.rule store.old space.old.seat store.new space.new.seat }
+    ensures keeps { KeepsSeats F.invariant store.old space.old.seat store.new space.new.seat }
 {
     let [one, other] = addresses;
     let first = store_served(space, store, files, one, number);

@@ -4,7 +4,7 @@
 
 ghost use Rattle.std.specs.Prelude.{◌≡◌, ◌+◌, ◌≤◌, ◌<◌, [], ◌∷◌, ℕ, IfOk};
 ghost use Rattle.frame_store.specs.Laws.{IsSeatOf, KeepsSeats};
-ghost use Rattle.frame_store.specs.Plain.{PlainStateRule};
+ghost use Rattle.frame_store.specs.Plain.{PlainStateInvariant};
 ghost use Rattle.frame_store.specs.View.{hold_of, IsHeld};
 ghost use Rattle.table_walk.specs.Tables.{HasTables, Tables};
 
@@ -192,12 +192,12 @@ const CASES: [(Scheme, Va, [usize; 5]); 2] = [
 
 /// Claims a frame, makes each of its words other than 0, and releases it: a table that reuses it must be cleared.
 fn leave_words<F: FrameSupply>(store: &mut F, seat: &mut F::Seat)
-    requires fits { IsSeatOf F.rule store.old seat.old }
+    requires fits { IsSeatOf F.invariant store.old seat.old }
     requires anchored { IsHeld (F.Seat.view seat.old) 0 }
     requires credit { 0 < (F.Seat.view seat.old).credits }
     ensures kept { (f : ℕ) → IsHeld (F.Seat.view seat.old) f → hold_of (F.Seat.view seat.new) f ≡ hold_of (F.Seat.view seat.old) f }
     ensures credits { (F.Seat.view seat.new).credits + 1 ≡ (F.Seat.view seat.old).credits }
-    ensures keeps { KeepsSeats F.rule store.old seat.old store.new seat.new }
+    ensures keeps { KeepsSeats F.invariant store.old seat.old store.new seat.new }
 {
     let frame = store.claim(seat);
     for index in 0..512 {
@@ -213,7 +213,7 @@ fn mapped(
     scheme: Scheme,
     last: Va,
 ) -> Result<(PlainFrames, PlainSeat, FrameNo, [usize; 5]), AllocError>
-    ensures rule { IfOk result (λ r. PlainStateRule r.0 (r.1 ∷ [])) }
+    ensures invariant { IfOk result (λ r. PlainStateInvariant r.0 (r.1 ∷ [])) }
     ensures tables { IfOk result (λ r. (t : Tables) × HasTables scheme r.1 r.2.0 t) }
 {
     let (mut frames, mut seat) = PlainFrames::new(alloc, 32)?;

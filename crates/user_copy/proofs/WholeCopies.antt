@@ -425,7 +425,7 @@ module _ {Seat Frames Cabinet : Type 0} (l : StoreModel Seat Frames Cabinet) (co
 
 module _ {Seat Frames Cabinet : Type 0} (l : StoreModel Seat Frames Cabinet) (comes : (x y : Cabinet) (ms : List PageMove) → l.becomes x ms y → l.files y ≡ files_after (l.files x) ms)
     (start c : Moment Seat Frames Cabinet) (address : ℕ) (alive : IsAlive (body_at l start)) (space : StillStands (body_at l start) (body_at l c))
-    (keeps : KeepsSeats l.rule start.store start.space.seat c.store c.space.seat) where
+    (keeps : KeepsSeats l.invariant start.store start.space.seat c.store c.space.seat) where
   module _ (n : ℕ) (small : n ≤ 256) where
     abbrev EndIn : Process → Result (ArrayVec ℕ) Short → Type 0
     EndIn p r = EndsIn l comes start p address n (length (bytes_in r)) (bytes_in r) (stop_in r) c

@@ -69,4 +69,4 @@ pub record IsKernelCopy {Seat Frames Cabinet A : Type 0} (l : StoreModel Seat Fr
   -- the files stay, a process stays one, and the store's invariant is kept for all other seats
   pub same_files : l.files b.files ≡ l.files a.files
   pub space : StillStands (body_at l a) (body_at l b)
-  pub keeps : KeepsSeats l.rule a.store a.space.seat b.store b.space.seat
+  pub keeps : KeepsSeats l.invariant a.store a.space.seat b.store b.space.seat

@@ -55,7 +55,7 @@ module _ {Seat Frames Cabinet : Type 0} (l : StoreModel Seat Frames Cabinet) whe
     pub layout : b.space.layout ≡ a.space.layout
     pub store : b.store ≡ a.store
     pub files : b.files ≡ a.files
-    pub keeps : KeepsSeats l.rule a.store a.space.seat b.store b.space.seat
+    pub keeps : KeepsSeats l.invariant a.store a.space.seat b.store b.space.seat
 
   -- bytes were stored at an address of a settled page without copy-on-write mark whose region grants writing, and no frame was
   -- taken
@@ -70,7 +70,7 @@ module _ {Seat Frames Cabinet : Type 0} (l : StoreModel Seat Frames Cabinet) whe
     pub trapframe : b.space.trapframe ≡ a.space.trapframe
     pub layout : b.space.layout ≡ a.space.layout
     pub files : b.files ≡ a.files
-    pub keeps : KeepsSeats l.rule a.store a.space.seat b.store b.space.seat
+    pub keeps : KeepsSeats l.invariant a.store a.space.seat b.store b.space.seat
 
   -- ---- copies: `done` is what was copied before, `stop` is what stopped the copy, None if nothing did
 

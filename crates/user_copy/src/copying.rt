@@ -40,12 +40,12 @@ pub fn copy_in<S: FrameSeat, F: FrameSupply<Seat = S>, C: Files>(
     va: Va,
     n: usize,
 ) -> Result<ArrayVec<u8, LONGEST_COPY>, Short>
-    requires fits { IsSeatOf F.rule store.old space.old.seat }
+    requires fits { IsSeatOf F.invariant store.old space.old.seat }
     requires ready { IsAlive (body_of S.view space.old) }
     requires few { n ≤ LONGEST_COPY }
-    ensures copied { CopiesIn (store_model S.view F.rule F.alone F.free F.count C.files C.becomes C.can_refuse) (runs va.0 n)
+    ensures copied { CopiesIn (store_model S.view F.invariant F.alone F.free F.count C.files C.becomes C.can_refuse) (runs va.0 n)
         (moment space.old store.old files.old) (moment space.new store.new files.new) [] (bytes_in result) (stop_in result) }
-    ensures copies { IsKernelCopy (store_model S.view F.rule F.alone F.free F.count C.files C.becomes C.can_refuse)
+    ensures copies { IsKernelCopy (store_model S.view F.invariant F.alone F.free F.count C.files C.becomes C.can_refuse)
         (moment space.old store.old files.old) (moment space.new store.new files.new) Load va.0 n (bytes_in result) result
         (λ p. model_copy_in (C.files files.old) p va.0 n (bytes_in result) (stop_in result)) (HasSameBytes (C.files files.old)) }
     ensures bytes { (t : Tables) (p : Process) → IsSpace (body_of S.view space.old) t p
@@ -78,12 +78,12 @@ pub fn copy_out<S: FrameSeat, F: FrameSupply<Seat = S>, C: Files>(
     va: Va,
     bytes: &[u8],
 ) -> Result<(), Short>
-    requires fits { IsSeatOf F.rule store.old space.old.seat }
+    requires fits { IsSeatOf F.invariant store.old space.old.seat }
     requires ready { IsAlive (body_of S.view space.old) }
     requires few { length bytes.now ≤ LONGEST_COPY }
-    ensures copied { CopiesOut (store_model S.view F.rule F.alone F.free F.count C.files C.becomes C.can_refuse) (runs_of va.0 bytes.now)
+    ensures copied { CopiesOut (store_model S.view F.invariant F.alone F.free F.count C.files C.becomes C.can_refuse) (runs_of va.0 bytes.now)
         (moment space.old store.old files.old) (moment space.new store.new files.new) 0 (count_or (length bytes.now) result) (stop_in result) }
-    ensures copies { IsKernelCopy (store_model S.view F.rule F.alone F.free F.count C.files C.becomes C.can_refuse)
+    ensures copies { IsKernelCopy (store_model S.view F.invariant F.alone F.free F.count C.files C.becomes C.can_refuse)
         (moment space.old store.old files.old) (moment space.new store.new files.new) Store va.0 (length bytes.now) (bytes_out bytes.now result) result
         (λ p. model_copy_out (C.files files.old) p va.0 bytes.now (bytes_out bytes.now result) (stop_in result))
         (HasPut (C.files files.old) va.0 (bytes_out bytes.now result)) }
@@ -109,14 +109,14 @@ fn read_pages<S: FrameSeat, F: FrameSupply<Seat = S>, C: Files>(
     n: usize,
     bytes: &mut ArrayVec<u8, LONGEST_COPY>,
 ) -> Result<(), Stop>
-    requires fits { IsSeatOf F.rule store.old space.old.seat }
+    requires fits { IsSeatOf F.invariant store.old space.old.seat }
     requires ready { IsAlive (body_of S.view space.old) }
     requires few { n ≤ LONGEST_COPY }
     requires empty { bytes.old.items ≡ [] }
-    ensures copied { CopiesIn (store_model S.view F.rule F.alone F.free F.count C.files C.becomes C.can_refuse) (runs va.0 n)
+    ensures copied { CopiesIn (store_model S.view F.invariant F.alone F.free F.count C.files C.becomes C.can_refuse) (runs va.0 n)
         (moment space.old store.old files.old) (moment space.new store.new files.new) [] bytes.new.items (stop_told result) }
     ensures space { StillStands (body_of S.view space.old) (body_of S.view space.new) }
-    ensures keeps { KeepsSeats F.rule store.old space.old.seat store.new space.new.seat }
+    ensures keeps { KeepsSeats F.invariant store.old space.old.seat store.new space.new.seat }
 {
     let here = in_page(va, n);
     read_page(space, store, files, va, here, bytes)?;
@@ -137,16 +137,16 @@ fn read_page<S: FrameSeat, F: FrameSupply<Seat = S>, C: Files>(
     n: usize,
     bytes: &mut ArrayVec<u8, LONGEST_COPY>,
 ) -> Result<(), Stop>
-    requires fits { IsSeatOf F.rule store.old space.old.seat }
+    requires fits { IsSeatOf F.invariant store.old space.old.seat }
     requires ready { IsAlive (body_of S.view space.old) }
     requires inside { va.0 % 4096 + n ≤ 4096 }
     requires few { length bytes.old.items + n ≤ LONGEST_COPY }
-    ensures copied { CopiesIn (store_model S.view F.rule F.alone F.free F.count C.files C.becomes C.can_refuse) (some_run va.0 n)
+    ensures copied { CopiesIn (store_model S.view F.invariant F.alone F.free F.count C.files C.becomes C.can_refuse) (some_run va.0 n)
         (moment space.old store.old files.old) (moment space.new store.new files.new) bytes.old.items bytes.new.items (stop_told result) }
     ensures more { IfOk result (λ _. length bytes.new.items ≡ length bytes.old.items + n) }
     ensures low { IfOk result (λ _. 0 < n → va.0 < maxva space.old.layout.scheme) }
     ensures space { StillStands (body_of S.view space.old) (body_of S.view space.new) }
-    ensures keeps { KeepsSeats F.rule store.old space.old.seat store.new space.new.seat }
+    ensures keeps { KeepsSeats F.invariant store.old space.old.seat store.new space.new.seat }
 {
     if n == 0 {
         return Ok(());
@@ -172,14 +172,14 @@ fn write_pages<S: FrameSeat, F: FrameSupply<Seat = S>, C: Files>(
     va: Va,
     bytes: &[u8],
 ) -> Result<(), Short>
-    requires fits { IsSeatOf F.rule store.old space.old.seat }
+    requires fits { IsSeatOf F.invariant store.old space.old.seat }
     requires ready { IsAlive (body_of S.view space.old) }
     requires few { length bytes.now ≤ LONGEST_COPY }
-    ensures copied { CopiesOut (store_model S.view F.rule F.alone F.free F.count C.files C.becomes C.can_refuse) (runs_of va.0 bytes.now)
+    ensures copied { CopiesOut (store_model S.view F.invariant F.alone F.free F.count C.files C.becomes C.can_refuse) (runs_of va.0 bytes.now)
         (moment space.old store.old files.old) (moment space.new store.new files.new) 0 (count_or (length bytes.now) result) (stop_in result) }
     ensures none { IfErr result (λ short. short.bytes.items ≡ []) }
     ensures space { StillStands (body_of S.view space.old) (body_of S.view space.new) }
-    ensures keeps { KeepsSeats F.rule store.old space.old.seat store.new space.new.seat }
+    ensures keeps { KeepsSeats F.invariant store.old space.old.seat store.new space.new.seat }
 {
     let here = in_page(va, bytes.len());
     let (front, back) = bytes.split_at(here);
@@ -200,15 +200,15 @@ fn write_page<S: FrameSeat, F: FrameSupply<Seat = S>, C: Files>(
     bytes: &[u8],
     done: usize,
 ) -> Result<(), Short>
-    requires fits { IsSeatOf F.rule store.old space.old.seat }
+    requires fits { IsSeatOf F.invariant store.old space.old.seat }
     requires ready { IsAlive (body_of S.view space.old) }
     requires inside { va.0 % 4096 + length bytes.now ≤ 4096 }
-    ensures copied { CopiesOut (store_model S.view F.rule F.alone F.free F.count C.files C.becomes C.can_refuse) (some_bytes va.0 bytes.now)
+    ensures copied { CopiesOut (store_model S.view F.invariant F.alone F.free F.count C.files C.becomes C.can_refuse) (some_bytes va.0 bytes.now)
         (moment space.old store.old files.old) (moment space.new store.new files.new) done (count_or (done + length bytes.now) result) (stop_in result) }
     ensures none { IfErr result (λ short. short.bytes.items ≡ []) }
     ensures low { IfOk result (λ _. 0 < length bytes.now → va.0 < maxva space.old.layout.scheme) }
     ensures space { StillStands (body_of S.view space.old) (body_of S.view space.new) }
-    ensures keeps { KeepsSeats F.rule store.old space.old.seat store.new space.new.seat }
+    ensures keeps { KeepsSeats F.invariant store.old space.old.seat store.new space.new.seat }
 {
     if bytes.is_empty() {
         return Ok(());
@@ -229,9 +229,9 @@ fn reach<S: FrameSeat, F: FrameSupply<Seat = S>, C: Files>(
     va: Va,
     access: Access,
 ) -> Result<(), Stop>
-    requires fits { IsSeatOf F.rule store.old space.old.seat }
+    requires fits { IsSeatOf F.invariant store.old space.old.seat }
     requires ready { IsAlive (body_of S.view space.old) }
-    ensures reaches { Reaches (store_model S.view F.rule F.alone F.free F.count C.files C.becomes C.can_refuse)
+    ensures reaches { Reaches (store_model S.view F.invariant F.alone F.free F.count C.files C.becomes C.can_refuse)
         (moment space.old store.old files.old) (moment space.new store.new files.new) access va.0 result }
 {
     stop_of(serve(space, store, files, va, 1, access))

@@ -1,4 +1,4 @@
--- Lemmas: the invariant of a token table (`IsIssuerRule`) holds of a new issuer alone (`begins`), and is kept as a token
+-- Lemmas: the invariant of a token table (`IsIssuerInvariant`) holds of a new issuer alone (`begins`), and is kept as a token
 -- is issued (`gives`) and as one is redeemed (`takes`); a load of the table's word keeps it and shows that the entries
 -- redeemed last were on the issuer's list before (`learns`).
 use Rattle.std.proofs.Common.{◌≡◌, ◌≢◌, inl, inr, ⊎_elim, ℕ, zero, suc, ◌+◌, ◌<◌, ◌≤◌, Bool, true, false, cond, List, [], ◌∷◌, ◌++◌, set, refl, sym, ap, ◌∙◌, subst, arith}
@@ -8,7 +8,7 @@ use Rattle.atomic_table.specs.Table.{Me, Step, keeps, Allows, Splits, Joins}
 use Rattle.atomic_table.proofs.Lists.{at_snoc, at_set, set_else, set_again}
 use Rattle.vouchers.specs.Entries.{TokenEntry, View, same, without, minus, Has, gave, took, voucher_view, spent_view, keeper_view}
 use Rattle.vouchers.specs.Lists.{same_is, same_self, tells}
-use Rattle.vouchers.specs.IssuerRule.{weigh, total, AllIn, IsIssuerRule, Kept, Learns}
+use Rattle.vouchers.specs.IssuerInvariant.{weigh, total, AllIn, IsIssuerInvariant, Kept, Learns}
 
 module _ (g : View → ℕ) where
   total-set : (vs : List View) (id : ℕ) (v w : View) → get_elem? vs id ≡ some v → total g (set vs id w) + g v ≡ total g vs + g w
@@ -57,7 +57,7 @@ weigh-without h e (x ∷ xs) lt = elim (tells (same e x)) as (λ _. weigh h (wit
   | inr t ↦ (let r = weigh-without h e xs (let q = subst (λ (b : Bool). 0 < cond b 1 0 + weigh (is_entry e) xs) t lt in omega (arith, q)) in rw t (omega (arith, r)))
 ]
 
-pub begins : IsIssuerRule (keeper_view ∷ [])
+pub begins : IsIssuerInvariant (keeper_view ∷ [])
 begins = record {
   seat = 0;
   issuer = λ id v at k. first id v at;
@@ -103,7 +103,7 @@ gives n id e v marked s k at = record {
 }
 
 -- who keeps has given just what is held
-lone : (views : List View) (id : ℕ) (v : View) → IsIssuerRule views → get_elem? views id ≡ some v → v.keeps ≡ true → (h : TokenEntry → ℕ) → total (λ u. weigh h u.given) views ≡ weigh h v.given
+lone : (views : List View) (id : ℕ) (v : View) → IsIssuerInvariant views → get_elem? views id ≡ some v → v.keeps ≡ true → (h : TokenEntry → ℕ) → total (λ u. weigh h u.given) views ≡ weigh h v.given
 lone views id v k at marked h = total-lone (λ u. weigh h u.given) views id v at (λ j u ne there. elim (tells u.keeps) as (λ _. weigh h u.given ≡ 0) [
   | inl t ↦ absurd (ne (k.issuer j u there t ∙ sym (k.issuer id v at marked)))
   | inr t ↦ ap (weigh h) (k.others j u there t)
@@ -150,6 +150,6 @@ learns n slots id m st s k wide at small = (
   m.0,
   keeps,
   tt,
-  subst IsIssuerRule (sym (set_again s.views id m.0 at)) k,
+  subst IsIssuerInvariant (sym (set_again s.views id m.0 at)) k,
   (refl, k.told id m.0 at),
 )

@@ -4,7 +4,7 @@
 //! may be sent to any thread.
 //!
 //! The entries on the issuer's list are exactly those that tokens hold, counted with repetitions: this is the invariant of
-//! one table of atomic words (`specs/IssuerRule.antt`), and every step keeps it. So to redeem a token shows that its entry
+//! one table of atomic words (`specs/IssuerInvariant.antt`), and every step keeps it. So to redeem a token shows that its entry
 //! is on the issuer's list, and removes one occurrence of it. Issuer and tokens take no bytes at run time; the table has one
 //! word, which stays 0.
 #![tactic(auto)]

@@ -1,5 +1,5 @@
 // Ghost structs for the types of the table of an issuer and its tokens. `SeatView` names the view (ghost state: lists of
-// entries) of an issuer or a token, `TokenRule` the table's invariant, and `Learn` a step: a load of the table's word,
+// entries) of an issuer or a token, `TokenInvariant` the table's invariant, and `Learn` a step: a load of the table's word,
 // which shows that the entries redeemed last were on the issuer's list before.
 
 ghost use Rattle.std.specs.Borrow.{ftrue};
@@ -34,10 +34,10 @@ impl Model for SeatView {
 
 /// The invariant of a token table (`Kept`): the entries on the issuer's list are those that tokens hold, counted with
 /// repetitions.
-pub struct TokenRule;
+pub struct TokenInvariant;
 
-impl TableRule<(), SeatView, usize> for TokenRule {
-    ghost use Rattle.vouchers.specs.IssuerRule.{Kept};
+impl TableRule<(), SeatView, usize> for TokenInvariant {
+    ghost use Rattle.vouchers.specs.IssuerInvariant.{Kept};
     ghost use Rattle.vouchers.specs.Entries.{keeper_view};
 
     ghost holds = { Kept };
@@ -50,7 +50,7 @@ impl TableRule<(), SeatView, usize> for TokenRule {
 pub struct Learn;
 
 impl Play<(), SeatView> for Learn {
-    ghost use Rattle.vouchers.specs.IssuerRule.{Learns};
+    ghost use Rattle.vouchers.specs.IssuerInvariant.{Learns};
 
     ghost then = { Learns };
 }

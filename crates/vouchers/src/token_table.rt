@@ -7,7 +7,7 @@ ghost use Rattle.vouchers.specs.Entries.{TokenEntry, Has, without, nameless};
 ghost use Rattle.vouchers.specs.IssuerSeats.{given_of, held_of, KeepsAt, HoldsAt};
 
 use crate::holders::{Token, TokenIssuer};
-use crate::seat_view::{Learn, SeatView, TokenRule};
+use crate::seat_view::{Learn, SeatView, TokenInvariant};
 use atomic_table::{Join, Split, Table};
 use std::alloc::{AllocError, Global};
 use std::marker::{Brand, Model, PhantomData};
@@ -15,7 +15,7 @@ use std::marker::{Brand, Model, PhantomData};
 /// The table at which an issuer issues and redeems tokens. Contracts see it as its identity.
 #[derive(Drop)]
 pub struct TokenTable {
-    table: Table<(), SeatView, usize, TokenRule, Global>,
+    table: Table<(), SeatView, usize, TokenInvariant, Global>,
 }
 
 impl Model for TokenTable {

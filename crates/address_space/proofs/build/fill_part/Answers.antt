@@ -18,7 +18,7 @@ pages-init g c =
     }
 
 pub add_page-requires-clause-fits : goal.add_page-requires-clause-fits
-add_page-requires-clause-fits g c = fits_after g.F.FrameAccess.rule c.pages.invariant.keeps c.requires.fits
+add_page-requires-clause-fits g c = fits_after g.F.FrameAccess.invariant c.pages.invariant.keeps c.requires.fits
 
 pub add_page-requires-clause-ready : goal.add_page-requires-clause-ready
 add_page-requires-clause-ready g c =

@@ -13,6 +13,6 @@ invariant-pages g l = record {
   filled : (trapframe : ℕ) (t : Tables) (p : Process) → p.scheme ≡ l.fn.scheme → CanFill (g.F.Seat.FrameSeat.view l.fn.seat) l.fn.root.0 trapframe t p l.fn.part
       → (u : Tables) × FillsPages (g.F.Seat.FrameSeat.view l.fn.seat) (g.F.Seat.FrameSeat.view l.seat) l.fn.root.0 trapframe u p
       (page_run l.fn.part.region.first l.fn.part.bytes.now (l.number - l.fn.part.region.first));
-  keeps : KeepsSeats g.F.FrameAccess.rule l.fn.store l.fn.seat l.store l.seat;
+  keeps : KeepsSeats g.F.FrameAccess.invariant l.fn.store l.fn.seat l.store l.seat;
   free : g.F.FrameAccess.alone → g.F.FrameAccess.free l.store ≡ g.F.FrameAccess.free l.fn.store;
 }

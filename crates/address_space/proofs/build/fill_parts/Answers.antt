@@ -14,7 +14,7 @@ parts-init g c = record {
 }
 
 pub fill_part-requires-clause-fits : goal.fill_part-requires-clause-fits
-fill_part-requires-clause-fits g c = fits_after g.F.FrameAccess.rule c.parts.invariant.keeps c.requires.fits
+fill_part-requires-clause-fits g c = fits_after g.F.FrameAccess.invariant c.parts.invariant.keeps c.requires.fits
 
 pub fill_part-requires-clause-ready : goal.fill_part-requires-clause-ready
 fill_part-requires-clause-ready g c =

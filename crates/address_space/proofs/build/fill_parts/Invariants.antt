@@ -10,6 +10,6 @@ invariant-parts g l = record {
   filled : (trapframe : ℕ) (t : Tables) → StandsAlone (g.F.Seat.FrameSeat.view l.fn.seat) l.fn.root.0 trapframe t (bare_process l.fn.scheme l.fn.parts)
       → (u : Tables) × FillsPages (g.F.Seat.FrameSeat.view l.fn.seat) (g.F.Seat.FrameSeat.view l.seat) l.fn.root.0 trapframe u (bare_process l.fn.scheme l.fn.parts)
       (pages_of (take l.part-index l.fn.parts));
-  keeps : KeepsSeats g.F.FrameAccess.rule l.fn.store l.fn.seat l.store l.seat;
+  keeps : KeepsSeats g.F.FrameAccess.invariant l.fn.store l.fn.seat l.store l.seat;
   free : g.F.FrameAccess.alone → g.F.FrameAccess.free l.store ≡ g.F.FrameAccess.free l.fn.store;
 }

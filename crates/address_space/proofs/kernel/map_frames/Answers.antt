@@ -25,7 +25,7 @@ low_frame : (g : given.Over) (c : After-leaf_for_kernel g) → c.page.result < p
 low_frame g c = let is = page g c in let less = few g c in let facts = of_scheme c.args.scheme in omega (arith, is, less, facts)
 
 pub map-requires-clause-fits : goal.map-requires-clause-fits
-map-requires-clause-fits g c = fits_after g.F.FrameAccess.rule c.loop-number.invariant.keeps c.requires.fits
+map-requires-clause-fits g c = fits_after g.F.FrameAccess.invariant c.loop-number.invariant.keeps c.requires.fits
 
 pub map-requires-clause-anchored : goal.map-requires-clause-anchored
 map-requires-clause-anchored g c =

@@ -16,7 +16,7 @@ pub loop-slot-init : goal.loop-slot-init
 loop-slot-init g c = record { mapped = λ t maps. ([], t, maps, refl); spends = spends_none _; keeps = λ others r. r; free = λ a. refl }
 
 pub claim-frame-requires-clause-fits : goal.claim-frame-requires-clause-fits
-claim-frame-requires-clause-fits g c = fits_after g.F.FrameAccess.rule c.loop-slot.invariant.keeps c.requires.fits
+claim-frame-requires-clause-fits g c = fits_after g.F.FrameAccess.invariant c.loop-slot.invariant.keeps c.requires.fits
 
 pub claim-frame-requires-clause-credit : goal.claim-frame-requires-clause-credit
 claim-frame-requires-clause-credit g c =
@@ -30,7 +30,7 @@ claim-frame-requires-clause-anchored g c =
 
 pub map-requires-clause-fits : goal.map-requires-clause-fits
 map-requires-clause-fits g c =
-    fits_after g.F.FrameAccess.rule c.claim-frame.ensures.keeps (fits_after g.F.FrameAccess.rule c.loop-slot.invariant.keeps c.requires.fits)
+    fits_after g.F.FrameAccess.invariant c.claim-frame.ensures.keeps (fits_after g.F.FrameAccess.invariant c.loop-slot.invariant.keeps c.requires.fits)
 
 -- the slot's page
 page : (g : given.Over) (c : After-leaf_for_kernel g) (n : ℕ) → n ≡ c.loop-slot.slot → c.page.result ≡ stack_page c.args.scheme n

@@ -12,7 +12,7 @@ pub claim-own-requires-clause-anchored : goal.claim-own-requires-clause-anchored
 claim-own-requires-clause-anchored g c = let r = c.requires.ready in anchored _ _ r.0 _ r.1 r.2 r.5.stands
 
 pub copy_frame-requires-clause-fits : goal.copy_frame-requires-clause-fits
-copy_frame-requires-clause-fits g c = fits_after g.F.FrameAccess.rule c.claim-own.ensures.keeps c.requires.fits
+copy_frame-requires-clause-fits g c = fits_after g.F.FrameAccess.invariant c.claim-own.ensures.keeps c.requires.fits
 
 pub copy_frame-requires-clause-held : goal.copy_frame-requires-clause-held
 copy_frame-requires-clause-held g c =
@@ -29,7 +29,7 @@ copy_frame-requires-clause-apart g c = part_apart c.requires.ready.5 _ c.claim-o
 
 pub protect-requires-clause-fits : goal.protect-requires-clause-fits
 protect-requires-clause-fits g c =
-    let rule = g.F.FrameAccess.rule in
+    let rule = g.F.FrameAccess.invariant in
     fits_after rule c.copy_frame.ensures.keeps (fits_after rule c.claim-own.ensures.keeps c.requires.fits)
 
 pub protect-requires-clause-mapped : goal.protect-requires-clause-mapped
@@ -47,7 +47,7 @@ protect-requires-clause-backed g c =
 
 pub release-requires-clause-fits : goal.release-requires-clause-fits
 release-requires-clause-fits g c =
-    let rule = g.F.FrameAccess.rule in
+    let rule = g.F.FrameAccess.invariant in
     fits_after rule c.protect.ensures.keeps (fits_after rule c.copy_frame.ensures.keeps (fits_after rule c.claim-own.ensures.keeps c.requires.fits))
 
 pub release-requires-clause-held : goal.release-requires-clause-held

@@ -21,13 +21,13 @@ pub claim-frame-requires-clause-anchored : goal.claim-frame-requires-clause-anch
 claim-frame-requires-clause-anchored g c = anchored _ c.args.root.0 c.requires.ready.0 no_extra c.requires.ready.1 c.requires.ready.2 c.requires.ready.4.stands
 
 pub fill_frame-requires-clause-fits : goal.fill_frame-requires-clause-fits
-fill_frame-requires-clause-fits g c = fits_after g.F.FrameAccess.rule c.claim-frame.ensures.keeps c.requires.fits
+fill_frame-requires-clause-fits g c = fits_after g.F.FrameAccess.invariant c.claim-frame.ensures.keeps c.requires.fits
 
 pub fill_frame-requires-clause-sole : goal.fill_frame-requires-clause-sole
 fill_frame-requires-clause-sole g c = (claimed_comes _ _ _ c.claim-frame.ensures.fresh c.claim-frame.ensures.view).sole
 
 pub map-requires-clause-fits : goal.map-requires-clause-fits
-map-requires-clause-fits g c = fits_after g.F.FrameAccess.rule c.fill_frame.ensures.keeps (fits_after g.F.FrameAccess.rule c.claim-frame.ensures.keeps c.requires.fits)
+map-requires-clause-fits g c = fits_after g.F.FrameAccess.invariant c.fill_frame.ensures.keeps (fits_after g.F.FrameAccess.invariant c.claim-frame.ensures.keeps c.requires.fits)
 
 pub map-requires-clause-anchored : goal.map-requires-clause-anchored
 map-requires-clause-anchored g c =

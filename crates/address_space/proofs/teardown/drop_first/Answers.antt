@@ -40,7 +40,7 @@ returns-in_err-page-2-clause-keeps g c others r = c.next_leaf_before.ensures.kee
 
 pub drop_leaf-requires-2-clause-fits : goal.drop_leaf-requires-2-clause-fits
 drop_leaf-requires-2-clause-fits g c =
-    fits_after g.F.FrameAccess.rule c.next_leaf_before.ensures.keeps (fits_after g.F.FrameAccess.rule c.drop_leaf.ensures.keeps c.requires.fits)
+    fits_after g.F.FrameAccess.invariant c.next_leaf_before.ensures.keeps (fits_after g.F.FrameAccess.invariant c.drop_leaf.ensures.keeps c.requires.fits)
 
 pub drop_leaf-requires-2-clause-ready : goal.drop_leaf-requires-2-clause-ready
 drop_leaf-requires-2-clause-ready g c =

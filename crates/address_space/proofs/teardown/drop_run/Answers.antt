@@ -18,7 +18,7 @@ pages-init g c =
     }
 
 pub drop_first-requires-clause-fits : goal.drop_first-requires-clause-fits
-drop_first-requires-clause-fits g c = fits_after g.F.FrameAccess.rule c.pages.invariant.keeps c.requires.fits
+drop_first-requires-clause-fits g c = fits_after g.F.FrameAccess.invariant c.pages.invariant.keeps c.requires.fits
 
 pub drop_first-requires-clause-ready : goal.drop_first-requires-clause-ready
 drop_first-requires-clause-ready g c =

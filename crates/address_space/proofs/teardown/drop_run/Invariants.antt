@@ -16,7 +16,7 @@ invariant-pages g l = record {
       → (u : Tables) × DropsRun (g.F.Seat.FrameSeat.view l.fn.seat) (g.F.Seat.FrameSeat.view l.seat) l.fn.root.0 trapframe t u p l.fn.first l.from;
   kept : (trapframe : ℕ) (t : Tables) (p : Process) → p.scheme ≡ l.fn.scheme → IsInMemory (g.F.Seat.FrameSeat.view l.fn.seat) l.fn.root.0 trapframe no_extra t p
       → IsLastTable l.fn.scheme t l.last;
-  keeps : KeepsSeats g.F.FrameAccess.rule l.fn.store l.fn.seat l.store l.seat;
+  keeps : KeepsSeats g.F.FrameAccess.invariant l.fn.store l.fn.seat l.store l.seat;
   free : g.F.FrameAccess.alone → g.F.FrameAccess.free l.fn.store ≤ g.F.FrameAccess.free l.store;
 }
 

@@ -15,11 +15,11 @@ pub unmap-requires-clause-held : goal.unmap-requires-clause-held
 unmap-requires-clause-held g c = let e = c.requires.emptied in (e.1, e.2.tables)
 
 pub unmap-requires-2-clause-fits : goal.unmap-requires-2-clause-fits
-unmap-requires-2-clause-fits g c = fits_after g.F.FrameAccess.rule c.unmap.ensures.keeps c.requires.fits
+unmap-requires-2-clause-fits g c = fits_after g.F.FrameAccess.invariant c.unmap.ensures.keeps c.requires.fits
 
 pub release_tables-requires-clause-fits : goal.release_tables-requires-clause-fits
 release_tables-requires-clause-fits g c =
-    fits_after g.F.FrameAccess.rule c.unmap-2.ensures.keeps (fits_after g.F.FrameAccess.rule c.unmap.ensures.keeps c.requires.fits)
+    fits_after g.F.FrameAccess.invariant c.unmap-2.ensures.keeps (fits_after g.F.FrameAccess.invariant c.unmap.ensures.keeps c.requires.fits)
 
 pub unmap-requires-2-clause-held : goal.unmap-requires-2-clause-held
 unmap-requires-2-clause-held g c =

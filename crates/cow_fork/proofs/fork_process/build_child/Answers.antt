@@ -20,7 +20,7 @@ pub claim-trapframe-requires-clause-anchored : goal.claim-trapframe-requires-cla
 claim-trapframe-requires-clause-anchored g c = let r = c.requires.ready in divide_anchored r.0 _ r.1 r.2 _ _ r.3
 
 pub fill_frame-requires-clause-fits : goal.fill_frame-requires-clause-fits
-fill_frame-requires-clause-fits g c = fits_after g.F.FrameAccess.rule c.claim-trapframe.ensures.keeps c.requires.fits
+fill_frame-requires-clause-fits g c = fits_after g.F.FrameAccess.invariant c.claim-trapframe.ensures.keeps c.requires.fits
 
 pub fill_frame-requires-clause-sole : goal.fill_frame-requires-clause-sole
 fill_frame-requires-clause-sole g c = claims_sole _ _ c.claim-trapframe.result.0 c.claim-trapframe.ensures.view
@@ -28,7 +28,7 @@ fill_frame-requires-clause-sole g c = claims_sole _ _ c.claim-trapframe.result.0
 pub push-requires : goal.push-requires
 push-requires g c =
     let r = c.requires.ready in
-    let fits = fits_after g.F.FrameAccess.rule c.fill_frame.ensures.keeps (fits_after g.F.FrameAccess.rule c.claim-trapframe.ensures.keeps c.requires.fits) in
+    let fits = fits_after g.F.FrameAccess.invariant c.fill_frame.ensures.keeps (fits_after g.F.FrameAccess.invariant c.claim-trapframe.ensures.keeps c.requires.fits) in
     let law = g.met.F.FrameAccess.within _ _ fits.0 fits.1 in
     let few = room_for_own r.0 _ r.1 r.2 _ (map (λ (f : FrameNo). f.0) c.args.frames.now.items) r.3 _ _ c.claim-trapframe.result.0 c.claim-trapframe.ensures.fresh c.claim-trapframe.ensures.view c.fill_frame.ensures.others
     (λ f held. let low = law.1 f held in omega (arith, low, law.0)) in
@@ -37,7 +37,7 @@ push-requires g c =
 
 pub copy_tree-root-requires-clause-fits : goal.copy_tree-root-requires-clause-fits
 copy_tree-root-requires-clause-fits g c =
-    fits_after g.F.FrameAccess.rule c.fill_frame.ensures.keeps (fits_after g.F.FrameAccess.rule c.claim-trapframe.ensures.keeps c.requires.fits)
+    fits_after g.F.FrameAccess.invariant c.fill_frame.ensures.keeps (fits_after g.F.FrameAccess.invariant c.claim-trapframe.ensures.keeps c.requires.fits)
 
 pub copy_tree-root-requires-clause-ready : goal.copy_tree-root-requires-clause-ready
 copy_tree-root-requires-clause-ready g c =
@@ -46,8 +46,8 @@ copy_tree-root-requires-clause-ready g c =
 
 pub list_tables-requires-clause-fits : goal.list_tables-requires-clause-fits
 list_tables-requires-clause-fits g c =
-    fits_after g.F.FrameAccess.rule c.copy_tree-root.ensures.keeps
-    (fits_after g.F.FrameAccess.rule c.fill_frame.ensures.keeps (fits_after g.F.FrameAccess.rule c.claim-trapframe.ensures.keeps c.requires.fits))
+    fits_after g.F.FrameAccess.invariant c.copy_tree-root.ensures.keeps
+    (fits_after g.F.FrameAccess.invariant c.fill_frame.ensures.keeps (fits_after g.F.FrameAccess.invariant c.claim-trapframe.ensures.keeps c.requires.fits))
 
 -- as far as the child's tables are there
 
@@ -79,8 +79,8 @@ module _ (g : given.Over) (c : After-copy_tree-root g) where
 
   within_now : (f : ℕ) → IsHeld (g.S.FrameSeat.view c.copy_tree-root.new.space.seat) f → f < 1024
   within_now f held =
-      let fits = fits_after g.F.FrameAccess.rule c.copy_tree-root.ensures.keeps
-      (fits_after g.F.FrameAccess.rule c.fill_frame.ensures.keeps (fits_after g.F.FrameAccess.rule c.claim-trapframe.ensures.keeps c.requires.fits)) in
+      let fits = fits_after g.F.FrameAccess.invariant c.copy_tree-root.ensures.keeps
+      (fits_after g.F.FrameAccess.invariant c.fill_frame.ensures.keeps (fits_after g.F.FrameAccess.invariant c.claim-trapframe.ensures.keeps c.requires.fits)) in
       let law = g.met.F.FrameAccess.within _ _ fits.0 fits.1 in
       let low = law.1 f held in
       omega (arith, low, law.0)

@@ -61,7 +61,7 @@ module _ (g : given.Over) (c : After-mark_pages g) where
         (subst (λ b. RewritesLeaves (body_of g.S.FrameSeat.view c.build_child.new.space) b t r) (sym second) f)
 
 pub mark_pages-requires-clause-fits : goal.mark_pages-requires-clause-fits
-mark_pages-requires-clause-fits g c = fits_after g.F.FrameAccess.rule c.build_child.ensures.keeps c.requires.fits
+mark_pages-requires-clause-fits g c = fits_after g.F.FrameAccess.invariant c.build_child.ensures.keeps c.requires.fits
 
 pub mark_pages-requires-clause-ready : goal.mark_pages-requires-clause-ready
 mark_pages-requires-clause-ready g c =
@@ -70,7 +70,7 @@ mark_pages-requires-clause-ready g c =
     (r.1, r.2, _, forking_now g at r.0 r.1 r.2 r.3, r.3.settled)
 
 pub split-seat-requires-clause-fits : goal.split-seat-requires-clause-fits
-split-seat-requires-clause-fits g c = fits_after g.F.FrameAccess.rule c.mark_pages.ensures.keeps (fits_after g.F.FrameAccess.rule c.build_child.ensures.keeps c.requires.fits)
+split-seat-requires-clause-fits g c = fits_after g.F.FrameAccess.invariant c.mark_pages.ensures.keeps (fits_after g.F.FrameAccess.invariant c.build_child.ensures.keeps c.requires.fits)
 
 pub split-seat-requires-clause-held : goal.split-seat-requires-clause-held
 split-seat-requires-clause-held g c =

@@ -75,7 +75,7 @@ returns-in-Err-clause-keeps_refused g c others r = c.prepare.ensures.keeps other
 
 pub divide-requires-clause-fits : goal.divide-requires-clause-fits
 divide-requires-clause-fits g c =
-    fits_after g.F.FrameAccess.rule c.prepare.ensures.keeps c.requires.fits
+    fits_after g.F.FrameAccess.invariant c.prepare.ensures.keeps c.requires.fits
 
 pub divide-requires-clause-ready : goal.divide-requires-clause-ready
 divide-requires-clause-ready g c =

@@ -25,7 +25,7 @@ module _ (g : given.Over) (c : After-settled_pages-settled g) where
   back t p space = subst (λ (b : Body). IsSpace b t p) first space
 
 pub fork_listed-requires-clause-fits : goal.fork_listed-requires-clause-fits
-fork_listed-requires-clause-fits g c = fits_after g.F.FrameAccess.rule c.settled_pages-settled.ensures.keeps c.requires.fits
+fork_listed-requires-clause-fits g c = fits_after g.F.FrameAccess.invariant c.settled_pages-settled.ensures.keeps c.requires.fits
 
 pub fork_listed-requires-clause-ready : goal.fork_listed-requires-clause-ready
 fork_listed-requires-clause-ready g c =
@@ -77,13 +77,13 @@ returns-clause-free g c alone t p space other =
     ∙ ap (λ x. g.F.FrameAccess.free x - (if is_ok c.fork_listed.result then model.fork_need p else 0)) c.settled_pages-settled.ensures.reads.same
 
 pub returns-clause-keeps : goal.returns-clause-keeps
-returns-clause-keeps g c = elim c.fork_listed.result as (λ r. IfOk r (λ child. (others : List g.row.S.Denot) → g.F.FrameAccess.rule c.settled_pages-settled.new.store (c.settled_pages-settled.new.space.seat ∷ others) → g.F.FrameAccess.rule c.fork_listed.new.store (c.fork_listed.new.space.seat ∷ child.seat ∷ others)) → IfOk r (λ child. (others : List g.row.S.Denot) → g.F.FrameAccess.rule c.args.store.now (c.args.space.now.seat ∷ others) → g.F.FrameAccess.rule c.fork_listed.new.store (c.fork_listed.new.space.seat ∷ child.seat ∷ others))) [
+returns-clause-keeps g c = elim c.fork_listed.result as (λ r. IfOk r (λ child. (others : List g.row.S.Denot) → g.F.FrameAccess.invariant c.settled_pages-settled.new.store (c.settled_pages-settled.new.space.seat ∷ others) → g.F.FrameAccess.invariant c.fork_listed.new.store (c.fork_listed.new.space.seat ∷ child.seat ∷ others)) → IfOk r (λ child. (others : List g.row.S.Denot) → g.F.FrameAccess.invariant c.args.store.now (c.args.space.now.seat ∷ others) → g.F.FrameAccess.invariant c.fork_listed.new.store (c.fork_listed.new.space.seat ∷ child.seat ∷ others))) [
   | Ok child ↦ λ keeps others r. keeps others (c.settled_pages-settled.ensures.keeps others r)
   | Err e ↦ λ keeps. keeps
 ] c.fork_listed.ensures.keeps
 
 pub returns-clause-keeps_refused : goal.returns-clause-keeps_refused
-returns-clause-keeps_refused g c = elim c.fork_listed.result as (λ r. IfErr r (λ _. KeepsSeats g.F.FrameAccess.rule c.settled_pages-settled.new.store c.settled_pages-settled.new.space.seat c.fork_listed.new.store c.fork_listed.new.space.seat) → IfErr r (λ _. KeepsSeats g.F.FrameAccess.rule c.args.store.now c.args.space.now.seat c.fork_listed.new.store c.fork_listed.new.space.seat)) [
+returns-clause-keeps_refused g c = elim c.fork_listed.result as (λ r. IfErr r (λ _. KeepsSeats g.F.FrameAccess.invariant c.settled_pages-settled.new.store c.settled_pages-settled.new.space.seat c.fork_listed.new.store c.fork_listed.new.space.seat) → IfErr r (λ _. KeepsSeats g.F.FrameAccess.invariant c.args.store.now c.args.space.now.seat c.fork_listed.new.store c.fork_listed.new.space.seat)) [
   | Ok child ↦ λ keeps. keeps
   | Err e ↦ λ keeps others r. keeps others (c.settled_pages-settled.ensures.keeps others r)
 ] c.fork_listed.ensures.keeps_refused

@@ -25,7 +25,7 @@ pages-init g c = record {
 }
 
 pub next_settled_with_last-requires-clause-fits : goal.next_settled_with_last-requires-clause-fits
-next_settled_with_last-requires-clause-fits g c = fits_after g.F.FrameAccess.rule c.pages.invariant.keeps c.requires.fits
+next_settled_with_last-requires-clause-fits g c = fits_after g.F.FrameAccess.invariant c.pages.invariant.keeps c.requires.fits
 
 pub next_settled_with_last-requires-clause-ready : goal.next_settled_with_last-requires-clause-ready
 next_settled_with_last-requires-clause-ready g c =

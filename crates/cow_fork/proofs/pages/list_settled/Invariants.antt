@@ -19,7 +19,7 @@ invariant-pages g l = record {
   layout : l.space.layout ≡ l.fn.space.layout;
   view : g.S.FrameSeat.view l.space.seat ≡ g.S.FrameSeat.view l.fn.space.seat;
   same : l.store ≡ l.fn.store;
-  keeps : KeepsSeats g.F.FrameAccess.rule l.fn.store l.fn.space.seat l.store l.space.seat;
+  keeps : KeepsSeats g.F.FrameAccess.invariant l.fn.store l.fn.space.seat l.store l.space.seat;
   kept : (t : Tables) (p : Process) → IsSpace (body_of g.S.FrameSeat.view l.fn.space) t p → IsLastTable p.scheme t l.last;
   going : (t : Tables) (p : Process) → IsSpace (body_of g.S.FrameSeat.view l.fn.space) t p → AreToShare t p l.from (0 ∷ frames_of l.pages.items);
   settled : (t : Tables) (p : Process) → IsSpace (body_of g.S.FrameSeat.view l.fn.space) t p → (more : List SettledPage)

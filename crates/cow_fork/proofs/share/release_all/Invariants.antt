@@ -13,6 +13,6 @@ invariant-loop-frame g l = record {
   credits : (g.S.FrameSeat.view l.space.seat).credits ≡ (g.S.FrameSeat.view l.fn.space.seat).credits;
   tallies : (g.S.FrameSeat.view l.space.seat).tallies ≡ (g.S.FrameSeat.view l.fn.space.seat).tallies;
   size : (g.S.FrameSeat.view l.space.seat).size ≡ (g.S.FrameSeat.view l.fn.space.seat).size;
-  keeps : KeepsSeats g.F.FrameAccess.rule l.fn.store l.fn.space.seat l.store l.space.seat;
+  keeps : KeepsSeats g.F.FrameAccess.invariant l.fn.store l.fn.space.seat l.store l.space.seat;
   more : (v : View) → HasMore v (g.S.FrameSeat.view l.fn.space.seat) (map (λ f. f.0) l.frames) → HasMore v (g.S.FrameSeat.view l.space.seat) (map (λ f. f.0) (drop l.frame-index l.frames));
 }

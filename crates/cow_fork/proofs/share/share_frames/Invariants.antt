@@ -14,7 +14,7 @@ invariant-pages g l = record {
   credits : (g.S.FrameSeat.view l.space.seat).credits ≡ (g.S.FrameSeat.view l.fn.space.seat).credits;
   tallies : (g.S.FrameSeat.view l.space.seat).tallies ≡ (g.S.FrameSeat.view l.fn.space.seat).tallies;
   size : (g.S.FrameSeat.view l.space.seat).size ≡ (g.S.FrameSeat.view l.fn.space.seat).size;
-  keeps : KeepsSeats g.F.FrameAccess.rule l.fn.store l.fn.space.seat l.store l.space.seat;
+  keeps : KeepsSeats g.F.FrameAccess.invariant l.fn.store l.fn.space.seat l.store l.space.seat;
   more : HasMore (g.S.FrameSeat.view l.fn.space.seat) (g.S.FrameSeat.view l.space.seat) (map (λ f. f.0) l.frames.items);
   left : AreLeft l.settled l.page-index (map (λ f. f.0) l.frames.items);
   counts : g.F.FrameAccess.alone → HaveComeTo (g.F.FrameAccess.count l.fn.store) (g.F.FrameAccess.count l.store) (map (λ f. f.0) l.frames.items);

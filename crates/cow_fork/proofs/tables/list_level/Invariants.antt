@@ -11,7 +11,7 @@ invariant-tables g l = record {
   near : l.table ≤ 512 ^ l.depth;
   view : g.S.FrameSeat.view l.seat ≡ g.S.FrameSeat.view l.fn.seat;
   same : l.store ≡ l.fn.store;
-  keeps : KeepsSeats g.F.FrameAccess.rule l.fn.store l.fn.seat l.store l.seat;
+  keeps : KeepsSeats g.F.FrameAccess.invariant l.fn.store l.fn.seat l.store l.seat;
   listed : (t : Tables) (L : List ℕ) → IsListing l.fn.scheme (g.S.FrameSeat.view l.fn.seat) l.fn.root.0 t (512 ^ (above_root l.fn.scheme + l.depth)) L (map (λ f. f.0) l.fn.frames.items) → IsEdged l.fn.scheme t l.end
       → IsListing l.fn.scheme (g.S.FrameSeat.view l.fn.seat) l.fn.root.0 t (512 ^ (above_root l.fn.scheme + l.depth) + l.table) L (map (λ f. f.0) l.frames.items);
 }

@@ -13,7 +13,7 @@ levels-init g c = record {
 }
 
 pub list_level-requires-clause-fits : goal.list_level-requires-clause-fits
-list_level-requires-clause-fits g c = fits_after g.F.FrameAccess.rule c.levels.invariant.keeps c.requires.fits
+list_level-requires-clause-fits g c = fits_after g.F.FrameAccess.invariant c.levels.invariant.keeps c.requires.fits
 
 pub list_level-requires-clause-ready : goal.list_level-requires-clause-ready
 list_level-requires-clause-ready g c = let r = c.requires.ready in (r.0, _, c.levels.invariant.listed r.0 r.1 r.2 r.3 r.4, r.4)

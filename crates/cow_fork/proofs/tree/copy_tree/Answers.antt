@@ -60,7 +60,7 @@ leaf-leaf-requires g c =
     record { leafy = leafy_at r.1 r.2.order c.page-item.result.page _ (here g (goal.at.leaf-leaf-requires g c).After-enter_region r.0 r.1 r.2) }
 
 pub map_with_last-requires-clause-fits : goal.map_with_last-requires-clause-fits
-map_with_last-requires-clause-fits g c = fits_after g.F.FrameAccess.rule c.pages.invariant.keeps c.requires.fits
+map_with_last-requires-clause-fits g c = fits_after g.F.FrameAccess.invariant c.pages.invariant.keeps c.requires.fits
 
 pub map_with_last-requires-clause-anchored : goal.map_with_last-requires-clause-anchored
 map_with_last-requires-clause-anchored g c =

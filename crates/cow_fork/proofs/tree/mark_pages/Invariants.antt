@@ -17,6 +17,6 @@ invariant-pages g l = record {
   root : l.space.root ≡ l.fn.space.root;
   trapframe : l.space.trapframe ≡ l.fn.space.trapframe;
   layout : l.space.layout ≡ l.fn.space.layout;
-  keeps : KeepsSeats g.F.FrameAccess.rule l.fn.store l.fn.space.seat l.store l.space.seat;
+  keeps : KeepsSeats g.F.FrameAccess.invariant l.fn.store l.fn.space.seat l.store l.space.seat;
   free : g.F.FrameAccess.alone → g.F.FrameAccess.free l.store ≡ g.F.FrameAccess.free l.fn.store;
 }

@@ -57,7 +57,7 @@ returns-in_err-promise_write_back-clause-whole g c =
     rw told.1 (λ t p space. subst (λ (x : Body). IsSpace x t p) (sym body) space)
 
 pub reserve-requires : goal.reserve-requires
-reserve-requires g c = record { fits = fits_after g.F.FrameAccess.rule c.promise_write_back.ensures.keeps c.requires.fits }
+reserve-requires g c = record { fits = fits_after g.F.FrameAccess.invariant c.promise_write_back.ensures.keeps c.requires.fits }
 
 pub returns-then-is_err-clause-dry : goal.returns-then-is_err-clause-dry
 returns-then-is_err-clause-dry g c _ =
@@ -79,7 +79,7 @@ pub returns-then-is_err-clause-keeps : goal.returns-then-is_err-clause-keeps
 returns-then-is_err-clause-keeps g c others rule = c.reserve.ensures.keeps others (c.promise_write_back.ensures.keeps others rule)
 
 pub write_back-requires-clause-fits : goal.write_back-requires-clause-fits
-write_back-requires-clause-fits g c = fits_after g.F.FrameAccess.rule c.reserve.ensures.keeps (fits_after g.F.FrameAccess.rule c.promise_write_back.ensures.keeps c.requires.fits)
+write_back-requires-clause-fits g c = fits_after g.F.FrameAccess.invariant c.reserve.ensures.keeps (fits_after g.F.FrameAccess.invariant c.promise_write_back.ensures.keeps c.requires.fits)
 
 reserved : (g : given.Over) (c : After-write_back-arg-3-1 g) → g.S.FrameSeat.view c.reserve.new.seat ≡ with_credits (c.frames_needed-need.result - 1) (g.S.FrameSeat.view c.promise_write_back.new.space.seat)
 reserved g c = (went_well c.reserve.result _ (sym c.is_err.ensures.value ∙ c.if-is_err.false) c.reserve.ensures.ok).1
@@ -100,8 +100,8 @@ write_back-requires-clause-ready g c =
     (r.0, r.1, stands g (goal.at.write_back-requires-clause-ready g c).After-write_back-arg-3-1 r.0 r.1 r.2, c.in_ok-promise_write_back.ensures.promised r.0 r.1 r.2)
 
 pub rebuild-requires-clause-fits : goal.rebuild-requires-clause-fits
-rebuild-requires-clause-fits g c = fits_after g.F.FrameAccess.rule c.write_back.ensures.keeps
-    (fits_after g.F.FrameAccess.rule c.reserve.ensures.keeps (fits_after g.F.FrameAccess.rule c.promise_write_back.ensures.keeps c.requires.fits))
+rebuild-requires-clause-fits g c = fits_after g.F.FrameAccess.invariant c.write_back.ensures.keeps
+    (fits_after g.F.FrameAccess.invariant c.reserve.ensures.keeps (fits_after g.F.FrameAccess.invariant c.promise_write_back.ensures.keeps c.requires.fits))
 
 -- the space was written back, and is of the scheme of the image
 

@@ -29,7 +29,7 @@ settled_page-requires-clause-low g c =
 
 pub settle_initial-requires-clause-fits : goal.settle_initial-requires-clause-fits
 settle_initial-requires-clause-fits g c =
-    fits_after g.F.FrameAccess.rule c.settled_page.ensures.keeps c.requires.fits
+    fits_after g.F.FrameAccess.invariant c.settled_page.ensures.keeps c.requires.fits
 
 pub settle_initial-requires-clause-ready : goal.settle_initial-requires-clause-ready
 settle_initial-requires-clause-ready g c =
@@ -52,7 +52,7 @@ returns-in_default g c =
 
 pub take_over-requires-clause-fits : goal.take_over-requires-clause-fits
 take_over-requires-clause-fits g c =
-    fits_after g.F.FrameAccess.rule c.settled_page.ensures.keeps c.requires.fits
+    fits_after g.F.FrameAccess.invariant c.settled_page.ensures.keeps c.requires.fits
 
 pub take_over-requires-clause-ready : goal.take_over-requires-clause-ready
 take_over-requires-clause-ready g c =

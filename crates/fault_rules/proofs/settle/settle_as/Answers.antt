@@ -17,7 +17,7 @@ pub returns-in_err-settle-clause-free : goal.returns-in_err-settle-clause-free
 returns-in_err-settle-clause-free g c alone t p can = none_taken c.from_residual.result _ _ _ c.from_residual.ensures.0 (c.in_err-settle.ensures.free alone t p can)
 
 pub mark_stored-requires-clause-fits : goal.mark_stored-requires-clause-fits
-mark_stored-requires-clause-fits g c = fits_after g.F.FrameAccess.rule c.settle.ensures.keeps c.requires.fits
+mark_stored-requires-clause-fits g c = fits_after g.F.FrameAccess.invariant c.settle.ensures.keeps c.requires.fits
 
 pub mark_stored-requires-clause-ready : goal.mark_stored-requires-clause-ready
 mark_stored-requires-clause-ready g c =

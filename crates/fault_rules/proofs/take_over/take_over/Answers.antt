@@ -17,7 +17,7 @@ pub returns-in_err-unshare-clause-free : goal.returns-in_err-unshare-clause-free
 returns-in_err-unshare-clause-free g c alone t p shared can told = none_taken c.from_residual.result _ _ _ c.from_residual.ensures.0 (c.in_err-unshare.ensures.free alone t p shared can told)
 
 pub mark_stored-requires-clause-fits : goal.mark_stored-requires-clause-fits
-mark_stored-requires-clause-fits g c = fits_after g.F.FrameAccess.rule c.unshare.ensures.keeps c.requires.fits
+mark_stored-requires-clause-fits g c = fits_after g.F.FrameAccess.invariant c.unshare.ensures.keeps c.requires.fits
 
 pub mark_stored-requires-clause-ready : goal.mark_stored-requires-clause-ready
 mark_stored-requires-clause-ready g c =

@@ -6,11 +6,11 @@ use Rattle.frame_bytes.proofs.contents.read_words.Given as goal
 -- the bytes of so many words are read
 abbrev pub invariant-loop-place : goal.invariant-loop-place
 invariant-loop-place g l = record {
-  fits : IsSeatOf g.F.FrameAccess.rule l.store l.seat;
+  fits : IsSeatOf g.F.FrameAccess.invariant l.store l.seat;
   bytes : (page : List ℕ) → HasBytes (g.F.Seat.FrameSeat.view l.initial.seat) l.frame.0 page
       → (k : ℕ) → k < 8 * l.place → slice_index l.bytes k ≡ slice_index page (8 * l.first + k);
   length : length l.bytes ≡ length l.initial.bytes;
   view : g.F.Seat.FrameSeat.view l.seat ≡ g.F.Seat.FrameSeat.view l.initial.seat;
   same : l.store ≡ l.initial.store;
-  keeps : KeepsSeats g.F.FrameAccess.rule l.initial.store l.initial.seat l.store l.seat;
+  keeps : KeepsSeats g.F.FrameAccess.invariant l.initial.store l.initial.seat l.store l.seat;
 }

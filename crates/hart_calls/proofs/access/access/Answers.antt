@@ -22,7 +22,7 @@ returns-then-not-is_width-clause-call_result g c =
     rw c.scalar.ensures (λ k is t p space. (tt, bad_width (g.C.Files.files c.args.files.now) p (request_of c.args.request) k is (let e = c.is_width.ensures in let f = c.if-not-is_width.true in cc) (body_of g.S.FrameSeat.view c.args.space.now) (body_of g.S.FrameSeat.view c.args.space.now) _ _ _ (t, space) (g.met.C.Files.stays c.args.files.now)))
 
 pub accessed-requires-clause-fits : goal.accessed-requires-clause-fits
-accessed-requires-clause-fits g c = fits_after g.F.FrameAccess.rule c.translate-walk.ensures.keeps c.requires.fits
+accessed-requires-clause-fits g c = fits_after g.F.FrameAccess.invariant c.translate-walk.ensures.keeps c.requires.fits
 
 pub accessed-requires-clause-ready : goal.accessed-requires-clause-ready
 accessed-requires-clause-ready g c =
@@ -43,7 +43,7 @@ returns-then-is_permitted-clause-call_result g c = λ k is t p space.
     (g.met.C.Files.stays c.args.files.now)
 
 pub returns-then-is_permitted-clause-keeps : goal.returns-then-is_permitted-clause-keeps
-returns-then-is_permitted-clause-keeps g c = keeps_both g.F.FrameAccess.rule c.translate-walk.ensures.keeps c.accessed.ensures.keeps
+returns-then-is_permitted-clause-keeps g c = keeps_both g.F.FrameAccess.invariant c.translate-walk.ensures.keeps c.accessed.ensures.keeps
 
 pub returns-in-Ready-clause-call_result : goal.returns-in-Ready-clause-call_result
 returns-in-Ready-clause-call_result g c = λ k is t p space.
@@ -108,7 +108,7 @@ returns-in-Unserved-clause-call_result g c = λ k is t p space.
     )
 
 pub serve-requires-clause-fits : goal.serve-requires-clause-fits
-serve-requires-clause-fits g c = fits_after g.F.FrameAccess.rule c.translate-walk.ensures.keeps c.requires.fits
+serve-requires-clause-fits g c = fits_after g.F.FrameAccess.invariant c.translate-walk.ensures.keeps c.requires.fits
 
 pub serve-requires-clause-width : goal.serve-requires-clause-width
 serve-requires-clause-width g c = some_width c.args.request.width (let e = c.is_width.ensures in let f = c.if-not-is_width.false in cc)
@@ -120,7 +120,7 @@ serve-requires-clause-ready g c =
     (r.0, r.1, still_space g.S.FrameSeat.view _ _ n.reads.view n.reads.root n.reads.trapframe n.reads.layout r.0 r.1 r.2)
 
 pub without_service-requires-clause-fits : goal.without_service-requires-clause-fits
-without_service-requires-clause-fits g c = fits_after g.F.FrameAccess.rule c.serve.ensures.served.keeps (fits_after g.F.FrameAccess.rule c.translate-walk.ensures.keeps c.requires.fits)
+without_service-requires-clause-fits g c = fits_after g.F.FrameAccess.invariant c.serve.ensures.served.keeps (fits_after g.F.FrameAccess.invariant c.translate-walk.ensures.keeps c.requires.fits)
 
 pub without_service-requires-clause-ready : goal.without_service-requires-clause-ready
 without_service-requires-clause-ready g c =

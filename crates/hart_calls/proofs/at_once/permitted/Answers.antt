@@ -9,7 +9,7 @@ use Rattle.std.specs.Prelude.{◌%◌, ◌==◌, ◌&&◌}
 use Rattle.hart_calls.proofs.at_once.permitted.Goals as goal
 
 pub accessed-requires-clause-fits : goal.accessed-requires-clause-fits
-accessed-requires-clause-fits g c = fits_after g.F.FrameAccess.rule c.translate-walk.ensures.keeps c.requires.fits
+accessed-requires-clause-fits g c = fits_after g.F.FrameAccess.invariant c.translate-walk.ensures.keeps c.requires.fits
 
 pub accessed-requires-clause-ready : goal.accessed-requires-clause-ready
 accessed-requires-clause-ready g c =
@@ -29,4 +29,4 @@ returns-clause-made g c = λ k is t p space.
     made p a k is wide (body_of g.S.FrameSeat.view c.args.space.now) (body_of g.S.FrameSeat.view c.accessed.new.space) (gives_leaf c.translate-walk.result) both (rw walk law) c.accessed.result (c.accessed.ensures.reply t p here walk) (t, c.accessed.ensures.after t p here walk)
 
 pub returns-clause-keeps : goal.returns-clause-keeps
-returns-clause-keeps g c = keeps_both g.F.FrameAccess.rule c.translate-walk.ensures.keeps c.accessed.ensures.keeps
+returns-clause-keeps g c = keeps_both g.F.FrameAccess.invariant c.translate-walk.ensures.keeps c.accessed.ensures.keeps

@@ -15,7 +15,7 @@ pub returns-in-Ok-clause-call_result : goal.returns-in-Ok-clause-call_result
 returns-in-Ok-clause-call_result g c = rw c.scalar-in-Ok.ensures (λ t p space.
     let n = c.in-Ok.ensures in
     let small : length c.args.bytes.now ≤ LONGEST_COPY = omega (arith, c.if-bytes-gt-LONGEST_COPY.false) in
-    let l = store_model g.S.FrameSeat.view g.F.FrameAccess.rule g.F.FrameAccess.alone g.F.FrameAccess.free g.F.FrameAccess.count g.C.Files.files g.C.Files.becomes g.C.Files.can_refuse in
+    let l = store_model g.S.FrameSeat.view g.F.FrameAccess.invariant g.F.FrameAccess.alone g.F.FrameAccess.free g.F.FrameAccess.count g.C.Files.files g.C.Files.becomes g.C.Files.can_refuse in
     let end = ends_out l g.met.C.Files.goes_on g.met.C.Files.comes_to (moment c.args.space.now c.args.store.now c.args.files.now) p t space (g.met.C.Files.stays c.args.files.now) c.args.va.0 c.args.bytes.now small
     (moment c.copy_out.new.space c.copy_out.new.store c.copy_out.new.files) (length c.args.bytes.now) None n.copied in
     let e = end.2 in
@@ -25,7 +25,7 @@ pub returns-in-Denied-clause-call_result : goal.returns-in-Denied-clause-call_re
 returns-in-Denied-clause-call_result g c = rw c.scalar-in-Denied.ensures (λ t p space.
     let n = c.in-Err.ensures in
     let small : length c.args.bytes.now ≤ LONGEST_COPY = omega (arith, c.if-bytes-gt-LONGEST_COPY.false) in
-    let l = store_model g.S.FrameSeat.view g.F.FrameAccess.rule g.F.FrameAccess.alone g.F.FrameAccess.free g.F.FrameAccess.count g.C.Files.files g.C.Files.becomes g.C.Files.can_refuse in
+    let l = store_model g.S.FrameSeat.view g.F.FrameAccess.invariant g.F.FrameAccess.alone g.F.FrameAccess.free g.F.FrameAccess.count g.C.Files.files g.C.Files.becomes g.C.Files.can_refuse in
     let end = ends_out l g.met.C.Files.goes_on g.met.C.Files.comes_to (moment c.args.space.now c.args.store.now c.args.files.now) p t space (g.met.C.Files.stays c.args.files.now) c.args.va.0 c.args.bytes.now small
     (moment c.copy_out.new.space c.copy_out.new.store c.copy_out.new.files) c.in-Err.short.done (Some (Denied c.in-Denied.rule)) (rw c.in-Denied.is at n.copied) in
     let e = end.2 in
@@ -35,7 +35,7 @@ pub returns-in-Unpromised-clause-call_result : goal.returns-in-Unpromised-clause
 returns-in-Unpromised-clause-call_result g c = λ t p space.
     let n = c.in-Err.ensures in
     let small : length c.args.bytes.now ≤ LONGEST_COPY = omega (arith, c.if-bytes-gt-LONGEST_COPY.false) in
-    let l = store_model g.S.FrameSeat.view g.F.FrameAccess.rule g.F.FrameAccess.alone g.F.FrameAccess.free g.F.FrameAccess.count g.C.Files.files g.C.Files.becomes g.C.Files.can_refuse in
+    let l = store_model g.S.FrameSeat.view g.F.FrameAccess.invariant g.F.FrameAccess.alone g.F.FrameAccess.free g.F.FrameAccess.count g.C.Files.files g.C.Files.becomes g.C.Files.can_refuse in
     let end = ends_out l g.met.C.Files.goes_on g.met.C.Files.comes_to (moment c.args.space.now c.args.store.now c.args.files.now) p t space (g.met.C.Files.stays c.args.files.now) c.args.va.0 c.args.bytes.now small
     (moment c.copy_out.new.space c.copy_out.new.store c.copy_out.new.files) c.in-Err.short.done (Some (Unpromised c.in-Unpromised.refusal)) (rw c.in-Unpromised.is at n.copied) in
     left_out _ _ (g.C.Files.files c.args.files.now) _ (RefusesPromise g.C.Files.becomes g.C.Files.can_refuse c.args.files.now) _ p c.args.va.0 c.args.bytes small end.progress end.bytes c.in-Err.short.done c.in-Unpromised.refusal end.is end.after end.moves end.less end.unpromised end.of_file end.told

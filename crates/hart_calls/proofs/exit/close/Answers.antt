@@ -4,7 +4,7 @@ use Rattle.hart_calls.proofs.exit.close.Goals as goal
 pub leave-seat-requires-clause-ready : goal.leave-seat-requires-clause-ready
 leave-seat-requires-clause-ready g c =
     let r = c.requires.ready in
-    (r.0, c.args.parts.present.state, c.write_there-written.ensures.still r.0 _ r.1)
+    (r.0, c.args.parts.present.state, c.write_boxed-written.ensures.still r.0 _ r.1)
 
 pub returns-in-Ok-clause-closes : goal.returns-in-Ok-clause-closes
 returns-in-Ok-clause-closes g c =

@@ -20,7 +20,7 @@ invariant-pages g l = record {
   layout : l.space.layout ≡ l.fn.space.layout;
   view : g.S.FrameSeat.view l.space.seat ≡ g.S.FrameSeat.view l.fn.space.seat;
   same : l.store ≡ l.fn.store;
-  keeps : KeepsSeats g.F.FrameAccess.rule l.fn.store l.fn.space.seat l.store l.space.seat;
+  keeps : KeepsSeats g.F.FrameAccess.invariant l.fn.store l.fn.space.seat l.store l.space.seat;
   kept : (t : Tables) (p : Process) → IsSpace (body_of g.S.FrameSeat.view l.fn.space) t p → IsLastTable p.scheme t l.last;
   count : (t : Tables) (p : Process) → IsSpace (body_of g.S.FrameSeat.view l.fn.space) t p → IsRunOf p (run_of l.run) → l.count ≡ length (run_moves p (region_of l.run.mapping) l.run.first l.from);
 }

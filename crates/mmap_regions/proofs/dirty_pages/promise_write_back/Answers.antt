@@ -24,7 +24,7 @@ whole-run-requires g c =
     record { low = omega (arith, low, of_scheme r.1.scheme) }
 
 pub count_run-pages-requires-clause-fits : goal.count_run-pages-requires-clause-fits
-count_run-pages-requires-clause-fits g c = fits_after g.F.FrameAccess.rule c.runs.invariant.keeps c.requires.fits
+count_run-pages-requires-clause-fits g c = fits_after g.F.FrameAccess.invariant c.runs.invariant.keeps c.requires.fits
 
 pub count_run-pages-requires-clause-ready : goal.count_run-pages-requires-clause-ready
 count_run-pages-requires-clause-ready g c =

@@ -17,6 +17,6 @@ invariant-runs g l = record {
   layout : l.space.layout ≡ l.fn.space.layout;
   view : g.S.FrameSeat.view l.space.seat ≡ g.S.FrameSeat.view l.fn.space.seat;
   same : l.store ≡ l.fn.store;
-  keeps : KeepsSeats g.F.FrameAccess.rule l.fn.store l.fn.space.seat l.store l.space.seat;
+  keeps : KeepsSeats g.F.FrameAccess.invariant l.fn.store l.fn.space.seat l.store l.space.seat;
   counted : (t : Tables) (p : Process) → IsSpace (body_of g.S.FrameSeat.view l.fn.space) t p → l.pages ≡ length (moves_before p l.i);
 }

@@ -36,7 +36,7 @@ whole-run-requires g c =
     record { low = omega (arith, low, of_scheme r.1.scheme) }
 
 pub write_run-requires-clause-fits : goal.write_run-requires-clause-fits
-write_run-requires-clause-fits g c = fits_after g.F.FrameAccess.rule c.runs.invariant.keeps c.requires.fits
+write_run-requires-clause-fits g c = fits_after g.F.FrameAccess.invariant c.runs.invariant.keeps c.requires.fits
 
 pub write_run-requires-clause-ready : goal.write_run-requires-clause-ready
 write_run-requires-clause-ready g c =

@@ -15,7 +15,7 @@ invariant-runs g l = record {
   layout : l.space.layout ≡ l.fn.space.layout;
   view : g.S.FrameSeat.view l.space.seat ≡ g.S.FrameSeat.view l.fn.space.seat;
   same : l.store ≡ l.fn.store;
-  keeps : KeepsSeats g.F.FrameAccess.rule l.fn.store l.fn.space.seat l.store l.space.seat;
+  keeps : KeepsSeats g.F.FrameAccess.invariant l.fn.store l.fn.space.seat l.store l.space.seat;
   moves : (t : Tables) (p : Process) → IsSpaceInCall (body_of g.S.FrameSeat.view l.fn.space) t p no_extra → g.C.Files.becomes l.fn.files (moves_before p l.i) l.files;
   rest : (t : Tables) (p : Process) → IsSpaceInCall (body_of g.S.FrameSeat.view l.fn.space) t p no_extra
       → g.C.Files.room l.fn.files ≤ length (moves_before p l.i) + g.C.Files.room l.files;

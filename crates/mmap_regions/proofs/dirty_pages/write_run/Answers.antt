@@ -33,7 +33,7 @@ pages-init g c =
     }
 
 pub next_settled_with_last-requires-clause-fits : goal.next_settled_with_last-requires-clause-fits
-next_settled_with_last-requires-clause-fits g c = fits_after g.F.FrameAccess.rule c.pages.invariant.keeps c.requires.fits
+next_settled_with_last-requires-clause-fits g c = fits_after g.F.FrameAccess.invariant c.pages.invariant.keeps c.requires.fits
 
 pub next_settled_with_last-requires-clause-ready : goal.next_settled_with_last-requires-clause-ready
 next_settled_with_last-requires-clause-ready g c =
@@ -43,7 +43,7 @@ next_settled_with_last-requires-clause-ready g c =
     (r.0, r.1, rw body r.2, i.kept r.0 r.1 r.2)
 
 pub page_bytes-requires-clause-fits : goal.page_bytes-requires-clause-fits
-page_bytes-requires-clause-fits g c = fits_after g.F.FrameAccess.rule c.next_settled_with_last.ensures.keeps (fits_after g.F.FrameAccess.rule c.pages.invariant.keeps c.requires.fits)
+page_bytes-requires-clause-fits g c = fits_after g.F.FrameAccess.invariant c.next_settled_with_last.ensures.keeps (fits_after g.F.FrameAccess.invariant c.pages.invariant.keeps c.requires.fits)
 
 pub page_bytes-requires-clause-ready : goal.page_bytes-requires-clause-ready
 page_bytes-requires-clause-ready g c =

@@ -20,7 +20,7 @@ invariant-pages g l = record {
   layout : l.space.layout ≡ l.fn.space.layout;
   view : g.S.FrameSeat.view l.space.seat ≡ g.S.FrameSeat.view l.fn.space.seat;
   same : l.store ≡ l.fn.store;
-  keeps : KeepsSeats g.F.FrameAccess.rule l.fn.store l.fn.space.seat l.store l.space.seat;
+  keeps : KeepsSeats g.F.FrameAccess.invariant l.fn.store l.fn.space.seat l.store l.space.seat;
   kept : (t : Tables) (p : Process) → IsSpaceInCall (body_of g.S.FrameSeat.view l.fn.space) t p no_extra → IsLastTable p.scheme t l.last;
   moves : (t : Tables) (p : Process) → IsSpaceInCall (body_of g.S.FrameSeat.view l.fn.space) t p no_extra → IsRunOf p (run_of l.run)
       → g.C.Files.becomes l.fn.files (run_moves p (region_of l.run.mapping) l.run.first l.from) l.files;

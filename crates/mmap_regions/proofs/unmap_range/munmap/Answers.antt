@@ -46,7 +46,7 @@ returns-in_err-promise-clause-refused g c =
     ))
 
 pub write_run-requires-clause-fits : goal.write_run-requires-clause-fits
-write_run-requires-clause-fits g c = fits_after g.F.FrameAccess.rule c.count_run-pages.ensures.keeps c.requires.fits
+write_run-requires-clause-fits g c = fits_after g.F.FrameAccess.invariant c.count_run-pages.ensures.keeps c.requires.fits
 
 pub write_run-requires-clause-ready : goal.write_run-requires-clause-ready
 write_run-requires-clause-ready g c =
@@ -60,7 +60,7 @@ write_run-requires-clause-ready g c =
     (r.0, r.1, space_in_call (rw body r.2), run, omega (arith, promised, count))
 
 pub drop_pages-requires-clause-fits : goal.drop_pages-requires-clause-fits
-drop_pages-requires-clause-fits g c = fits_after g.F.FrameAccess.rule c.write_run.ensures.keeps (fits_after g.F.FrameAccess.rule c.count_run-pages.ensures.keeps c.requires.fits)
+drop_pages-requires-clause-fits g c = fits_after g.F.FrameAccess.invariant c.write_run.ensures.keeps (fits_after g.F.FrameAccess.invariant c.count_run-pages.ensures.keeps c.requires.fits)
 
 pub drop_pages-requires-clause-ready : goal.drop_pages-requires-clause-ready
 drop_pages-requires-clause-ready g c =

@@ -39,7 +39,7 @@ levels-init g c = record {
 }
 
 pub child-requires-clause-fits : goal.child-requires-clause-fits
-child-requires-clause-fits g c = fits_after g.F.FrameAccess.rule c.levels.invariant.keeps c.requires.fits
+child-requires-clause-fits g c = fits_after g.F.FrameAccess.invariant c.levels.invariant.keeps c.requires.fits
 
 pub child-requires-clause-held : goal.child-requires-clause-held
 child-requires-clause-held g c =
@@ -56,7 +56,7 @@ child-requires-clause-held g c =
 
 pub new_child-table-requires-clause-fits : goal.new_child-table-requires-clause-fits
 new_child-table-requires-clause-fits g c =
-    fits_after g.F.FrameAccess.rule c.child.ensures.keeps (fits_after g.F.FrameAccess.rule c.levels.invariant.keeps c.requires.fits)
+    fits_after g.F.FrameAccess.invariant c.child.ensures.keeps (fits_after g.F.FrameAccess.invariant c.levels.invariant.keeps c.requires.fits)
 
 pub new_child-table-requires-clause-anchored : goal.new_child-table-requires-clause-anchored
 new_child-table-requires-clause-anchored g c = rw c.child.ensures.view c.levels.invariant.anchored

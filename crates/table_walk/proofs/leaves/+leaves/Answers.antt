@@ -64,7 +64,7 @@ next_below-next_at-next-requires g u c =
     let h = c.requires.held in
     let n = c.in_ok-index.ensures.word in
     let index = c.in_ok-index.index in
-    let fits : IsSeatOf g.F.FrameAccess.rule c.next_entry.new.store c.next_entry.new.seat =
+    let fits : IsSeatOf g.F.FrameAccess.invariant c.next_entry.new.store c.next_entry.new.seat =
     (c.requires.fits.0, c.next_entry.ensures.keeps c.requires.fits.0 (i.keeps c.requires.fits.0 c.requires.fits.1)) in
     let most = last_index c.index_of-last.result c.min-stop.result c.args.end (512 ^ c.args.level) (power_some c.args.level)
     (rw c.index_places-width.ensures.value at c.min-stop.ensures) c.index_of-last.ensures in

@@ -18,7 +18,7 @@ abbrev pub invariant-next_below-indices : goal.invariant-next_below-indices
 invariant-next_below-indices g l = record {
   view : g.F.Seat.FrameSeat.view l.seat ≡ g.F.Seat.FrameSeat.view l.initial.seat;
   same : l.store ≡ l.initial.store;
-  keeps : KeepsSeats g.F.FrameAccess.rule l.initial.store l.initial.seat l.store l.seat;
+  keeps : KeepsSeats g.F.FrameAccess.invariant l.initial.store l.initial.seat l.store l.seat;
   on : l.fn.from ≤ l.at;
   bare : (s : Scheme) (root k : ℕ) (t : Tables) → HasTables s (g.F.Seat.FrameSeat.view l.initial.seat) root t → get t.tables k ≡ Some l.table.0 → IsTableAt k l.level → IsBareTo t k (512 * 512 ^ l.level) l.fn.from l.at l.end;
 }

@@ -21,7 +21,7 @@ pub release_at-release_below-requires : goal.release_at-release_below-requires
 release_at-release_below-requires g u c =
     let h = c.requires.bare in
     let below = table_child h.2 c.args.level c.args.index h.7 c.requires.low c.requires.in_table (some_level c.args.level c.requires.above) in
-    let fits : IsSeatOf g.F.FrameAccess.rule c.child.new.store c.child.new.seat = fits_after g.F.FrameAccess.rule c.child.ensures.keeps c.requires.fits in
+    let fits : IsSeatOf g.F.FrameAccess.invariant c.child.new.store c.child.new.seat = fits_after g.F.FrameAccess.invariant c.child.ensures.keeps c.requires.fits in
     let bare : (s : Scheme) × (root k : ℕ) × (t : Tables) × HasTables s (g.F.Seat.FrameSeat.view c.child.new.seat) root t × AreLast (g.F.Seat.FrameSeat.view c.child.new.seat) t × (get t.tables k ≡ Some c.in-Some.next.0) × IsTableAt k (c.args.level - 1) =
     (h.0, h.1, h.2 * 512 + c.args.index, h.3, rw c.child.ensures.view h.4, rw c.child.ensures.view h.5, sym (c.in-Some.ensures.child h.0 h.1 h.2 h.3 h.4 h.6 below.0), below.1) in
     search (rules, fits, bare)
@@ -79,7 +79,7 @@ release_below-release_at-requires g u c =
     let i = c.indices.invariant in
     let h = c.requires.bare in
     let so_far = i.below h.0 h.1 h.2 h.3 h.4 h.5 h.6 h.7 in
-    let fits : IsSeatOf g.F.FrameAccess.rule c.indices.store c.indices.seat = fits_after g.F.FrameAccess.rule i.keeps c.requires.fits in
+    let fits : IsSeatOf g.F.FrameAccess.invariant c.indices.store c.indices.seat = fits_after g.F.FrameAccess.invariant i.keeps c.requires.fits in
     let some : 0 < c.args.level = omega (arith, c.if-level-eq0.false) in
     let bare : (s : Scheme) × (root k : ℕ) × (t : Tables) × HasTables s (g.F.Seat.FrameSeat.view c.indices.seat) root t × AreLast (g.F.Seat.FrameSeat.view c.indices.seat) t × (get t.tables k ≡ Some c.args.table.0) × IsTableAt k c.args.level =
     (h.0, h.1, h.2, so_far.0, so_far.1.tables, still_last _ _ h.1 h.2 h.3 so_far.0 so_far.1 h.5, so_far.1.stay h.2 _ (omega arith) h.6, h.7) in

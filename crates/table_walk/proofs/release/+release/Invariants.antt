@@ -17,7 +17,7 @@ decreases-release_at g l = 2 * l.level
 abbrev pub invariant-release_below-indices : goal.invariant-release_below-indices
 invariant-release_below-indices g l = record {
   low : l.index ≤ 512;
-  keeps : KeepsSeats g.F.FrameAccess.rule l.fn.store l.fn.seat l.store l.seat;
+  keeps : KeepsSeats g.F.FrameAccess.invariant l.fn.store l.fn.seat l.store l.seat;
   free : g.F.FrameAccess.alone → g.F.FrameAccess.free l.fn.store ≤ g.F.FrameAccess.free l.store;
   below : (s : Scheme) (root k : ℕ) (t : Tables) → HasTables s (g.F.Seat.FrameSeat.view l.fn.seat) root t → AreLast (g.F.Seat.FrameSeat.view l.fn.seat) t → get t.tables k ≡ Some l.table.0 → IsTableAt k l.level
       → (u : Tables) × ReleasesTables s (g.F.Seat.FrameSeat.view l.fn.seat) (g.F.Seat.FrameSeat.view l.seat) root k t u × ((i : ℕ) → i < l.index → get u.tables (k * 512 + i) ≡ None);

@@ -22,7 +22,7 @@ pub levels-init : goal.levels-init
 levels-init g c = record { view = refl; same = refl; keeps = λ others r. r; way = λ t h. (let none : top_level c.args.scheme - c.top_level-top.result ≡ 0 = omega (arith, c.top_level-top.ensures.value) in rw none h.known.rooted) }
 
 pub child-requires-clause-fits : goal.child-requires-clause-fits
-child-requires-clause-fits g c = fits_after g.F.FrameAccess.rule c.levels.invariant.keeps c.requires.fits
+child-requires-clause-fits g c = fits_after g.F.FrameAccess.invariant c.levels.invariant.keeps c.requires.fits
 
 pub child-requires-clause-held : goal.child-requires-clause-held
 child-requires-clause-held g c =

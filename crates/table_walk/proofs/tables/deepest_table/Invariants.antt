@@ -10,7 +10,7 @@ abbrev pub invariant-levels : goal.invariant-levels
 invariant-levels g l = record {
   view : g.F.Seat.FrameSeat.view l.seat ≡ g.F.Seat.FrameSeat.view l.fn.seat;
   same : l.store ≡ l.fn.store;
-  keeps : KeepsSeats g.F.FrameAccess.rule l.fn.store l.fn.seat l.store l.seat;
+  keeps : KeepsSeats g.F.FrameAccess.invariant l.fn.store l.fn.seat l.store l.seat;
   way : (t : Tables) → HasTables l.fn.scheme (g.F.Seat.FrameSeat.view l.fn.seat) l.fn.root.0 t
       → get t.tables (node l.fn.scheme l.fn.page ((top_level l.fn.scheme) - l.level)) ≡ Some l.table.0;
 }

@@ -12,13 +12,13 @@ cases-init g c = record {
 }
 
 pub next_word-requires-clause-fits : goal.next_word-requires-clause-fits
-next_word-requires-clause-fits g c = fits_after g.F.FrameAccess.rule c.cases.invariant.keeps c.requires.fits
+next_word-requires-clause-fits g c = fits_after g.F.FrameAccess.invariant c.cases.invariant.keeps c.requires.fits
 
 pub next_word-requires-clause-held : goal.next_word-requires-clause-held
 next_word-requires-clause-held g c = c.cases.invariant.held
 
 pub next_busy_word-requires-clause-fits : goal.next_busy_word-requires-clause-fits
-next_busy_word-requires-clause-fits g c = fits_after g.F.FrameAccess.rule c.next_word.ensures.keeps (fits_after g.F.FrameAccess.rule c.cases.invariant.keeps c.requires.fits)
+next_busy_word-requires-clause-fits g c = fits_after g.F.FrameAccess.invariant c.next_word.ensures.keeps (fits_after g.F.FrameAccess.invariant c.cases.invariant.keeps c.requires.fits)
 
 pub next_busy_word-requires-clause-held : goal.next_busy_word-requires-clause-held
 next_busy_word-requires-clause-held g c = subst (λ v. IsHeld v c.in_ok-frame.frame.0) (sym c.next_word.ensures.view) c.cases.invariant.held

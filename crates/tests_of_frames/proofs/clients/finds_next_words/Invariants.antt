@@ -7,6 +7,6 @@ use Rattle.tests_of_frames.proofs.clients.finds_next_words.Given as goal
 abbrev pub invariant-cases : goal.invariant-cases
 invariant-cases g l = record {
   view : g.F.Seat.FrameSeat.view l.seat ≡ g.F.Seat.FrameSeat.view l.initial.seat;
-  keeps : KeepsSeats g.F.FrameAccess.rule l.fn.store l.fn.seat l.store l.seat;
+  keeps : KeepsSeats g.F.FrameAccess.invariant l.fn.store l.fn.seat l.store l.seat;
   held : IsHeld (g.F.Seat.FrameSeat.view l.seat) l.frame.0;
 }

@@ -3,7 +3,7 @@ use Rattle.shared_frames.specs.SeatsOfTable.{fits_still, may_step}
 use Rattle.tests_of_frames.proofs.clients.runs_over_both_stores.Goals as goal
 
 pub word_through_a_new_seat-refused-requires-clause-fits : goal.word_through_a_new_seat-refused-requires-clause-fits
-word_through_a_new_seat-refused-requires-clause-fits g c = ([], c.word_through_a_new_seat.ensures.keeps [] c.in_ok-plain.ensures.rule)
+word_through_a_new_seat-refused-requires-clause-fits g c = ([], c.word_through_a_new_seat.ensures.keeps [] c.in_ok-plain.ensures.invariant)
 
 pub word_through_a_new_seat-requires-2-clause-fits : goal.word_through_a_new_seat-requires-2-clause-fits
 word_through_a_new_seat-requires-2-clause-fits g c = may_step _ _ c.in_ok-frames.seat c.supply-supply.ensures c.in_ok-frames.ensures.fits

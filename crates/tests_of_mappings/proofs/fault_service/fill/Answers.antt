@@ -9,7 +9,7 @@ returns-then-is_err-clause-alive g c =
     alive_asked _ _ _ _ c.settle.result c.settle.ensures.settled c.settle.ensures.whole ready.0 ready.1 ready.2
 
 pub mark_stored-requires-clause-fits : goal.mark_stored-requires-clause-fits
-mark_stored-requires-clause-fits g c = fits_after g.F.FrameAccess.rule c.settle.ensures.keeps c.requires.fits
+mark_stored-requires-clause-fits g c = fits_after g.F.FrameAccess.invariant c.settle.ensures.keeps c.requires.fits
 
 pub mark_stored-requires-clause-ready : goal.mark_stored-requires-clause-ready
 mark_stored-requires-clause-ready g c =

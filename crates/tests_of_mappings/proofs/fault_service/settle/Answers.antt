@@ -14,7 +14,7 @@ pub returns-then-is_settled-clause-alive : goal.returns-then-is_settled-clause-a
 returns-then-is_settled-clause-alive g c = let read = c.is_settled.ensures in alive_still _ _ _ _ _ _ _ _ read.view read.place.root read.place.trapframe read.place.layout c.requires.alive
 
 pub fill-requires-clause-fits : goal.fill-requires-clause-fits
-fill-requires-clause-fits g c = fits_after g.F.FrameAccess.rule c.is_settled.ensures.keeps c.requires.fits
+fill-requires-clause-fits g c = fits_after g.F.FrameAccess.invariant c.is_settled.ensures.keeps c.requires.fits
 
 granted : (b : Bool) → false ≡ not b → b ≡ true
 granted true lacks = refl

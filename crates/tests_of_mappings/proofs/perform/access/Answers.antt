@@ -3,7 +3,7 @@ use Rattle.tests_of_mappings.proofs.Living.{space_still}
 use Rattle.tests_of_mappings.proofs.perform.access.Goals as goal
 
 pub user_access-requires-clause-fits : goal.user_access-requires-clause-fits
-user_access-requires-clause-fits g c = fits_after g.F.FrameAccess.rule c.translate-walk.ensures.keeps c.requires.fits
+user_access-requires-clause-fits g c = fits_after g.F.FrameAccess.invariant c.translate-walk.ensures.keeps c.requires.fits
 
 pub user_access-requires-clause-ready : goal.user_access-requires-clause-ready
 user_access-requires-clause-ready g c =

@@ -8,7 +8,7 @@ returns-in_err-promise_write_back-clause-alive g c =
     let asked = c.promise_write_back.ensures in alive_still _ _ _ _ _ _ _ _ asked.reads.view asked.reads.root asked.reads.trapframe asked.reads.layout c.requires.alive
 
 pub write_back-requires-clause-fits : goal.write_back-requires-clause-fits
-write_back-requires-clause-fits g c = fits_after g.F.FrameAccess.rule c.promise_write_back.ensures.keeps c.requires.fits
+write_back-requires-clause-fits g c = fits_after g.F.FrameAccess.invariant c.promise_write_back.ensures.keeps c.requires.fits
 
 pub write_back-requires-clause-ready : goal.write_back-requires-clause-ready
 write_back-requires-clause-ready g c =

@@ -6,7 +6,7 @@ pub loop-row-init : goal.loop-row-init
 loop-row-init g c = record { built = c.in_ok-kernel.ensures.built; keeps = c.in_ok-kernel.ensures.keeps }
 
 pub translate-requires-clause-fits : goal.translate-requires-clause-fits
-translate-requires-clause-fits g c = fits_after g.F.FrameAccess.rule c.loop-row.invariant.keeps c.requires.fits
+translate-requires-clause-fits g c = fits_after g.F.FrameAccess.invariant c.loop-row.invariant.keeps c.requires.fits
 
 pub translate-requires-clause-built : goal.translate-requires-clause-built
 translate-requires-clause-built g c = let built = c.loop-row.invariant.built in (64, 4, built.0, built.1, built.2)

@@ -8,7 +8,7 @@ build-requires-clause-opening c = opens _ c.in_ok-store.ensures.seat
 pub loop-slot-init : goal.loop-slot-init
 loop-slot-init c = record {
   built = c.in-Ok.ensures.built;
-  rule = c.in-Ok.ensures.keeps [] c.in_ok-store.ensures.rule;
+  rule = c.in-Ok.ensures.keeps [] c.in_ok-store.ensures.invariant;
 }
 
 pub translate-walk-requires-clause-fits : goal.translate-walk-requires-clause-fits

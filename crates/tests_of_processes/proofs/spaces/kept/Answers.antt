@@ -13,7 +13,7 @@ write-requires-clause-ready g c =
     (r.0, r.1, r.3.page, can_write _ _ _ _ r.0 r.1 _ r.2 r.3)
 
 pub read-read-requires-clause-fits : goal.read-read-requires-clause-fits
-read-read-requires-clause-fits g c = fits_after g.F.FrameAccess.rule c.write.ensures.keeps c.requires.fits
+read-read-requires-clause-fits g c = fits_after g.F.FrameAccess.invariant c.write.ensures.keeps c.requires.fits
 
 pub read-read-requires-clause-ready : goal.read-read-requires-clause-ready
 read-read-requires-clause-ready g c =
@@ -23,7 +23,7 @@ read-read-requires-clause-ready g c =
     can_read _ _ _ _ r.0 (with_page r.1 (page_of c.args.va.0) s) _ written (still_writable r.1 _ s r.3.unmarked _ r.3)
 
 pub page_bytes-requires-clause-fits : goal.page_bytes-requires-clause-fits
-page_bytes-requires-clause-fits g c = fits_after g.F.FrameAccess.rule c.read-read.ensures.keeps (fits_after g.F.FrameAccess.rule c.write.ensures.keeps c.requires.fits)
+page_bytes-requires-clause-fits g c = fits_after g.F.FrameAccess.invariant c.read-read.ensures.keeps (fits_after g.F.FrameAccess.invariant c.write.ensures.keeps c.requires.fits)
 
 pub page_bytes-requires-clause-ready : goal.page_bytes-requires-clause-ready
 page_bytes-requires-clause-ready g c =

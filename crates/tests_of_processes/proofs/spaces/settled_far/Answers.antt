@@ -5,16 +5,16 @@ use Rattle.sv39_entry.specs.Schemes.{of_scheme}
 use Rattle.tests_of_processes.proofs.spaces.settled_far.Goals as goal
 
 pub try_far-reads-requires-clause-fits : goal.try_far-reads-requires-clause-fits
-try_far-reads-requires-clause-fits g c = fits_after g.F.FrameAccess.rule c.in_ok-space.ensures.keeps c.requires.fits
+try_far-reads-requires-clause-fits g c = fits_after g.F.FrameAccess.invariant c.in_ok-space.ensures.keeps c.requires.fits
 
 pub drop_pages-requires-clause-fits : goal.drop_pages-requires-clause-fits
 drop_pages-requires-clause-fits g c =
-    fits_after g.F.FrameAccess.rule c.try_far-reads.ensures.keeps (fits_after g.F.FrameAccess.rule c.in_ok-space.ensures.keeps c.requires.fits)
+    fits_after g.F.FrameAccess.invariant c.try_far-reads.ensures.keeps (fits_after g.F.FrameAccess.invariant c.in_ok-space.ensures.keeps c.requires.fits)
 
 pub destroy-requires-clause-fits : goal.destroy-requires-clause-fits
 destroy-requires-clause-fits g c =
-    fits_after g.F.FrameAccess.rule c.drop_pages.ensures.keeps
-    (fits_after g.F.FrameAccess.rule c.try_far-reads.ensures.keeps (fits_after g.F.FrameAccess.rule c.in_ok-space.ensures.keeps c.requires.fits))
+    fits_after g.F.FrameAccess.invariant c.drop_pages.ensures.keeps
+    (fits_after g.F.FrameAccess.invariant c.try_far-reads.ensures.keeps (fits_after g.F.FrameAccess.invariant c.in_ok-space.ensures.keeps c.requires.fits))
 
 pub destroy-requires-clause-ready : goal.destroy-requires-clause-ready
 destroy-requires-clause-ready g c =

@@ -5,7 +5,7 @@ use Rattle.tests_of_processes.proofs.SpaceSteps.{can_read, lives_kept, lives_sti
 use Rattle.tests_of_processes.proofs.spaces.try_far.Goals as goal
 
 pub try_settle-settled-requires-clause-fits : goal.try_settle-settled-requires-clause-fits
-try_settle-settled-requires-clause-fits g c = fits_after g.F.FrameAccess.rule c.kept-before.ensures.keeps c.requires.fits
+try_settle-settled-requires-clause-fits g c = fits_after g.F.FrameAccess.invariant c.kept-before.ensures.keeps c.requires.fits
 
 pub try_settle-settled-requires-clause-lives : goal.try_settle-settled-requires-clause-lives
 try_settle-settled-requires-clause-lives g c =
@@ -15,7 +15,7 @@ try_settle-settled-requires-clause-lives g c =
 
 pub read-after-requires-clause-fits : goal.read-after-requires-clause-fits
 read-after-requires-clause-fits g c =
-    fits_after g.F.FrameAccess.rule c.try_settle-settled.ensures.keeps (fits_after g.F.FrameAccess.rule c.kept-before.ensures.keeps c.requires.fits)
+    fits_after g.F.FrameAccess.invariant c.try_settle-settled.ensures.keeps (fits_after g.F.FrameAccess.invariant c.kept-before.ensures.keeps c.requires.fits)
 
 pub read-after-requires-clause-ready : goal.read-after-requires-clause-ready
 read-after-requires-clause-ready g c =
@@ -24,8 +24,8 @@ read-after-requires-clause-ready g c =
 
 pub kept-again-requires-clause-fits : goal.kept-again-requires-clause-fits
 kept-again-requires-clause-fits g c =
-    fits_after g.F.FrameAccess.rule c.read-after.ensures.keeps
-    (fits_after g.F.FrameAccess.rule c.try_settle-settled.ensures.keeps (fits_after g.F.FrameAccess.rule c.kept-before.ensures.keeps c.requires.fits))
+    fits_after g.F.FrameAccess.invariant c.read-after.ensures.keeps
+    (fits_after g.F.FrameAccess.invariant c.try_settle-settled.ensures.keeps (fits_after g.F.FrameAccess.invariant c.kept-before.ensures.keeps c.requires.fits))
 
 pub kept-again-requires-clause-ready : goal.kept-again-requires-clause-ready
 kept-again-requires-clause-ready g c =
@@ -47,9 +47,9 @@ returns-then-not-settled-clause-keeps g c others r =
 
 pub read-fresh-requires-clause-fits : goal.read-fresh-requires-clause-fits
 read-fresh-requires-clause-fits g c =
-    fits_after g.F.FrameAccess.rule c.kept-again.ensures.keeps
-    (fits_after g.F.FrameAccess.rule c.read-after.ensures.keeps
-    (fits_after g.F.FrameAccess.rule c.try_settle-settled.ensures.keeps (fits_after g.F.FrameAccess.rule c.kept-before.ensures.keeps c.requires.fits)))
+    fits_after g.F.FrameAccess.invariant c.kept-again.ensures.keeps
+    (fits_after g.F.FrameAccess.invariant c.read-after.ensures.keeps
+    (fits_after g.F.FrameAccess.invariant c.try_settle-settled.ensures.keeps (fits_after g.F.FrameAccess.invariant c.kept-before.ensures.keeps c.requires.fits)))
 
 pub read-fresh-requires-clause-ready : goal.read-fresh-requires-clause-ready
 read-fresh-requires-clause-ready g c =
@@ -60,10 +60,10 @@ read-fresh-requires-clause-ready g c =
 
 pub kept-written-requires-clause-fits : goal.kept-written-requires-clause-fits
 kept-written-requires-clause-fits g c =
-    fits_after g.F.FrameAccess.rule c.read-fresh.ensures.keeps
-    (fits_after g.F.FrameAccess.rule c.kept-again.ensures.keeps
-    (fits_after g.F.FrameAccess.rule c.read-after.ensures.keeps
-    (fits_after g.F.FrameAccess.rule c.try_settle-settled.ensures.keeps (fits_after g.F.FrameAccess.rule c.kept-before.ensures.keeps c.requires.fits))))
+    fits_after g.F.FrameAccess.invariant c.read-fresh.ensures.keeps
+    (fits_after g.F.FrameAccess.invariant c.kept-again.ensures.keeps
+    (fits_after g.F.FrameAccess.invariant c.read-after.ensures.keeps
+    (fits_after g.F.FrameAccess.invariant c.try_settle-settled.ensures.keeps (fits_after g.F.FrameAccess.invariant c.kept-before.ensures.keeps c.requires.fits))))
 
 pub kept-written-requires-clause-ready : goal.kept-written-requires-clause-ready
 kept-written-requires-clause-ready g c =

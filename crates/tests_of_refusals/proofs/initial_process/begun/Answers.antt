@@ -7,7 +7,7 @@ share_frame_zero-requires-clause-anchored g c = held_when_reserved _ _ _ c.reser
 
 pub start-requires-clause-fits : goal.start-requires-clause-fits
 start-requires-clause-fits g c =
-    let rule = g.F.FrameAccess.rule in
+    let rule = g.F.FrameAccess.invariant in
     opened_fits rule (g.met.F.FrameAccess.comes_front _) c.in_ok-seat.ensures.keeps
     (fits_after rule c.share_frame_zero.ensures.keeps (fits_after rule c.reserve.ensures.keeps c.requires.fits))
 
@@ -19,5 +19,5 @@ returns-in-Ok-clause-alive g c = let started = c.in-Ok.ensures.started in (start
 
 pub returns-in-Ok-clause-keeps : goal.returns-in-Ok-clause-keeps
 returns-in-Ok-clause-keeps g c others r =
-    opened_keeps g.F.FrameAccess.rule (g.met.F.FrameAccess.comes_front _) c.in_ok-seat.ensures.keeps c.in-Ok.ensures.keeps others
+    opened_keeps g.F.FrameAccess.invariant (g.met.F.FrameAccess.comes_front _) c.in_ok-seat.ensures.keeps c.in-Ok.ensures.keeps others
     (c.share_frame_zero.ensures.keeps others (c.reserve.ensures.keeps others r))

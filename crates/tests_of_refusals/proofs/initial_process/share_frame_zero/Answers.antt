@@ -3,7 +3,7 @@ use Rattle.tests_of_refusals.proofs.Seats.{held_when_shared}
 use Rattle.tests_of_refusals.proofs.initial_process.share_frame_zero.Goals as goal
 
 pub share-requires-clause-fits : goal.share-requires-clause-fits
-share-requires-clause-fits g c = fits_after g.F.FrameAccess.rule c.times.invariant.keeps c.requires.fits
+share-requires-clause-fits g c = fits_after g.F.FrameAccess.invariant c.times.invariant.keeps c.requires.fits
 
 pub returns-in_err-share-clause-anchored : goal.returns-in_err-share-clause-anchored
 returns-in_err-share-clause-anchored g c = held_when_shared _ _ _ c.share.ensures.ok c.share.ensures.err c.times.invariant.anchored

@@ -4,13 +4,13 @@ use Rattle.tests_of_refusals.proofs.Living.{alive_still, space_still}
 use Rattle.tests_of_refusals.proofs.observation.see_pages.Goals as goal
 
 pub next_settled-requires-clause-fits : goal.next_settled-requires-clause-fits
-next_settled-requires-clause-fits g c = fits_after g.F.FrameAccess.rule c.pages.invariant.keeps c.requires.fits
+next_settled-requires-clause-fits g c = fits_after g.F.FrameAccess.invariant c.pages.invariant.keeps c.requires.fits
 
 pub next_settled-requires-clause-ready : goal.next_settled-requires-clause-ready
 next_settled-requires-clause-ready g c = let alive = c.pages.invariant.alive in (alive.0, alive.1, space_in_call alive.2)
 
 pub page_bytes-requires-clause-fits : goal.page_bytes-requires-clause-fits
-page_bytes-requires-clause-fits g c = fits_after g.F.FrameAccess.rule c.next_settled.ensures.keeps (fits_after g.F.FrameAccess.rule c.pages.invariant.keeps c.requires.fits)
+page_bytes-requires-clause-fits g c = fits_after g.F.FrameAccess.invariant c.next_settled.ensures.keeps (fits_after g.F.FrameAccess.invariant c.pages.invariant.keeps c.requires.fits)
 
 pub page_bytes-requires-clause-ready : goal.page_bytes-requires-clause-ready
 page_bytes-requires-clause-ready g c =

@@ -14,7 +14,7 @@ reserved_all-free-requires g c =
     let fits = c.requires.fits in
     record {
       fits =
-          keeper_fits g.F.FrameAccess.rule _ (seats_of c.first_wrong.new.space c.first_wrong.new.child) _ fits.0 (g.met.F.FrameAccess.comes_front _)
+          keeper_fits g.F.FrameAccess.invariant _ (seats_of c.first_wrong.new.space c.first_wrong.new.child) _ fits.0 (g.met.F.FrameAccess.comes_front _)
           (c.first_wrong.ensures.keeps (c.begun.new.keeper ∷ fits.0) (c.in_ok-space.ensures.keeps fits.0 fits.1));
     }
 
@@ -22,7 +22,7 @@ pub ended-seat-requires-clause-fits : goal.ended-seat-requires-clause-fits
 ended-seat-requires-clause-fits g c =
     let fits = c.requires.fits in (
       c.reserved_all-free.new.keeper ∷ fits.0,
-      keeper_keeps g.F.FrameAccess.rule _ _ (seats_of c.first_wrong.new.space c.first_wrong.new.child) _ _ (g.met.F.FrameAccess.comes_front _) (g.met.F.FrameAccess.goes_back _)
+      keeper_keeps g.F.FrameAccess.invariant _ _ (seats_of c.first_wrong.new.space c.first_wrong.new.child) _ _ (g.met.F.FrameAccess.comes_front _) (g.met.F.FrameAccess.goes_back _)
           c.reserved_all-free.ensures.keeps fits.0
           (c.first_wrong.ensures.keeps (c.begun.new.keeper ∷ fits.0) (c.in_ok-space.ensures.keeps fits.0 fits.1)),
     )
@@ -34,7 +34,7 @@ join-requires g c =
       fits = (
         fits.0,
         c.ended-seat.ensures.keeps (c.reserved_all-free.new.keeper ∷ fits.0)
-            (keeper_keeps g.F.FrameAccess.rule _ _ (seats_of c.first_wrong.new.space c.first_wrong.new.child) _ _ (g.met.F.FrameAccess.comes_front _) (g.met.F.FrameAccess.goes_back _)
+            (keeper_keeps g.F.FrameAccess.invariant _ _ (seats_of c.first_wrong.new.space c.first_wrong.new.child) _ _ (g.met.F.FrameAccess.comes_front _) (g.met.F.FrameAccess.goes_back _)
             c.reserved_all-free.ensures.keeps fits.0
             (c.first_wrong.ensures.keeps (c.begun.new.keeper ∷ fits.0) (c.in_ok-space.ensures.keeps fits.0 fits.1))),
       );
@@ -44,7 +44,7 @@ pub returns : goal.returns
 returns g c = record {
   keeps = λ others r. c.join.ensures.keeps others
       (c.ended-seat.ensures.keeps (c.reserved_all-free.new.keeper ∷ others)
-      (keeper_keeps g.F.FrameAccess.rule _ _ (seats_of c.first_wrong.new.space c.first_wrong.new.child) _ _ (g.met.F.FrameAccess.comes_front _) (g.met.F.FrameAccess.goes_back _)
+      (keeper_keeps g.F.FrameAccess.invariant _ _ (seats_of c.first_wrong.new.space c.first_wrong.new.child) _ _ (g.met.F.FrameAccess.comes_front _) (g.met.F.FrameAccess.goes_back _)
       c.reserved_all-free.ensures.keeps others
       (c.first_wrong.ensures.keeps (c.begun.new.keeper ∷ others) (c.in_ok-space.ensures.keeps others r))));
 }

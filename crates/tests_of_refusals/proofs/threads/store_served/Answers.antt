@@ -3,7 +3,7 @@ use Rattle.tests_of_refusals.proofs.Living.{alive_served}
 use Rattle.tests_of_refusals.proofs.threads.store_served.Goals as goal
 
 pub serve-requires-clause-fits : goal.serve-requires-clause-fits
-serve-requires-clause-fits g c = fits_after g.F.FrameAccess.rule c.access.ensures.keeps c.requires.fits
+serve-requires-clause-fits g c = fits_after g.F.FrameAccess.invariant c.access.ensures.keeps c.requires.fits
 
 pub returns-then-ne-clause-alive : goal.returns-then-ne-clause-alive
 returns-then-ne-clause-alive g c =
@@ -14,7 +14,7 @@ pub returns-then-ne-clause-keeps : goal.returns-then-ne-clause-keeps
 returns-then-ne-clause-keeps g c others r = c.serve.ensures.served.keeps others (c.access.ensures.keeps others r)
 
 pub access-requires-2-clause-fits : goal.access-requires-2-clause-fits
-access-requires-2-clause-fits g c = fits_after g.F.FrameAccess.rule c.serve.ensures.served.keeps (fits_after g.F.FrameAccess.rule c.access.ensures.keeps c.requires.fits)
+access-requires-2-clause-fits g c = fits_after g.F.FrameAccess.invariant c.serve.ensures.served.keeps (fits_after g.F.FrameAccess.invariant c.access.ensures.keeps c.requires.fits)
 
 pub access-requires-2-clause-alive : goal.access-requires-2-clause-alive
 access-requires-2-clause-alive g c =

@@ -1,6 +1,6 @@
 use Rattle.std.proofs.Common.{◌≤◌, ◌*◌, ◌-◌, [], ap, arith, sym, ◌∙◌, refl}
 use Rattle.frame_store.specs.Laws.{fits_after}
-use Rattle.frame_store.specs.Plain.{PlainStateRule}
+use Rattle.frame_store.specs.Plain.{PlainStateInvariant}
 use Rattle.frame_store.specs.View.{View}
 use Rattle.tests_of_tables.proofs.TableSteps.{enough_left, enough_now, of_ok, reserved_held, same_view}
 use Rattle.table_walk.specs.LeafBacking.{kernel_backed}
@@ -8,7 +8,7 @@ use Rattle.table_walk.specs.SameFrames.{same_held, same_tables}
 use Rattle.tests_of_tables.proofs.walks.mapped.Goals as goal
 
 pub new_table-root-requires-clause-fits : goal.new_table-root-requires-clause-fits
-new_table-root-requires-clause-fits c = fits_after PlainStateRule c.reserve-reserved.ensures.keeps ([], c.in_ok-frames.ensures.rule)
+new_table-root-requires-clause-fits c = fits_after PlainStateInvariant c.reserve-reserved.ensures.keeps ([], c.in_ok-frames.ensures.invariant)
 
 pub new_table-root-requires-clause-anchored : goal.new_table-root-requires-clause-anchored
 new_table-root-requires-clause-anchored c =
@@ -16,7 +16,7 @@ new_table-root-requires-clause-anchored c =
     reserved_held _ _ 20 c.in_ok-frames.ensures.seat reserved
 
 pub leave_words-requires-clause-fits : goal.leave_words-requires-clause-fits
-leave_words-requires-clause-fits c = fits_after PlainStateRule c.new_table-root.ensures.keeps (fits_after PlainStateRule c.reserve-reserved.ensures.keeps ([], c.in_ok-frames.ensures.rule))
+leave_words-requires-clause-fits c = fits_after PlainStateInvariant c.new_table-root.ensures.keeps (fits_after PlainStateInvariant c.reserve-reserved.ensures.keeps ([], c.in_ok-frames.ensures.invariant))
 
 pub leave_words-requires-clause-credit : goal.leave_words-requires-clause-credit
 leave_words-requires-clause-credit c =
@@ -40,7 +40,7 @@ loop-index-init c =
     let spent = ap (λ (v : View). v.credits) root.view in
     let left = c.leave_words.ensures in
     record {
-      rule = left.keeps [] (root.keeps [] (c.reserve-reserved.ensures.keeps [] c.in_ok-frames.ensures.rule));
+      rule = left.keeps [] (root.keeps [] (c.reserve-reserved.ensures.keeps [] c.in_ok-frames.ensures.invariant));
       anchored = same_held _ _ 0 (left.kept 0 root.anchored) root.anchored;
       tables = (_, same_tables _ _ _ _ (λ k f at. left.kept f ((root.root c.args.scheme).own k f at).0) (root.root c.args.scheme), omega (arith, opened, had, spent, left.credits));
     }

@@ -7,7 +7,7 @@ use Rattle.tests_of_tables.proofs.walks.releases_what_was_made.Goals as goal
 use Rattle.sv39_entry.specs.declared.scheme.Scheme.TheVariants.{Sv48}
 
 pub new_table-root-requires-clause-fits : goal.new_table-root-requires-clause-fits
-new_table-root-requires-clause-fits g c = ([], c.reserve-reserved.ensures.keeps [] c.in_ok-frames.ensures.rule)
+new_table-root-requires-clause-fits g c = ([], c.reserve-reserved.ensures.keeps [] c.in_ok-frames.ensures.invariant)
 
 pub new_table-root-requires-clause-anchored : goal.new_table-root-requires-clause-anchored
 new_table-root-requires-clause-anchored g c =
@@ -15,7 +15,7 @@ new_table-root-requires-clause-anchored g c =
     reserved_held _ _ 4 c.in_ok-frames.ensures.seat reserved
 
 pub map-requires-clause-fits : goal.map-requires-clause-fits
-map-requires-clause-fits g c = ([], c.new_table-root.ensures.keeps [] (c.reserve-reserved.ensures.keeps [] c.in_ok-frames.ensures.rule))
+map-requires-clause-fits g c = ([], c.new_table-root.ensures.keeps [] (c.reserve-reserved.ensures.keeps [] c.in_ok-frames.ensures.invariant))
 
 pub map-requires-clause-tables : goal.map-requires-clause-tables
 map-requires-clause-tables g c =
@@ -30,14 +30,14 @@ pub map-requires-clause-backed : goal.map-requires-clause-backed
 map-requires-clause-backed g c = kernel_backed _ _ c.leaf-leaf.ensures.made.for_user
 
 pub unmap-requires-clause-fits : goal.unmap-requires-clause-fits
-unmap-requires-clause-fits g c = ([], c.map.ensures.keeps [] (c.new_table-root.ensures.keeps [] (c.reserve-reserved.ensures.keeps [] c.in_ok-frames.ensures.rule)))
+unmap-requires-clause-fits g c = ([], c.map.ensures.keeps [] (c.new_table-root.ensures.keeps [] (c.reserve-reserved.ensures.keeps [] c.in_ok-frames.ensures.invariant)))
 
 pub unmap-requires-clause-held : goal.unmap-requires-clause-held
 unmap-requires-clause-held g c = (_, (c.map.ensures.tables _ (c.new_table-root.ensures.root Sv48)).2)
 
 pub release_tables-requires-clause-fits : goal.release_tables-requires-clause-fits
 release_tables-requires-clause-fits g c =
-    ([], c.unmap.ensures.keeps [] (c.map.ensures.keeps [] (c.new_table-root.ensures.keeps [] (c.reserve-reserved.ensures.keeps [] c.in_ok-frames.ensures.rule))))
+    ([], c.unmap.ensures.keeps [] (c.map.ensures.keeps [] (c.new_table-root.ensures.keeps [] (c.reserve-reserved.ensures.keeps [] c.in_ok-frames.ensures.invariant))))
 
 pub release_tables-requires-clause-bare : goal.release_tables-requires-clause-bare
 release_tables-requires-clause-bare g c =

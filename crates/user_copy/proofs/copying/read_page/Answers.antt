@@ -15,7 +15,7 @@ pub returns-in_err-reach-clause-space : goal.returns-in_err-reach-clause-space
 returns-in_err-reach-clause-space g c = still_reaches _ _ _ _ _ _ c.reach.ensures.reaches
 
 pub read_run-requires-clause-fits : goal.read_run-requires-clause-fits
-read_run-requires-clause-fits g c = fits_after g.F.FrameAccess.rule c.reach.ensures.reaches.keeps c.requires.fits
+read_run-requires-clause-fits g c = fits_after g.F.FrameAccess.invariant c.reach.ensures.reaches.keeps c.requires.fits
 
 pub read_run-requires-clause-ready : goal.read_run-requires-clause-ready
 read_run-requires-clause-ready g c = let r = c.requires.ready in may_load _ _ _ _ _ c.in_ok-reach.ensures.reaches r.0 r.1 r.2

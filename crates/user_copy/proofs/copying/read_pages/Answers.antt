@@ -53,7 +53,7 @@ read_page-requires-2-clause-few g c =
     omega (arith, at, few, none, c.in_ok-read_page.ensures.more, c.requires.few)
 
 pub read_page-requires-2-clause-fits : goal.read_page-requires-2-clause-fits
-read_page-requires-2-clause-fits g c = fits_after g.F.FrameAccess.rule c.read_page.ensures.keeps c.requires.fits
+read_page-requires-2-clause-fits g c = fits_after g.F.FrameAccess.invariant c.read_page.ensures.keeps c.requires.fits
 
 pub read_page-requires-2-clause-ready : goal.read_page-requires-2-clause-ready
 read_page-requires-2-clause-ready g c = let r = c.requires.ready in c.read_page.ensures.space r.0 r.1 r.2

@@ -15,7 +15,7 @@ pub returns-in-Err-clause-space : goal.returns-in-Err-clause-space
 returns-in-Err-clause-space g c = still_reaches _ _ _ _ _ _ c.reach.ensures.reaches
 
 pub write_run-requires-clause-fits : goal.write_run-requires-clause-fits
-write_run-requires-clause-fits g c = fits_after g.F.FrameAccess.rule c.reach.ensures.reaches.keeps c.requires.fits
+write_run-requires-clause-fits g c = fits_after g.F.FrameAccess.invariant c.reach.ensures.reaches.keeps c.requires.fits
 
 pub write_run-requires-clause-ready : goal.write_run-requires-clause-ready
 write_run-requires-clause-ready g c = let r = c.requires.ready in may_store _ _ _ _ c.in_default.ensures.reaches r.0 r.1 r.2

@@ -37,7 +37,7 @@ overflow_add-next g c =
     omega (arith, at, few, c.requires.few, low, of_scheme c.args.space.now.layout.scheme)
 
 pub write_page-requires-2-clause-fits : goal.write_page-requires-2-clause-fits
-write_page-requires-2-clause-fits g c = fits_after g.F.FrameAccess.rule c.write_page.ensures.keeps c.requires.fits
+write_page-requires-2-clause-fits g c = fits_after g.F.FrameAccess.invariant c.write_page.ensures.keeps c.requires.fits
 
 pub write_page-requires-2-clause-ready : goal.write_page-requires-2-clause-ready
 write_page-requires-2-clause-ready g c = let r = c.requires.ready in c.write_page.ensures.space r.0 r.1 r.2

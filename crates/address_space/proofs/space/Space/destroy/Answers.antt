@@ -8,7 +8,7 @@ pub strip-seat-requires-clause-ready : goal.strip-seat-requires-clause-ready
 strip-seat-requires-clause-ready g c = let r = c.requires.ready in (r.0, r.1, space_in_call r.2)
 
 pub release-requires-clause-fits : goal.release-requires-clause-fits
-release-requires-clause-fits g c = fits_after g.F.FrameAccess.rule c.strip-seat.ensures.keeps c.requires.fits
+release-requires-clause-fits g c = fits_after g.F.FrameAccess.invariant c.strip-seat.ensures.keeps c.requires.fits
 
 pub release-requires-clause-held : goal.release-requires-clause-held
 release-requires-clause-held g c = rw c.strip-seat.ensures.trapframe (saved_held _ _ _ c.strip-seat.ensures.holds refl)
@@ -18,7 +18,7 @@ release-requires-clause-anchored g c = rw c.strip-seat.ensures.trapframe (anchor
 
 pub release-requires-2-clause-fits : goal.release-requires-2-clause-fits
 release-requires-2-clause-fits g c =
-    fits_after g.F.FrameAccess.rule c.release.ensures.keeps (fits_after g.F.FrameAccess.rule c.strip-seat.ensures.keeps c.requires.fits)
+    fits_after g.F.FrameAccess.invariant c.release.ensures.keeps (fits_after g.F.FrameAccess.invariant c.strip-seat.ensures.keeps c.requires.fits)
 
 pub release-requires-2-clause-held : goal.release-requires-2-clause-held
 release-requires-2-clause-held g c = code_held _ _ _ c.strip-seat.ensures.holds (rw c.strip-seat.ensures.trapframe at c.release.ensures.view)

@@ -38,7 +38,7 @@ leaf-leaf-requires g c =
     record { leafy = mark_leafy r.3 _ at }
 
 pub protect-requires-clause-fits : goal.protect-requires-clause-fits
-protect-requires-clause-fits g c = fits_after g.F.FrameAccess.rule c.frame_of.ensures.keeps c.requires.fits
+protect-requires-clause-fits g c = fits_after g.F.FrameAccess.invariant c.frame_of.ensures.keeps c.requires.fits
 
 pub protect-requires-clause-mapped : goal.protect-requires-clause-mapped
 protect-requires-clause-mapped g c =

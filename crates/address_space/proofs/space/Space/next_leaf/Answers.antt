@@ -30,7 +30,7 @@ returns-in-Some-clause-kept g c t p space k =
     last_of_scheme t c.leaf_before.new.last (sym same) (c.leaf_before.ensures.kept t (tables_of_scheme same space.stands.tables) (last_of_scheme t c.args.last.now same k))
 
 pub search_leaf-requires-clause-fits : goal.search_leaf-requires-clause-fits
-search_leaf-requires-clause-fits g c = fits_after g.F.FrameAccess.rule c.leaf_before.ensures.keeps c.requires.fits
+search_leaf-requires-clause-fits g c = fits_after g.F.FrameAccess.invariant c.leaf_before.ensures.keeps c.requires.fits
 
 -- the space after the try of the first page has the body that it had
 pub search_leaf-requires-clause-ready : goal.search_leaf-requires-clause-ready

@@ -65,7 +65,7 @@ unreachable-requires-in_default-frame_of g c =
     cc (some, c.in_default-frame_of.is)
 
 pub look-sole-requires-clause-fits : goal.look-sole-requires-clause-fits
-look-sole-requires-clause-fits g c = fits_after g.F.FrameAccess.rule c.frame_of.ensures.keeps c.requires.fits
+look-sole-requires-clause-fits g c = fits_after g.F.FrameAccess.invariant c.frame_of.ensures.keeps c.requires.fits
 
 pub look-sole-requires-clause-held : goal.look-sole-requires-clause-held
 look-sole-requires-clause-held g c =
@@ -76,7 +76,7 @@ look-sole-requires-clause-held g c =
 
 pub protect-requires-clause-fits : goal.protect-requires-clause-fits
 protect-requires-clause-fits g c =
-    let rule = g.F.FrameAccess.rule in
+    let rule = g.F.FrameAccess.invariant in
     fits_after rule c.look-sole.ensures.keeps (fits_after rule c.frame_of.ensures.keeps c.requires.fits)
 
 pub protect-requires-clause-mapped : goal.protect-requires-clause-mapped
@@ -131,7 +131,7 @@ returns-then-sole-clause-keeps g c = λ others r. c.protect.ensures.keeps others
 
 pub reserve-requires : goal.reserve-requires
 reserve-requires g c =
-    let rule = g.F.FrameAccess.rule in
+    let rule = g.F.FrameAccess.invariant in
     record { fits = fits_after rule c.look-sole.ensures.keeps (fits_after rule c.frame_of.ensures.keeps c.requires.fits) }
 
 failed : (g : given.Over) (c : After-from_residual g) → is_ok c.from_residual.result ≡ false
@@ -166,7 +166,7 @@ returns-in_err-reserve-clause-keeps g c = λ others r. c.reserve.ensures.keeps o
 
 pub separate-requires-clause-fits : goal.separate-requires-clause-fits
 separate-requires-clause-fits g c =
-    let rule = g.F.FrameAccess.rule in
+    let rule = g.F.FrameAccess.invariant in
     fits_after rule c.reserve.ensures.keeps (fits_after rule c.look-sole.ensures.keeps (fits_after rule c.frame_of.ensures.keeps c.requires.fits))
 
 pub separate-requires-clause-ready : goal.separate-requires-clause-ready

@@ -3,7 +3,7 @@ use Rattle.address_space.proofs.Writing.{on_page}
 use Rattle.address_space.proofs.space.Space.page_bytes.Goals as goal
 
 pub read_frame-requires-clause-fits : goal.read_frame-requires-clause-fits
-read_frame-requires-clause-fits g c = fits_after g.F.FrameAccess.rule c.page_frame-frame.ensures.keeps c.requires.fits
+read_frame-requires-clause-fits g c = fits_after g.F.FrameAccess.invariant c.page_frame-frame.ensures.keeps c.requires.fits
 
 pub read_frame-requires-clause-held : goal.read_frame-requires-clause-held
 read_frame-requires-clause-held g c =

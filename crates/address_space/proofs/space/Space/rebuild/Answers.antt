@@ -43,7 +43,7 @@ module _ (g : given.Over) (c : After-release_emptied g) where
   credits = stripped.credits ∙ far.1.credits ∙ c.requires.credits
 
 pub release_emptied-requires-clause-fits : goal.release_emptied-requires-clause-fits
-release_emptied-requires-clause-fits g c = fits_after g.F.FrameAccess.rule c.drop_run.ensures.keeps c.requires.fits
+release_emptied-requires-clause-fits g c = fits_after g.F.FrameAccess.invariant c.drop_run.ensures.keeps c.requires.fits
 
 pub release_emptied-requires-clause-emptied : goal.release_emptied-requires-clause-emptied
 release_emptied-requires-clause-emptied g c =
@@ -55,7 +55,7 @@ release_emptied-requires-clause-emptied g c =
 
 pub open_tables-self-requires-clause-fits : goal.open_tables-self-requires-clause-fits
 open_tables-self-requires-clause-fits g c =
-    fits_after g.F.FrameAccess.rule c.release_emptied.ensures.keeps (fits_after g.F.FrameAccess.rule c.drop_run.ensures.keeps c.requires.fits)
+    fits_after g.F.FrameAccess.invariant c.release_emptied.ensures.keeps (fits_after g.F.FrameAccess.invariant c.drop_run.ensures.keeps c.requires.fits)
 
 pub open_tables-self-requires-clause-ready : goal.open_tables-self-requires-clause-ready
 open_tables-self-requires-clause-ready g c =
@@ -64,8 +64,8 @@ open_tables-self-requires-clause-ready g c =
 
 pub fill_parts-requires-clause-fits : goal.fill_parts-requires-clause-fits
 fill_parts-requires-clause-fits g c =
-    fits_after g.F.FrameAccess.rule c.open_tables-self.ensures.keeps
-    (fits_after g.F.FrameAccess.rule c.release_emptied.ensures.keeps (fits_after g.F.FrameAccess.rule c.drop_run.ensures.keeps c.requires.fits))
+    fits_after g.F.FrameAccess.invariant c.open_tables-self.ensures.keeps
+    (fits_after g.F.FrameAccess.invariant c.release_emptied.ensures.keeps (fits_after g.F.FrameAccess.invariant c.drop_run.ensures.keeps c.requires.fits))
 
 pub fill_parts-requires-clause-ready : goal.fill_parts-requires-clause-ready
 fill_parts-requires-clause-ready g c =

@@ -28,7 +28,7 @@ unreachable-requires g c =
     cc (found, none, can.in_region)
 
 pub reserve-requires : goal.reserve-requires
-reserve-requires g c = record { fits = fits_after g.F.FrameAccess.rule c.missing_tables-missing.ensures.keeps c.requires.fits }
+reserve-requires g c = record { fits = fits_after g.F.FrameAccess.invariant c.missing_tables-missing.ensures.keeps c.requires.fits }
 
 pub returns-in_err-reserve-clause-dry : goal.returns-in_err-reserve-clause-dry
 returns-in_err-reserve-clause-dry g c = if_err _ _
@@ -53,7 +53,7 @@ pub returns-in_err-reserve-clause-keeps : goal.returns-in_err-reserve-clause-kee
 returns-in_err-reserve-clause-keeps g c = λ others r. c.reserve.ensures.keeps others (c.missing_tables-missing.ensures.keeps others r)
 
 pub add_page-requires-clause-fits : goal.add_page-requires-clause-fits
-add_page-requires-clause-fits g c = fits_after g.F.FrameAccess.rule c.reserve.ensures.keeps (fits_after g.F.FrameAccess.rule c.missing_tables-missing.ensures.keeps c.requires.fits)
+add_page-requires-clause-fits g c = fits_after g.F.FrameAccess.invariant c.reserve.ensures.keeps (fits_after g.F.FrameAccess.invariant c.missing_tables-missing.ensures.keeps c.requires.fits)
 
 pub add_page-requires-clause-ready : goal.add_page-requires-clause-ready
 add_page-requires-clause-ready g c =

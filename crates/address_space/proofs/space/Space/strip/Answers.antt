@@ -27,7 +27,7 @@ pub drop_run-requires-clause-ready : goal.drop_run-requires-clause-ready
 drop_run-requires-clause-ready g c = let r = c.requires.ready in (c.args.self.trapframe.0, r.0, r.1, r.2.lays.scheme ∙ sym c.scheme-scheme.ensures, r.2.stands)
 
 pub release_emptied-requires-clause-fits : goal.release_emptied-requires-clause-fits
-release_emptied-requires-clause-fits g c = fits_after g.F.FrameAccess.rule c.drop_run.ensures.keeps c.requires.fits
+release_emptied-requires-clause-fits g c = fits_after g.F.FrameAccess.invariant c.drop_run.ensures.keeps c.requires.fits
 
 pub release_emptied-requires-clause-emptied : goal.release_emptied-requires-clause-emptied
 release_emptied-requires-clause-emptied g c =

@@ -7,7 +7,7 @@ pub page_frame-frame-requires-clause-ready : goal.page_frame-frame-requires-clau
 page_frame-frame-requires-clause-ready g c = let r = c.requires.ready in (r.0, r.1, r.2, rw c.page.ensures.number (at_page r.3.read))
 
 pub write_at-requires-clause-fits : goal.write_at-requires-clause-fits
-write_at-requires-clause-fits g c = fits_after g.F.FrameAccess.rule c.page_frame-frame.ensures.keeps c.requires.fits
+write_at-requires-clause-fits g c = fits_after g.F.FrameAccess.invariant c.page_frame-frame.ensures.keeps c.requires.fits
 
 pub write_at-requires-clause-ready : goal.write_at-requires-clause-ready
 write_at-requires-clause-ready g c =

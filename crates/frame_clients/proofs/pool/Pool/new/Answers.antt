@@ -7,4 +7,4 @@ pub loop-preserved : goal.loop-preserved
 loop-preserved c = one_pushed _ _ _ c.loop.counter _ c.loop.auto.counter c.loop.invariant c.in_ok-push-2.ensures.items
 
 pub invariant_of-result : goal.invariant_of-result
-invariant_of-result c = pool_opening _ _ _ _ (c.loop.counter - 1) (grind (arith, common_steps)) c.in_ok-store.ensures.seat c.in_ok-store.ensures.rule
+invariant_of-result c = pool_opening _ _ _ _ (c.loop.counter - 1) (grind (arith, common_steps)) c.in_ok-store.ensures.seat c.in_ok-store.ensures.invariant

@@ -14,7 +14,7 @@ words-init g c = record {
 }
 
 pub load-word-requires-clause-fits : goal.load-word-requires-clause-fits
-load-word-requires-clause-fits g c = fits_after g.Self.FrameAccess.rule c.words.invariant.keeps c.requires.fits
+load-word-requires-clause-fits g c = fits_after g.Self.FrameAccess.invariant c.words.invariant.keeps c.requires.fits
 
 pub load-word-requires-clause-held : goal.load-word-requires-clause-held
 load-word-requires-clause-held g c = subst (λ v. IsHeld v c.args.frame.0) (sym c.words.invariant.view) c.requires.held

@@ -1,6 +1,6 @@
 use Rattle.std.proofs.Common.{◌≡◌, arith, rules, subst}
 use Rattle.std.specs.Prelude.{replicate}
-use Rattle.frame_store.proofs.PlainSteps.{rule-open}
+use Rattle.frame_store.proofs.PlainSteps.{invariant-open}
 use Rattle.frame_store.proofs.Unused.{all_listed, ListsFrom}
 use Rattle.frame_store.proofs.plain.PlainFrames.new.Goals as goal
 
@@ -10,7 +10,7 @@ invariant_of-store c =
     let all : c.loop-frame.frame ≡ c.args.frames = omega (arith, c.loop-frame.auto.frame-end) in
     rw counts (all_listed _ c.args.frames c.requires.some c.requires.few (subst (ListsFrom c.loop-frame.unused.items) all c.loop-frame.invariant))
 
-pub returns-clause-rule : goal.returns-clause-rule
-returns-clause-rule c =
+pub returns-clause-invariant : goal.returns-clause-invariant
+returns-clause-invariant c =
     let counts : c.in_ok-counts.counts.items ≡ replicate c.args.frames 0 = search rules in
-    rw (c.in_ok-words.ensures.zeros, counts, c.knowing.ensures) (rule-open c.args.frames c.requires.some c.requires.few)
+    rw (c.in_ok-words.ensures.zeros, counts, c.knowing.ensures) (invariant-open c.args.frames c.requires.some c.requires.few)

@@ -1,7 +1,7 @@
 use Rattle.std.proofs.Common.{◌≡◌, arith, ap, sym, subst, ◌∙◌, slice_index}
 use Rattle.std.proofs.lemmas.List.{get_or-set_same, get_or-set_other}
 use Rattle.frame_store.specs.Plain.{PlainState, ListsUnused}
-use Rattle.frame_store.proofs.PlainSteps.{rule-claim}
+use Rattle.frame_store.proofs.PlainSteps.{invariant-claim}
 use Rattle.frame_store.proofs.Unused.{one_taken, last_unused}
 use Rattle.frame_store.proofs.plain.PlainFramesFrameSupply.claim.Goals as goal
 
@@ -19,7 +19,7 @@ pub returns-clause-keeps : goal.returns-clause-keeps
 returns-clause-keeps c = λ others r.
     let last = last_unused _ _ c.in-Some.number (subst (λ us. ListsUnused us c.self.inside.counts.items) c.in-Some.ensures.items c.self.invariant) in
     let before = rw (← c.self.view_is, ← c.seat.view_is) at r in
-    rw c.knowing-seat-inside.ensures (rule-claim _ _ _ _ _ c.in-Some.number before last.0 last.1 (rw (← c.seat.view_is) at c.requires.credit))
+    rw c.knowing-seat-inside.ensures (invariant-claim _ _ _ _ _ c.in-Some.number before last.0 last.1 (rw (← c.seat.view_is) at c.requires.credit))
 
 pub returns-clause-was_free : goal.returns-clause-was_free
 returns-clause-was_free c = λ a.

@@ -11,15 +11,15 @@ use Rattle.hart_calls.proofs.Journals.{forks_more, one_longer, plain_forks}
 use Rattle.shared_frames.specs.SeatsOfTable.{fits_still, may_step, view_of}
 use Rattle.hart_calls.proofs.tracked.Tracked.access_at_once.Goals as goal
 
-pub permitted_there-requires-clause-fits : goal.permitted_there-requires-clause-fits
-permitted_there-requires-clause-fits g c = may_step _ _ c.self.inside.parts.space.value.seat c.requires.store c.self.invariant.0
+pub permitted_boxed-requires-clause-fits : goal.permitted_boxed-requires-clause-fits
+permitted_boxed-requires-clause-fits g c = may_step _ _ c.self.inside.parts.space.value.seat c.requires.store c.self.invariant.0
 
 -- ---- it was not made
 
 pub invariant_of-self : goal.invariant_of-self
 invariant_of-self g c =
     let i = c.self.invariant in (
-      (fits_still _ _ _ c.self.inside.parts.space.value.seat c.permitted_there.new.space.value.seat c.requires.store c.permitted_there.ensures.keeps i.0).1,
+      (fits_still _ _ _ c.self.inside.parts.space.value.seat c.permitted_boxed.new.space.value.seat c.requires.store c.permitted_boxed.ensures.keeps i.0).1,
       (i.1.0, subst (λ (b : Body). IsSpace b i.1.0 c.self.inside.parts.present.state) (sym (c.in-None.ensures.none refl)) i.1.1),
       i.2,
       i.3,
@@ -29,7 +29,7 @@ invariant_of-self g c =
     )
 
 pub returns-in-None-clause-store : goal.returns-in-None-clause-store
-returns-in-None-clause-store g c = (fits_still _ _ _ c.self.inside.parts.space.value.seat c.permitted_there.new.space.value.seat c.requires.store c.permitted_there.ensures.keeps c.self.invariant.0).0
+returns-in-None-clause-store g c = (fits_still _ _ _ c.self.inside.parts.space.value.seat c.permitted_boxed.new.space.value.seat c.requires.store c.permitted_boxed.ensures.keeps c.self.invariant.0).0
 
 -- ---- it was made
 
@@ -48,8 +48,8 @@ invariant_of-self-2 g c =
     let i = c.self.invariant in
     let a = request_of c.in-Some.request in
     let x = body_of view_of c.self.inside.parts.space.value in
-    let y = body_of view_of c.permitted_there.new.space.value in
-    let m = c.in-Some-permitted_there.ensures.made c.next.result c.in-Some.ensures i.1.0 c.self.inside.parts.present.state i.1.1 in
+    let y = body_of view_of c.permitted_boxed.new.space.value in
+    let m = c.in-Some-permitted_boxed.ensures.made c.next.result c.in-Some.ensures i.1.0 c.self.inside.parts.present.state i.1.1 in
     let e = c.new-entry.result in
     let n = c.new-entry.ensures in
     let called : call_of e ≡ c.next.result = n.call ∙ c.listed-listed.ensures ∙ sym c.next.ensures in
@@ -59,7 +59,7 @@ invariant_of-self-2 g c =
     let few : length c.self.inside.parts.journal.items < MOST_ENTRIES = (let made = c.len-made.ensures in let not = c.if-made-eq-MOST_ENTRIES.false in let most = i.5 in omega (arith, made, not, most)) in
     let many = i.6 in
     rw c.push_reserved.ensures.items (
-      (fits_still _ _ _ c.self.inside.parts.space.value.seat c.permitted_there.new.space.value.seat c.requires.store c.permitted_there.ensures.keeps i.0).1,
+      (fits_still _ _ _ c.self.inside.parts.space.value.seat c.permitted_boxed.new.space.value.seat c.requires.store c.permitted_boxed.ensures.keeps i.0).1,
       space_at_once t a c.next.result c.in-Some.ensures x y refl _ m e called n.reply pages n.file (n.before ∙ c.kept-was.ensures) no_shelf _ c.after_access-present.ensures,
       one_longer _ _ _ e _ _ i.2 next ([], leads_at_once t a c.next.result c.in-Some.ensures x y refl _ m e called n.reply pages n.file (n.before ∙ c.kept-was.ensures) no_shelf _ c.after_access-present.ensures),
       i.3,
@@ -69,7 +69,7 @@ invariant_of-self-2 g c =
     )
 
 pub returns-clause-store : goal.returns-clause-store
-returns-clause-store g c = (fits_still _ _ _ c.self.inside.parts.space.value.seat c.permitted_there.new.space.value.seat c.requires.store c.permitted_there.ensures.keeps c.self.invariant.0).0
+returns-clause-store g c = (fits_still _ _ _ c.self.inside.parts.space.value.seat c.permitted_boxed.new.space.value.seat c.requires.store c.permitted_boxed.ensures.keeps c.self.invariant.0).0
 
 pub returns-clause-made : goal.returns-clause-made
 returns-clause-made g c =
@@ -86,8 +86,8 @@ returns-clause-made g c =
     let i = c.self.invariant in
     let a = request_of c.in-Some.request in
     let x = body_of view_of c.self.inside.parts.space.value in
-    let y = body_of view_of c.permitted_there.new.space.value in
-    let m = c.in-Some-permitted_there.ensures.made c.next.result c.in-Some.ensures i.1.0 c.self.inside.parts.present.state i.1.1 in
+    let y = body_of view_of c.permitted_boxed.new.space.value in
+    let m = c.in-Some-permitted_boxed.ensures.made c.next.result c.in-Some.ensures i.1.0 c.self.inside.parts.present.state i.1.1 in
     let e = c.new-entry.result in
     let n = c.new-entry.ensures in
     let called : call_of e ≡ c.next.result = n.call ∙ c.listed-listed.ensures ∙ sym c.next.ensures in
@@ -110,8 +110,8 @@ returns-clause-files g c =
     let i = c.self.invariant in
     let a = request_of c.in-Some.request in
     let x = body_of view_of c.self.inside.parts.space.value in
-    let y = body_of view_of c.permitted_there.new.space.value in
-    let m = c.in-Some-permitted_there.ensures.made c.next.result c.in-Some.ensures i.1.0 c.self.inside.parts.present.state i.1.1 in
+    let y = body_of view_of c.permitted_boxed.new.space.value in
+    let m = c.in-Some-permitted_boxed.ensures.made c.next.result c.in-Some.ensures i.1.0 c.self.inside.parts.present.state i.1.1 in
     let e = c.new-entry.result in
     let n = c.new-entry.ensures in
     let called : call_of e ≡ c.next.result = n.call ∙ c.listed-listed.ensures ∙ sym c.next.ensures in

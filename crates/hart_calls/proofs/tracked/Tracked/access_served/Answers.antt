@@ -19,14 +19,14 @@ use Rattle.shared_frames.specs.SeatsOfTable.{fits_still, may_step, view_of}
 use Rattle.hart_calls.proofs.tracked.Tracked.access_served.Goals as goal
 use Rattle.process_model.specs.declared.limits.TheConstants.{MOST_ENTRIES}
 
-pub make_there-call_result-requires-clause-fits : goal.make_there-call_result-requires-clause-fits
-make_there-call_result-requires-clause-fits g c = may_step _ _ c.self.inside.parts.space.value.seat c.requires.store c.self.invariant.0
+pub make_boxed-call_result-requires-clause-fits : goal.make_boxed-call_result-requires-clause-fits
+make_boxed-call_result-requires-clause-fits g c = may_step _ _ c.self.inside.parts.space.value.seat c.requires.store c.self.invariant.0
 
-pub make_there-call_result-requires-clause-plain : goal.make_there-call_result-requires-clause-plain
-make_there-call_result-requires-clause-plain g c = is_plain_access c.next-call.result (c.if-not-is_access.ensures refl)
+pub make_boxed-call_result-requires-clause-plain : goal.make_boxed-call_result-requires-clause-plain
+make_boxed-call_result-requires-clause-plain g c = is_plain_access c.next-call.result (c.if-not-is_access.ensures refl)
 
-pub make_there-call_result-requires-clause-room : goal.make_there-call_result-requires-clause-room
-make_there-call_result-requires-clause-room g c = roomless c.next-call.result _ (c.if-not-is_access.ensures refl)
+pub make_boxed-call_result-requires-clause-room : goal.make_boxed-call_result-requires-clause-room
+make_boxed-call_result-requires-clause-room g c = roomless c.next-call.result _ (c.if-not-is_access.ensures refl)
 
 -- ---- it was made
 
@@ -46,10 +46,10 @@ invariant_of-self-in-Answered g c =
     let k = c.next-call.result in
     let is = c.if-not-is_access.ensures refl in
     let a = c.new-shelf.result in
-    let b = c.make_there-call_result.new.files in
+    let b = c.make_boxed-call_result.new.files in
     let state = c.self.inside.parts.present.state in
     let x = body_of view_of c.self.inside.parts.space.value in
-    let y = body_of view_of c.make_there-call_result.new.space.value in
+    let y = body_of view_of c.make_boxed-call_result.new.space.value in
     let h = c.in-Answered.ensures.call_result i.1.0 state i.1.1 in
     let comes = h.1 in
     let r = c.in-Answered.reply in
@@ -70,7 +70,7 @@ invariant_of-self-in-Answered g c =
     let few : length c.self.inside.parts.journal.items < MOST_ENTRIES = (let made : c.made.result ≡ length t.journal = subst (λ (z : Track). c.made.result ≡ length z.journal) (sym c.self.view_is) c.made.ensures in let not = c.if-made-eq-MOST_ENTRIES.false in let most = i.5 in omega (arith, made, not, most)) in
     let many = i.6 in
     rw (c.push_reserved.ensures.items ∙ ap (λ es. es ++ c.new-entry.result ∷ []) c.reserve.ensures.items) (
-      (fits_still _ _ _ c.self.inside.parts.space.value.seat c.make_there-call_result.new.space.value.seat c.requires.store c.make_there-call_result.ensures.keeps i.0).1,
+      (fits_still _ _ _ c.self.inside.parts.space.value.seat c.make_boxed-call_result.new.space.value.seat c.requires.store c.make_boxed-call_result.ensures.keeps i.0).1,
       (comes.space.0, subst (λ (q : Process). IsSpace y comes.space.0 q) (sym moved) comes.space.1),
       one_longer _ _ _ e _ _ i.2 next (a.files, leads t k (is_plain_access k is) a b w r e of x y refl comes _ moved),
       i.3,
@@ -80,7 +80,7 @@ invariant_of-self-in-Answered g c =
     )
 
 pub returns-in-Answered-clause-store : goal.returns-in-Answered-clause-store
-returns-in-Answered-clause-store g c = (fits_still _ _ _ c.self.inside.parts.space.value.seat c.make_there-call_result.new.space.value.seat c.requires.store c.make_there-call_result.ensures.keeps c.self.invariant.0).0
+returns-in-Answered-clause-store g c = (fits_still _ _ _ c.self.inside.parts.space.value.seat c.make_boxed-call_result.new.space.value.seat c.requires.store c.make_boxed-call_result.ensures.keeps c.self.invariant.0).0
 
 pub returns-in-Answered-clause-made : goal.returns-in-Answered-clause-made
 returns-in-Answered-clause-made g c =
@@ -98,10 +98,10 @@ returns-in-Answered-clause-made g c =
     let k = c.next-call.result in
     let is = c.if-not-is_access.ensures refl in
     let a = c.new-shelf.result in
-    let b = c.make_there-call_result.new.files in
+    let b = c.make_boxed-call_result.new.files in
     let state = c.self.inside.parts.present.state in
     let x = body_of view_of c.self.inside.parts.space.value in
-    let y = body_of view_of c.make_there-call_result.new.space.value in
+    let y = body_of view_of c.make_boxed-call_result.new.space.value in
     let h = c.in-Answered.ensures.call_result i.1.0 state i.1.1 in
     let comes = h.1 in
     let r = c.in-Answered.reply in
@@ -154,11 +154,11 @@ invariant_of-self-in-Ended g c =
     let k = c.next-call.result in
     let a = c.new-shelf.result in
     let state = c.self.inside.parts.present.state in
-    let y = body_of view_of c.make_there-call_result.new.space.value in
+    let y = body_of view_of c.make_boxed-call_result.new.space.value in
     let comes = (c.in-Ended.ensures.call_result i.1.0 state i.1.1).0 in
     let ended = ended_files a.files state (at_stop c.in-Ended.field-0 (address_of k)) k c.in-Ended.field-0 (is_plain_access k (c.if-not-is_access.ensures refl)) (sym comes.reply) in
     rw c.reserve.ensures.items (
-      (fits_still _ _ _ c.self.inside.parts.space.value.seat c.make_there-call_result.new.space.value.seat c.requires.store c.make_there-call_result.ensures.keeps i.0).1,
+      (fits_still _ _ _ c.self.inside.parts.space.value.seat c.make_boxed-call_result.new.space.value.seat c.requires.store c.make_boxed-call_result.ensures.keeps i.0).1,
       (comes.space.0, subst (λ (q : Process). IsSpace y comes.space.0 q) ended.2 comes.space.1),
       i.2,
       i.3,
@@ -168,14 +168,14 @@ invariant_of-self-in-Ended g c =
     )
 
 pub returns-in-Ended-clause-store : goal.returns-in-Ended-clause-store
-returns-in-Ended-clause-store g c = (fits_still _ _ _ c.self.inside.parts.space.value.seat c.make_there-call_result.new.space.value.seat c.requires.store c.make_there-call_result.ensures.keeps c.self.invariant.0).0
+returns-in-Ended-clause-store g c = (fits_still _ _ _ c.self.inside.parts.space.value.seat c.make_boxed-call_result.new.space.value.seat c.requires.store c.make_boxed-call_result.ensures.keeps c.self.invariant.0).0
 
 pub invariant_of-self-in-Unserved : goal.invariant_of-self-in-Unserved
 invariant_of-self-in-Unserved g c =
     let i = c.self.invariant in
     let cut = c.in-Unserved.ensures.call_result i.1.0 c.self.inside.parts.present.state i.1.1 in
     rw c.reserve.ensures.items (
-      (fits_still _ _ _ c.self.inside.parts.space.value.seat c.make_there-call_result.new.space.value.seat c.requires.store c.make_there-call_result.ensures.keeps i.0).1,
+      (fits_still _ _ _ c.self.inside.parts.space.value.seat c.make_boxed-call_result.new.space.value.seat c.requires.store c.make_boxed-call_result.ensures.keeps i.0).1,
       cut.1.space,
       i.2,
       i.3,
@@ -185,4 +185,4 @@ invariant_of-self-in-Unserved g c =
     )
 
 pub returns-clause-store : goal.returns-clause-store
-returns-clause-store g c = (fits_still _ _ _ c.self.inside.parts.space.value.seat c.make_there-call_result.new.space.value.seat c.requires.store c.make_there-call_result.ensures.keeps c.self.invariant.0).0
+returns-clause-store g c = (fits_still _ _ _ c.self.inside.parts.space.value.seat c.make_boxed-call_result.new.space.value.seat c.requires.store c.make_boxed-call_result.ensures.keeps c.self.invariant.0).0

@@ -8,7 +8,7 @@ use Rattle.frame_store.specs.View.{View}
 use Rattle.hart_calls.specs.ShortageReports.{ReportsShortage}
 use Rattle.hart_calls.proofs.Parting.{fork_by_slot, fork_goes, fork_lack, fork_leads, fork_may, fork_stays}
 use Rattle.process_model.specs.declared.reply.Refusal.{Refusal}
-use Rattle.hart_calls.proofs.There.{fork_there}
+use Rattle.hart_calls.proofs.There.{fork_boxed}
 use Rattle.hart_calls.specs.Shortages.{nothing, refused}
 use Rattle.process_model.specs.Process.{Process}
 use Rattle.process_model.specs.Residence.{child_of}
@@ -20,15 +20,15 @@ use Rattle.process_model.specs.declared.reply.Reply.TheVariants as reply
 use Rattle.shared_frames.specs.SeatsOfTable.{FitsIn, fits_parted, fits_still, may_step, view_of}
 use Rattle.hart_calls.proofs.tracked.Tracked.fork_into.Goals as goal
 
-pub fork_there-forked-requires-clause-fits : goal.fork_there-forked-requires-clause-fits
-fork_there-forked-requires-clause-fits g c = may_step _ _ c.self.inside.parts.space.value.seat c.requires.store c.self.invariant.0
+pub fork_boxed-forked-requires-clause-fits : goal.fork_boxed-forked-requires-clause-fits
+fork_boxed-forked-requires-clause-fits g c = may_step _ _ c.self.inside.parts.space.value.seat c.requires.store c.self.invariant.0
 
 pub new-child-requires-clause-fits : goal.new-child-requires-clause-fits
 new-child-requires-clause-fits g c =
     let keeps = c.in-Ok.ensures.keeps in
-    let still = fits_still _ _ _ c.self.inside.parts.space.value.seat c.fork_there-forked.new.space.value.seat c.requires.store (λ others r. let k = keeps others r in (k.0, k.1.1)) c.self.invariant.0 in
+    let still = fits_still _ _ _ c.self.inside.parts.space.value.seat c.fork_boxed-forked.new.space.value.seat c.requires.store (λ others r. let k = keeps others r in (k.0, k.1.1)) c.self.invariant.0 in
     subst (λ (s : Space SharedSeat). FitsIn g.B.RunBrand.table s.seat) (sym c.fill-space.ensures)
-    (fits_parted _ _ _ c.self.inside.parts.space.value.seat c.fork_there-forked.new.space.value.seat c.in-Ok.child.seat c.requires.store (still.0 ∙ sym c.requires.store) keeps c.self.invariant.0).1
+    (fits_parted _ _ _ c.self.inside.parts.space.value.seat c.fork_boxed-forked.new.space.value.seat c.in-Ok.child.seat c.requires.store (still.0 ∙ sym c.requires.store) keeps c.self.invariant.0).1
 
 pub new-child-requires-clause-agrees : goal.new-child-requires-clause-agrees
 new-child-requires-clause-agrees g c =
@@ -36,7 +36,7 @@ new-child-requires-clause-agrees g c =
     let f = c.in-Ok.ensures.forked p.0 c.self.inside.parts.present.state p.1 in
     let child = c.in-Ok.child in
     let next = child_of c.self.inside.parts.present.state in
-    let same : c.copied-layout.result ≡ c.self.inside.parts.space.value.layout = c.copied-layout.ensures ∙ ap (λ (s : Space SharedSeat). s.layout) c.deref.ensures ∙ c.fork_there-forked.ensures.layout in
+    let same : c.copied-layout.result ≡ c.self.inside.parts.space.value.layout = c.copied-layout.ensures ∙ ap (λ (s : Space SharedSeat). s.layout) c.deref.ensures ∙ c.fork_boxed-forked.ensures.layout in
     let there = subst (λ l. IsSpace (body (view_of child.seat) child.root.0 child.trapframe.0 l) f.1 next) (sym same) f.2.child in (
       f.1,
       subst (λ (q : Process). IsSpace (body_of view_of c.fill-space.result.value) f.1 q) (sym c.of_child-opening.ensures)
@@ -45,34 +45,34 @@ new-child-requires-clause-agrees g c =
 
 pub new-child-requires-clause-there : goal.new-child-requires-clause-there
 new-child-requires-clause-there g c =
-    fork_there c.self.inside.parts.lists.now c.self.inside.parts.list _ c.args.list c.self.invariant.3 (subst (λ (t : Track). next_of t ≡ call.Fork c.args.list) (sym c.self.view_is) c.requires.next)
+    fork_boxed c.self.inside.parts.lists.now c.self.inside.parts.list _ c.args.list c.self.invariant.3 (subst (λ (t : Track). next_of t ≡ call.Fork c.args.list) (sym c.self.view_is) c.requires.next)
 
 pub append_entry-requires-clause-fits : goal.append_entry-requires-clause-fits
 append_entry-requires-clause-fits g c =
     let keeps = c.in-Ok.ensures.keeps in
-    (fits_still _ _ _ c.self.inside.parts.space.value.seat c.fork_there-forked.new.space.value.seat c.requires.store (λ others r. let k = keeps others r in (k.0, k.1.1)) c.self.invariant.0).1
+    (fits_still _ _ _ c.self.inside.parts.space.value.seat c.fork_boxed-forked.new.space.value.seat c.requires.store (λ others r. let k = keeps others r in (k.0, k.1.1)) c.self.invariant.0).1
 
 pub append_entry-requires-clause-agrees : goal.append_entry-requires-clause-agrees
 append_entry-requires-clause-agrees g c =
     let p = c.self.invariant.1 in
     let f = c.in-Ok.ensures.forked p.0 c.self.inside.parts.present.state p.1 in
-    (f.0, subst (λ (q : Process). IsSpace (body_of view_of c.fork_there-forked.new.space.value) f.0 q) (sym c.after_fork-present.ensures) f.2.parent)
+    (f.0, subst (λ (q : Process). IsSpace (body_of view_of c.fork_boxed-forked.new.space.value) f.0 q) (sym c.after_fork-present.ensures) f.2.parent)
 
 pub append_entry-requires-in-Err-clause-fits : goal.append_entry-requires-in-Err-clause-fits
-append_entry-requires-in-Err-clause-fits g c = (fits_still _ _ _ c.self.inside.parts.space.value.seat c.fork_there-forked.new.space.value.seat c.requires.store c.in-Err.ensures.keeps_refused c.self.invariant.0).1
+append_entry-requires-in-Err-clause-fits g c = (fits_still _ _ _ c.self.inside.parts.space.value.seat c.fork_boxed-forked.new.space.value.seat c.requires.store c.in-Err.ensures.keeps_refused c.self.invariant.0).1
 
 pub append_entry-requires-in-Err-clause-agrees : goal.append_entry-requires-in-Err-clause-agrees
 append_entry-requires-in-Err-clause-agrees g c =
     let p = c.self.invariant.1 in
-    (p.0, subst (λ (q : Process). IsSpace (body_of view_of c.fork_there-forked.new.space.value) p.0 q) (sym c.kept-present.ensures) (c.in-Err.ensures.whole p.0 _ p.1))
+    (p.0, subst (λ (q : Process). IsSpace (body_of view_of c.fork_boxed-forked.new.space.value) p.0 q) (sym c.kept-present.ensures) (c.in-Err.ensures.whole p.0 _ p.1))
 
 pub returns-in-Ok-clause-store : goal.returns-in-Ok-clause-store
 returns-in-Ok-clause-store g c =
     let keeps = c.in-Ok.ensures.keeps in
-    (fits_still _ _ _ c.self.inside.parts.space.value.seat c.fork_there-forked.new.space.value.seat c.requires.store (λ others r. let k = keeps others r in (k.0, k.1.1)) c.self.invariant.0).0
+    (fits_still _ _ _ c.self.inside.parts.space.value.seat c.fork_boxed-forked.new.space.value.seat c.requires.store (λ others r. let k = keeps others r in (k.0, k.1.1)) c.self.invariant.0).0
 
 pub returns-in-Err-clause-store : goal.returns-in-Err-clause-store
-returns-in-Err-clause-store g c = (fits_still _ _ _ c.self.inside.parts.space.value.seat c.fork_there-forked.new.space.value.seat c.requires.store c.in-Err.ensures.keeps_refused c.self.invariant.0).0
+returns-in-Err-clause-store g c = (fits_still _ _ _ c.self.inside.parts.space.value.seat c.fork_boxed-forked.new.space.value.seat c.requires.store c.in-Err.ensures.keeps_refused c.self.invariant.0).0
 
 pub append_entry-requires-clause-leads : goal.append_entry-requires-clause-leads
 append_entry-requires-clause-leads g c =
@@ -107,7 +107,7 @@ returns-in-Err-clause-goes g c =
     let p = c.self.invariant.1 in
     let next = subst (λ (t : Track). next_of t ≡ call.Fork c.args.list) (sym c.self.view_is) c.requires.next in
     let lack = subst (λ (v : View). ReportsShortage (view_of c.self.inside.parts.space.value.seat) v [] c.self.inside.parts.present.state (call.Fork c.args.list) (refused 0 r)) (sym j.seat)
-    (fork_lack (view_of c.self.inside.parts.space.value.seat) (view_of c.fork_there-forked.new.space.value.seat) c.self.inside.parts.present.state c.args.list c.in-Err.error (λ by. c.in-Err.ensures.dry (ap Err by) p.0 _ p.1) (λ by. c.in-Err.ensures.full (ap Err by))) in
+    (fork_lack (view_of c.self.inside.parts.space.value.seat) (view_of c.fork_boxed-forked.new.space.value.seat) c.self.inside.parts.present.state c.args.list c.in-Err.error (λ by. c.in-Err.ensures.dry (ap Err by) p.0 _ p.1) (λ by. c.in-Err.ensures.full (ap Err by))) in
     rw (← c.self.view_is)
     (fork_stays _ c.append_entry-in-Err.result c.answer-entry-in-Err.result c.args.list (slot.Free c.args.name c.args.room) r (record { call = e.call ∙ c.listed-listed.ensures ∙ c.requires.next; answer = e.reply ∙ ap (λ (z : Refusal). (reply.Scalar (scalar.Refused z))) c.into.ensures; pages = e.pages; file = e.file; before = e.before ∙ c.kept-before.ensures }) (fork_may c.in-Err.error)
     (record { name = j.name; lists = j.lists; list = j.list; opening = j.opening; journal = j.journal; next = e.call ∙ c.listed-listed.ensures ∙ c.requires.next ∙ sym next }) (j.state ∙ c.kept-present.ensures) (fork_by_slot c.in-Err.error) lack)

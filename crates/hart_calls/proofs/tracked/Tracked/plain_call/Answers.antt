@@ -23,26 +23,26 @@ use Rattle.process_model.specs.declared.call.Call.{Call}
 use Rattle.hart_calls.proofs.tracked.Tracked.plain_call.Goals as goal
 use Rattle.process_model.specs.declared.limits.TheConstants.{MOST_ENTRIES}
 
-pub make_there-call_result-requires-clause-fits : goal.make_there-call_result-requires-clause-fits
-make_there-call_result-requires-clause-fits g c = may_step _ _ c.self.inside.parts.space.value.seat c.requires.store c.self.invariant.0
+pub make_boxed-call_result-requires-clause-fits : goal.make_boxed-call_result-requires-clause-fits
+make_boxed-call_result-requires-clause-fits g c = may_step _ _ c.self.inside.parts.space.value.seat c.requires.store c.self.invariant.0
 
 pub append_entry-requires-clause-fits : goal.append_entry-requires-clause-fits
-append_entry-requires-clause-fits g c = (fits_still _ _ _ c.self.inside.parts.space.value.seat c.make_there-call_result.new.space.value.seat c.requires.store c.make_there-call_result.ensures.keeps c.self.invariant.0).1
+append_entry-requires-clause-fits g c = (fits_still _ _ _ c.self.inside.parts.space.value.seat c.make_boxed-call_result.new.space.value.seat c.requires.store c.make_boxed-call_result.ensures.keeps c.self.invariant.0).1
 
 pub returns-in-Answered-clause-store : goal.returns-in-Answered-clause-store
-returns-in-Answered-clause-store g c = (fits_still _ _ _ c.self.inside.parts.space.value.seat c.make_there-call_result.new.space.value.seat c.requires.store c.make_there-call_result.ensures.keeps c.self.invariant.0).0
+returns-in-Answered-clause-store g c = (fits_still _ _ _ c.self.inside.parts.space.value.seat c.make_boxed-call_result.new.space.value.seat c.requires.store c.make_boxed-call_result.ensures.keeps c.self.invariant.0).0
 
 pub append_entry-requires-in-Unpromised-clause-fits : goal.append_entry-requires-in-Unpromised-clause-fits
-append_entry-requires-in-Unpromised-clause-fits g c = (fits_still _ _ _ c.self.inside.parts.space.value.seat c.make_there-call_result.new.space.value.seat c.requires.store c.make_there-call_result.ensures.keeps c.self.invariant.0).1
+append_entry-requires-in-Unpromised-clause-fits g c = (fits_still _ _ _ c.self.inside.parts.space.value.seat c.make_boxed-call_result.new.space.value.seat c.requires.store c.make_boxed-call_result.ensures.keeps c.self.invariant.0).1
 
 pub returns-in-Unpromised-clause-store : goal.returns-in-Unpromised-clause-store
-returns-in-Unpromised-clause-store g c = (fits_still _ _ _ c.self.inside.parts.space.value.seat c.make_there-call_result.new.space.value.seat c.requires.store c.make_there-call_result.ensures.keeps c.self.invariant.0).0
+returns-in-Unpromised-clause-store g c = (fits_still _ _ _ c.self.inside.parts.space.value.seat c.make_boxed-call_result.new.space.value.seat c.requires.store c.make_boxed-call_result.ensures.keeps c.self.invariant.0).0
 
 pub close-requires-clause-store : goal.close-requires-clause-store
-close-requires-clause-store g c = (fits_still _ _ _ c.self.inside.parts.space.value.seat c.make_there-call_result.new.space.value.seat c.requires.store c.make_there-call_result.ensures.keeps c.self.invariant.0).0
+close-requires-clause-store g c = (fits_still _ _ _ c.self.inside.parts.space.value.seat c.make_boxed-call_result.new.space.value.seat c.requires.store c.make_boxed-call_result.ensures.keeps c.self.invariant.0).0
 
 pub close-requires-clause-fits : goal.close-requires-clause-fits
-close-requires-clause-fits g c = (fits_still _ _ _ c.self.inside.parts.space.value.seat c.make_there-call_result.new.space.value.seat c.requires.store c.make_there-call_result.ensures.keeps c.self.invariant.0).1
+close-requires-clause-fits g c = (fits_still _ _ _ c.self.inside.parts.space.value.seat c.make_boxed-call_result.new.space.value.seat c.requires.store c.make_boxed-call_result.ensures.keeps c.self.invariant.0).1
 
 pub cut-requires-clause-cause : goal.cut-requires-clause-cause
 cut-requires-clause-cause g c = rw c.cause_of.ensures (is_cause c.in-Unserved.refusal)
@@ -62,12 +62,12 @@ cut-requires-clause-full g c =
     rw c.cause_of.ensures (subst (λ (z : Call). IsCutFor q z journal (cause_of c.in-Unserved.refusal)) next (cut_for q k journal a c.in-Unserved.refusal could.1 few maps cut.0 cut.1.of_file (could_still a could.0 1 could.1 could.2 could.3) could.4))
 
 pub cut-requires-clause-store : goal.cut-requires-clause-store
-cut-requires-clause-store g c = (fits_still _ _ _ c.self.inside.parts.space.value.seat c.make_there-call_result.new.space.value.seat c.requires.store c.make_there-call_result.ensures.keeps c.self.invariant.0).0
+cut-requires-clause-store g c = (fits_still _ _ _ c.self.inside.parts.space.value.seat c.make_boxed-call_result.new.space.value.seat c.requires.store c.make_boxed-call_result.ensures.keeps c.self.invariant.0).0
 
 pub pages_read-pages-requires-clause-mark : goal.pages_read-pages-requires-clause-mark
 pages_read-pages-requires-clause-mark g c =
     let p = c.self.invariant.1 in
-    let grew = has_grown _ _ _ _ _ _ _ c.args.call (c.args.shelf.now).history (c.make_there-call_result.new.files).history (λ ms became. became.history) c.make_there-call_result.result (c.make_there-call_result.ensures.call_result p.0 c.self.inside.parts.present.state p.1) in
+    let grew = has_grown _ _ _ _ _ _ _ c.args.call (c.args.shelf.now).history (c.make_boxed-call_result.new.files).history (λ ms became. became.history) c.make_boxed-call_result.result (c.make_boxed-call_result.ensures.call_result p.0 c.self.inside.parts.present.state p.1) in
     let longer = grew.longer in
     rw c.uses-mark.ensures longer
 
@@ -85,10 +85,10 @@ append_entry-requires-clause-agrees g c =
     } in
     let p = c.self.invariant.1 in
     let a = c.args.shelf.now in
-    let b = c.make_there-call_result.new.files in
+    let b = c.make_boxed-call_result.new.files in
     let k = c.args.call in
     let x = body_of view_of c.self.inside.parts.space.value in
-    let y = body_of view_of c.make_there-call_result.new.space.value in
+    let y = body_of view_of c.make_boxed-call_result.new.space.value in
     let state = c.self.inside.parts.present.state in
     let h = c.in-Answered.ensures.call_result p.0 state p.1 in
     let comes = h.1 in
@@ -111,10 +111,10 @@ append_entry-requires-clause-leads g c =
     } in
     let p = c.self.invariant.1 in
     let a = c.args.shelf.now in
-    let b = c.make_there-call_result.new.files in
+    let b = c.make_boxed-call_result.new.files in
     let k = c.args.call in
     let x = body_of view_of c.self.inside.parts.space.value in
-    let y = body_of view_of c.make_there-call_result.new.space.value in
+    let y = body_of view_of c.make_boxed-call_result.new.space.value in
     let state = c.self.inside.parts.present.state in
     let h = c.in-Answered.ensures.call_result p.0 state p.1 in
     let comes = h.1 in
@@ -146,10 +146,10 @@ returns-in-Answered-clause-turned g c =
     } in
     let p = c.self.invariant.1 in
     let a = c.args.shelf.now in
-    let b = c.make_there-call_result.new.files in
+    let b = c.make_boxed-call_result.new.files in
     let k = c.args.call in
     let x = body_of view_of c.self.inside.parts.space.value in
-    let y = body_of view_of c.make_there-call_result.new.space.value in
+    let y = body_of view_of c.make_boxed-call_result.new.space.value in
     let state = c.self.inside.parts.present.state in
     let h = c.in-Answered.ensures.call_result p.0 state p.1 in
     let comes = h.1 in
@@ -184,10 +184,10 @@ returns-in-Answered-clause-files g c =
     } in
     let p = c.self.invariant.1 in
     let a = c.args.shelf.now in
-    let b = c.make_there-call_result.new.files in
+    let b = c.make_boxed-call_result.new.files in
     let k = c.args.call in
     let x = body_of view_of c.self.inside.parts.space.value in
-    let y = body_of view_of c.make_there-call_result.new.space.value in
+    let y = body_of view_of c.make_boxed-call_result.new.space.value in
     let state = c.self.inside.parts.present.state in
     let h = c.in-Answered.ensures.call_result p.0 state p.1 in
     let comes = h.1 in
@@ -222,10 +222,10 @@ append_entry-requires-in-Unpromised-clause-agrees g c =
     } in
     let p = c.self.invariant.1 in
     let a = c.args.shelf.now in
-    let b = c.make_there-call_result.new.files in
+    let b = c.make_boxed-call_result.new.files in
     let k = c.args.call in
     let x = body_of view_of c.self.inside.parts.space.value in
-    let y = body_of view_of c.make_there-call_result.new.space.value in
+    let y = body_of view_of c.make_boxed-call_result.new.space.value in
     let state = c.self.inside.parts.present.state in
     let comes = c.in-Unpromised.ensures.call_result p.0 state p.1 in
     let r : Reply = reply.Scalar (scalar.Refused c.in-Unpromised.refusal) in
@@ -247,10 +247,10 @@ append_entry-requires-in-Unpromised-clause-leads g c =
     } in
     let p = c.self.invariant.1 in
     let a = c.args.shelf.now in
-    let b = c.make_there-call_result.new.files in
+    let b = c.make_boxed-call_result.new.files in
     let k = c.args.call in
     let x = body_of view_of c.self.inside.parts.space.value in
-    let y = body_of view_of c.make_there-call_result.new.space.value in
+    let y = body_of view_of c.make_boxed-call_result.new.space.value in
     let state = c.self.inside.parts.present.state in
     let comes = c.in-Unpromised.ensures.call_result p.0 state p.1 in
     let r : Reply = reply.Scalar (scalar.Refused c.in-Unpromised.refusal) in
@@ -281,10 +281,10 @@ returns-in-Unpromised-clause-turned g c =
     } in
     let p = c.self.invariant.1 in
     let a = c.args.shelf.now in
-    let b = c.make_there-call_result.new.files in
+    let b = c.make_boxed-call_result.new.files in
     let k = c.args.call in
     let x = body_of view_of c.self.inside.parts.space.value in
-    let y = body_of view_of c.make_there-call_result.new.space.value in
+    let y = body_of view_of c.make_boxed-call_result.new.space.value in
     let state = c.self.inside.parts.present.state in
     let comes = c.in-Unpromised.ensures.call_result p.0 state p.1 in
     let r : Reply = reply.Scalar (scalar.Refused c.in-Unpromised.refusal) in
@@ -318,10 +318,10 @@ returns-in-Unpromised-clause-files g c =
     } in
     let p = c.self.invariant.1 in
     let a = c.args.shelf.now in
-    let b = c.make_there-call_result.new.files in
+    let b = c.make_boxed-call_result.new.files in
     let k = c.args.call in
     let x = body_of view_of c.self.inside.parts.space.value in
-    let y = body_of view_of c.make_there-call_result.new.space.value in
+    let y = body_of view_of c.make_boxed-call_result.new.space.value in
     let state = c.self.inside.parts.present.state in
     let comes = c.in-Unpromised.ensures.call_result p.0 state p.1 in
     let r : Reply = reply.Scalar (scalar.Refused c.in-Unpromised.refusal) in
@@ -355,10 +355,10 @@ close-requires-clause-ready g c =
     } in
     let p = c.self.invariant.1 in
     let a = c.args.shelf.now in
-    let b = c.make_there-call_result.new.files in
+    let b = c.make_boxed-call_result.new.files in
     let k = c.args.call in
     let x = body_of view_of c.self.inside.parts.space.value in
-    let y = body_of view_of c.make_there-call_result.new.space.value in
+    let y = body_of view_of c.make_boxed-call_result.new.space.value in
     let state = c.self.inside.parts.present.state in
     let comes = (c.in-Ended.ensures.call_result p.0 state p.1).0 in
     let r : Reply = reply.Scalar (scalar.Ended c.in-Ended.rule) in
@@ -380,10 +380,10 @@ returns-in-Ended-clause-turned g c =
     } in
     let p = c.self.invariant.1 in
     let a = c.args.shelf.now in
-    let b = c.make_there-call_result.new.files in
+    let b = c.make_boxed-call_result.new.files in
     let k = c.args.call in
     let x = body_of view_of c.self.inside.parts.space.value in
-    let y = body_of view_of c.make_there-call_result.new.space.value in
+    let y = body_of view_of c.make_boxed-call_result.new.space.value in
     let state = c.self.inside.parts.present.state in
     let comes = (c.in-Ended.ensures.call_result p.0 state p.1).0 in
     let r : Reply = reply.Scalar (scalar.Ended c.in-Ended.rule) in
@@ -415,10 +415,10 @@ returns-in-Ended-clause-files g c =
     } in
     let p = c.self.invariant.1 in
     let a = c.args.shelf.now in
-    let b = c.make_there-call_result.new.files in
+    let b = c.make_boxed-call_result.new.files in
     let k = c.args.call in
     let x = body_of view_of c.self.inside.parts.space.value in
-    let y = body_of view_of c.make_there-call_result.new.space.value in
+    let y = body_of view_of c.make_boxed-call_result.new.space.value in
     let state = c.self.inside.parts.present.state in
     let comes = (c.in-Ended.ensures.call_result p.0 state p.1).0 in
     let r : Reply = reply.Scalar (scalar.Ended c.in-Ended.rule) in
@@ -439,7 +439,7 @@ returns-in-Ended-clause-files g c =
 pub pages_read-pages-requires-clause-few : goal.pages_read-pages-requires-clause-few
 pages_read-pages-requires-clause-few g c =
     let p = c.self.invariant.1 in
-    let grew = has_grown _ _ _ _ _ _ _ c.args.call (c.args.shelf.now).history (c.make_there-call_result.new.files).history (λ ms became. became.history) c.make_there-call_result.result (c.make_there-call_result.ensures.call_result p.0 c.self.inside.parts.present.state p.1) in
+    let grew = has_grown _ _ _ _ _ _ _ c.args.call (c.args.shelf.now).history (c.make_boxed-call_result.new.files).history (λ ms became. became.history) c.make_boxed-call_result.result (c.make_boxed-call_result.ensures.call_result p.0 c.self.inside.parts.present.state p.1) in
     let few = grew.few in
     rw c.uses-mark.ensures few
 
@@ -447,7 +447,7 @@ pub invariant_of-tracked : goal.invariant_of-tracked
 invariant_of-tracked g c =
     let p = c.self.invariant.1 in
     let cut = c.in-Unserved.ensures.call_result p.0 c.self.inside.parts.present.state p.1 in (
-      (fits_still _ _ _ c.self.inside.parts.space.value.seat c.make_there-call_result.new.space.value.seat c.requires.store c.make_there-call_result.ensures.keeps c.self.invariant.0).1,
+      (fits_still _ _ _ c.self.inside.parts.space.value.seat c.make_boxed-call_result.new.space.value.seat c.requires.store c.make_boxed-call_result.ensures.keeps c.self.invariant.0).1,
       cut.1.space,
       c.self.invariant.2,
       c.self.invariant.3,
@@ -467,4 +467,4 @@ returns-in-Unserved-clause-files g c =
     let files = (c.args.shelf.now).files in
     let some = subst (λ (k : Call). 0 < length (reads_of files nothing c.args.self.state k)) c.requires.next (rw (← c.self.view_is) cut.1.of_file) in
     let could = cut.1.could in
-    cut_files c.args.self c.cut.result c.args.shelf.now c.make_there-call_result.new.files c.in-Unserved.refusal could.1 (could_still c.args.shelf.now could.0 1 could.1 could.2 could.3) some could.4 cut.1.moves (subst IsAccessCall c.requires.next cut.0) (c.cut.ensures.outcome ∙ c.cause_of.ensures)
+    cut_files c.args.self c.cut.result c.args.shelf.now c.make_boxed-call_result.new.files c.in-Unserved.refusal could.1 (could_still c.args.shelf.now could.0 1 could.1 could.2 could.3) some could.4 cut.1.moves (subst IsAccessCall c.requires.next cut.0) (c.cut.ensures.outcome ∙ c.cause_of.ensures)

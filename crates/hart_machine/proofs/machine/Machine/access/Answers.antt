@@ -119,23 +119,23 @@ returns-in_default-reply-clause-made c w buffered =
     (sym (c.outcome_by_entry-by_entry.ensures.serves w has.hart is has.there) ∙ ap is_ok c.in-Ok.is) q.0 q.1 c.access_slot-reply.new.self c.access_slot-reply.ensures.harts (Scalar c.access_slot-reply.result)
     (c.access_slot-reply.ensures.made w is q.0 q.1 walked) (no_fault c.access_slot-reply.result c.in_default-reply.not-Fault)
 
-pub returns-in_default-clause-tables : goal.returns-in_default-clause-tables
-returns-in_default-clause-tables c = nothing_moved c.args.self.now
+pub returns-in_default-clause-same_tables : goal.returns-in_default-clause-same_tables
+returns-in_default-clause-same_tables c = nothing_moved c.args.self.now
 
-pub returns-then-not-is_width-clause-tables : goal.returns-then-not-is_width-clause-tables
-returns-then-not-is_width-clause-tables c = nothing_moved c.args.self.now
+pub returns-then-not-is_width-clause-same_tables : goal.returns-then-not-is_width-clause-same_tables
+returns-then-not-is_width-clause-same_tables c = nothing_moved c.args.self.now
 
-pub returns-then-not-is_user-clause-tables : goal.returns-then-not-is_user-clause-tables
-returns-then-not-is_user-clause-tables c = nothing_moved c.args.self.now
+pub returns-then-not-is_user-clause-same_tables : goal.returns-then-not-is_user-clause-same_tables
+returns-then-not-is_user-clause-same_tables c = nothing_moved c.args.self.now
 
-pub returns-in_default-on-clause-tables : goal.returns-in_default-on-clause-tables
-returns-in_default-on-clause-tables c = nothing_moved c.args.self.now
+pub returns-in_default-on-clause-same_tables : goal.returns-in_default-on-clause-same_tables
+returns-in_default-on-clause-same_tables c = nothing_moved c.args.self.now
 
-pub returns-in_default-by_entry-clause-tables : goal.returns-in_default-by_entry-clause-tables
-returns-in_default-by_entry-clause-tables c = nothing_moved c.args.self.now
+pub returns-in_default-by_entry-clause-same_tables : goal.returns-in_default-by_entry-clause-same_tables
+returns-in_default-by_entry-clause-same_tables c = nothing_moved c.args.self.now
 
-pub returns-in-Fault-clause-tables : goal.returns-in-Fault-clause-tables
-returns-in-Fault-clause-tables c = let all = c.access_slot-reply.ensures.tables in record { many = all.many; kernel = all.kernel; below = all.below }
+pub returns-in-Fault-clause-same_tables : goal.returns-in-Fault-clause-same_tables
+returns-in-Fault-clause-same_tables c = let all = c.access_slot-reply.ensures.same_tables in record { many = all.many; kernel = all.kernel; below = all.below }
 
-pub returns-in_default-reply-clause-tables : goal.returns-in_default-reply-clause-tables
-returns-in_default-reply-clause-tables c = c.access_slot-reply.ensures.tables
+pub returns-in_default-reply-clause-same_tables : goal.returns-in_default-reply-clause-same_tables
+returns-in_default-reply-clause-same_tables c = c.access_slot-reply.ensures.same_tables

@@ -30,7 +30,7 @@ access-requires-clause-fits c =
     let r = c.requires.ready in
     let m = c.args.self.now in
     let there = slot_has m.slots.items c.args.slot r.2 c.in-Some.slot_process _ c.in-Some.is c.index_mut.ensures.value r.3 in
-    seat_fits m.frames m.kernel.seat m.slots.items c.args.slot c.in-Some.slot_process there (r.1).rule
+    seat_fits m.frames m.kernel.seat m.slots.items c.args.slot c.in-Some.slot_process there (r.1).invariant
 
 pub access-requires-clause-ready : goal.access-requires-clause-ready
 access-requires-clause-ready c =
@@ -53,8 +53,8 @@ returns-clause-made c w is p at given =
           (c.access.ensures.after (is.tables c.args.slot) p slot_process walked) c.access.new.frames c.access.ensures.keeps,
     )
 
-pub returns-clause-tables : goal.returns-clause-tables
-returns-clause-tables c =
+pub returns-clause-same_tables : goal.returns-clause-same_tables
+returns-clause-same_tables c =
     let m = c.args.self.now in
     let r = c.requires.ready in
     let there = slot_has m.slots.items c.args.slot r.2 c.in-Some.slot_process _ c.in-Some.is c.index_mut.ensures.value r.3 in

@@ -13,6 +13,6 @@ pub returns-clause-booted : goal.returns-clause-booted
 returns-clause-booted c =
     let built = c.in-Ok.ensures.built in
     let opened = c.in_ok-frames.ensures in
-    let sized = kept_size _ _ _ _ [] c.in-Ok.ensures.keeps opened.rule ∙ ap (λ (v : View). v.size) opened.seat in
-    boots_in _ c.args.config c.args.files refl c.in-Ok.ensures.scheme (few_slots c.args.config (sym c.is_bootable.ensures ∙ c.if-not-is_bootable.false)) sized built.0 built.1 built.2 (c.in-Ok.ensures.keeps [] c.in_ok-frames.ensures.rule) c.in_ok-slots.ensures.slots
+    let sized = kept_size _ _ _ _ [] c.in-Ok.ensures.keeps opened.invariant ∙ ap (λ (v : View). v.size) opened.seat in
+    boots_in _ c.args.config c.args.files refl c.in-Ok.ensures.scheme (few_slots c.args.config (sym c.is_bootable.ensures ∙ c.if-not-is_bootable.false)) sized built.0 built.1 built.2 (c.in-Ok.ensures.keeps [] c.in_ok-frames.ensures.invariant) c.in_ok-slots.ensures.slots
     c.in_ok-harts.ensures.harts refl

@@ -24,7 +24,7 @@ copy_out-reply-requires-clause-fits c =
     let r = c.requires.world in
     let k = r.3 in
     let there = slot_has m.slots.items c.args.slot k.slot_process c.in-Some.slot_process _ c.in-Some.is c.index_mut.ensures.value k.place in
-    seat_fits m.frames m.kernel.seat m.slots.items c.args.slot c.in-Some.slot_process there (r.2).rule
+    seat_fits m.frames m.kernel.seat m.slots.items c.args.slot c.in-Some.slot_process there (r.2).invariant
 
 pub copy_out-reply-requires-clause-ready : goal.copy_out-reply-requires-clause-ready
 copy_out-reply-requires-clause-ready c =

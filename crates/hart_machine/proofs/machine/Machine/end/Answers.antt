@@ -42,7 +42,7 @@ end-seat-requires-clause-fits c =
     let r = c.requires.world in
     let k = r.3 in
     let there = slot_has m.slots.items c.args.slot k.slot_process c.in-Some.slot_process _ (sym c.take-2.ensures.value ∙ c.in-Some.is) c.index_mut-2.ensures.value k.place in
-    seat_fits m.frames m.kernel.seat m.slots.items c.args.slot c.in-Some.slot_process there (r.2).rule
+    seat_fits m.frames m.kernel.seat m.slots.items c.args.slot c.in-Some.slot_process there (r.2).invariant
 
 pub end-seat-requires-clause-ready : goal.end-seat-requires-clause-ready
 end-seat-requires-clause-ready c =
@@ -53,13 +53,13 @@ end-seat-requires-clause-ready c =
     let found = process_at m r.0 r.2 c.args.slot c.in-Some.slot_process there in
     ((r.2).tables c.args.slot, found.0, found.2)
 
-pub end_seat-requires-clause-rule : goal.end_seat-requires-clause-rule
-end_seat-requires-clause-rule c =
+pub end_seat-requires-clause-invariant : goal.end_seat-requires-clause-invariant
+end_seat-requires-clause-invariant c =
     let m = c.args.self.now in
     let r = c.requires.world in
     let k = r.3 in
     let there = slot_has m.slots.items c.args.slot k.slot_process c.in-Some.slot_process _ (sym c.take-2.ensures.value ∙ c.in-Some.is) c.index_mut-2.ensures.value k.place in
-    (seats_of (slice_set m.slots.items c.args.slot None), seat_left m.frames c.end-seat.new.frames m.kernel.seat m.slots.items c.args.slot c.in-Some.slot_process c.end-seat.result there c.end-seat.ensures.keeps (r.2).rule)
+    (seats_of (slice_set m.slots.items c.args.slot None), seat_left m.frames c.end-seat.new.frames m.kernel.seat m.slots.items c.args.slot c.in-Some.slot_process c.end-seat.result there c.end-seat.ensures.keeps (r.2).invariant)
 
 pub returns-clause-ended : goal.returns-clause-ended
 returns-clause-ended c w waits reply is k =
@@ -70,7 +70,7 @@ returns-clause-ended c w waits reply is k =
     let others = seats_of (slice_set m.slots.items c.args.slot None) in
     ends m w is c.args.hart c.args.slot waits k c.in-Some.slot_process there c.end_seat.new.self e.policy e.scheme e.size (ap (λ (v : Vec (Option SlotProcess)). v.items) e.slots ∙ ap (slice_set m.slots.items c.args.slot) c.take-2.ensures.after) (e.harts ∙ ap (with_item m.harts c.args.hart) (c.take.ensures ∙ ap idled read))
     (e.files ∙ c.end-seat.ensures.written (is.tables c.args.slot) k.process (tenant_is m w is c.args.slot c.in-Some.slot_process k.process there k.in_slot))
-    (e.rule others (seat_left m.frames c.end-seat.new.frames m.kernel.seat m.slots.items c.args.slot c.in-Some.slot_process c.end-seat.result there c.end-seat.ensures.keeps is.rule))
+    (e.invariant others (seat_left m.frames c.end-seat.new.frames m.kernel.seat m.slots.items c.args.slot c.in-Some.slot_process c.end-seat.result there c.end-seat.ensures.keeps is.invariant))
     e.kernel reply
 
 pub returns-clause-buffers : goal.returns-clause-buffers

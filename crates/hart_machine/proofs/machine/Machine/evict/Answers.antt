@@ -14,8 +14,8 @@ returns-in-Ok-clause-made c w is =
     let has = hart_within c.args.self.now w is c.args.hart (omega (arith, c.len.ensures, c.if-hart-len.false)) x c.index_mut.ensures.value in
     evicts c.args.self.now w is c.args.hart c.args.entry x.phase has x c.index_mut.ensures.value (c.in-Ok.ensures.there.0 refl) _ (ap (λ es. record x { buffer = es }) c.in-Ok.ensures.ok)
 
-pub returns-in-Ok-clause-buffers : goal.returns-in-Ok-clause-buffers
-returns-in-Ok-clause-buffers c w is =
+pub returns-in-Ok-clause-entries : goal.returns-in-Ok-clause-entries
+returns-in-Ok-clause-entries c w is =
     evicted_are c.args.self.now c.args.hart c.index_mut.result.now _ c.index_mut.ensures.value is.tables is.kernel c.args.entry c.in-Ok.ensures.ok
 
 pub returns-in-Err-clause-made : goal.returns-in-Err-clause-made
@@ -24,5 +24,5 @@ returns-in-Err-clause-made c w is =
     let has = hart_within c.args.self.now w is c.args.hart (omega (arith, c.len.ensures, c.if-hart-len.false)) x c.index_mut.ensures.value in
     evicts_nothing c.args.self.now w is c.args.hart c.args.entry x.phase has x c.index_mut.ensures.value (λ within. let both = c.in-Err.ensures.there.1 within in cc) _ (ap (λ es. record x { buffer = es }) c.in-Err.ensures.err)
 
-pub returns-in-Err-clause-buffers : goal.returns-in-Err-clause-buffers
-returns-in-Err-clause-buffers c w is = same_buffers c.args.self.now c.args.hart c.index_mut.result.now _ c.index_mut.ensures.value c.in-Err.ensures.err
+pub returns-in-Err-clause-entries : goal.returns-in-Err-clause-entries
+returns-in-Err-clause-entries c w is = same_buffers c.args.self.now c.args.hart c.index_mut.result.now _ c.index_mut.ensures.value c.in-Err.ensures.err

@@ -18,8 +18,8 @@ returns-in-OfKernel-clause-made c w is =
     rw (c.fill.ensures.same, c.fill.ensures.view)
     (fills m w is c.args.hart c.args.va.0 r.0 r.1 c.args.table r.2 x.result.now x.ensures.value c.fill.ensures.few c.asid-asid.result c.asid-asid.ensures c.fill.new.self kept c.fill.result c.fill.ensures.number)
 
-pub returns-in-OfKernel-clause-buffers : goal.returns-in-OfKernel-clause-buffers
-returns-in-OfKernel-clause-buffers c w is =
+pub returns-in-OfKernel-clause-entries : goal.returns-in-OfKernel-clause-entries
+returns-in-OfKernel-clause-entries c w is =
     let m = c.args.self.now in
     let r = c.requires.present in
     let x = c.index_mut-hart in
@@ -46,7 +46,7 @@ fill-requires-in-OfProcess-clause-fits c =
     let r = c.requires.present in
     let v = c.requires.world in
     let at = tenant_is m c.args.table c.in-OfProcess.slot c.in-OfProcess.is (table_there m v.0 v.1 c.args.hart r.0 r.1 c.args.table r.2) _ c.index_mut.ensures.value c.in-Some.slot_process c.in-Some.is in
-    seat_fits m.frames m.kernel.seat m.slots.items c.in-OfProcess.slot c.in-Some.slot_process at (v.1).rule
+    seat_fits m.frames m.kernel.seat m.slots.items c.in-OfProcess.slot c.in-Some.slot_process at (v.1).invariant
 
 pub fill-requires-in-OfProcess-clause-held : goal.fill-requires-in-OfProcess-clause-held
 fill-requires-in-OfProcess-clause-held c =
@@ -70,8 +70,8 @@ returns-in-Some-clause-made c w is =
     rw (f.ensures.same, f.ensures.view)
     (fills _ w (put_back m w is s z at) c.args.hart c.args.va.0 r.0 r.1 c.args.table r.2 x.result.now x.ensures.value f.ensures.few c.asid-asid.result c.asid-asid.ensures f.new.self kept f.result f.ensures.number)
 
-pub returns-in-Some-clause-buffers : goal.returns-in-Some-clause-buffers
-returns-in-Some-clause-buffers c w is =
+pub returns-in-Some-clause-entries : goal.returns-in-Some-clause-entries
+returns-in-Some-clause-entries c w is =
     let m = c.args.self.now in
     let r = c.requires.present in
     let x = c.index_mut-hart in

@@ -55,7 +55,7 @@ returns-in-Trap-clause-changed c w buffered = rw c.without_change-in-Trap.ensure
 
 pub returns-in-Trap-clause-tables : goal.returns-in-Trap-clause-tables
 returns-in-Trap-clause-tables c w buffered =
-    keeps_by c.args.self.now c.trap.new.self w (step.Trap c.in-Trap.hart) _ c.in-Trap.is (same_tables c.args.self.now c.trap.new.self _ _ c.trap.ensures.tables)
+    keeps_by c.args.self.now c.trap.new.self w (step.Trap c.in-Trap.hart) _ c.in-Trap.is (same_tables c.args.self.now c.trap.new.self _ _ c.trap.ensures.same_tables)
 
 pub returns-in-Trap-clause-each_buffer : goal.returns-in-Trap-clause-each_buffer
 returns-in-Trap-clause-each_buffer c w buffered =
@@ -74,7 +74,7 @@ returns-in-Next-clause-tables c w buffered =
 
 pub returns-in-Next-clause-each_buffer : goal.returns-in-Next-clause-each_buffer
 returns-in-Next-clause-each_buffer c w buffered =
-    rw c.without_change-in-Next.ensures (are_of c.args.self.now c.next.new.self (buffered.world).tables (buffered.world).kernel (Scalar c.next.result) c.in-Next.is (c.next.ensures.buffers w buffered.world))
+    rw c.without_change-in-Next.ensures (are_of c.args.self.now c.next.new.self (buffered.world).tables (buffered.world).kernel (Scalar c.next.result) c.in-Next.is (c.next.ensures.entries w buffered.world))
 
 pub returns-in-Fill-clause-made : goal.returns-in-Fill-clause-made
 returns-in-Fill-clause-made c w buffered =
@@ -89,7 +89,7 @@ returns-in-Fill-clause-tables c w buffered =
 
 pub returns-in-Fill-clause-each_buffer : goal.returns-in-Fill-clause-each_buffer
 returns-in-Fill-clause-each_buffer c w buffered =
-    rw c.without_change-in-Fill.ensures (are_of c.args.self.now c.fill.new.self (buffered.world).tables (buffered.world).kernel (Scalar c.fill.result) c.in-Fill.is (c.fill.ensures.buffers w buffered.world))
+    rw c.without_change-in-Fill.ensures (are_of c.args.self.now c.fill.new.self (buffered.world).tables (buffered.world).kernel (Scalar c.fill.result) c.in-Fill.is (c.fill.ensures.entries w buffered.world))
 
 pub returns-in-Evict-clause-made : goal.returns-in-Evict-clause-made
 returns-in-Evict-clause-made c w buffered =
@@ -104,7 +104,7 @@ returns-in-Evict-clause-tables c w buffered =
 
 pub returns-in-Evict-clause-each_buffer : goal.returns-in-Evict-clause-each_buffer
 returns-in-Evict-clause-each_buffer c w buffered =
-    rw c.without_change-in-Evict.ensures (are_of c.args.self.now c.evict.new.self (buffered.world).tables (buffered.world).kernel (Scalar c.evict.result) c.in-Evict.is (c.evict.ensures.buffers w buffered.world))
+    rw c.without_change-in-Evict.ensures (are_of c.args.self.now c.evict.new.self (buffered.world).tables (buffered.world).kernel (Scalar c.evict.result) c.in-Evict.is (c.evict.ensures.entries w buffered.world))
 
 pub returns-in-Fetch-clause-made : goal.returns-in-Fetch-clause-made
 returns-in-Fetch-clause-made c w buffered =
@@ -115,7 +115,7 @@ returns-in-Fetch-clause-changed c w buffered = rw c.without_change-in-Fetch.ensu
 
 pub returns-in-Fetch-clause-tables : goal.returns-in-Fetch-clause-tables
 returns-in-Fetch-clause-tables c w buffered =
-    keeps_by c.args.self.now c.access.new.self w (step.Fetch c.in-Fetch.hart c.in-Fetch.address c.in-Fetch.via) _ c.in-Fetch.is (same_tables c.args.self.now c.access.new.self _ _ c.access.ensures.tables)
+    keeps_by c.args.self.now c.access.new.self w (step.Fetch c.in-Fetch.hart c.in-Fetch.address c.in-Fetch.via) _ c.in-Fetch.is (same_tables c.args.self.now c.access.new.self _ _ c.access.ensures.same_tables)
 
 pub returns-in-Fetch-clause-each_buffer : goal.returns-in-Fetch-clause-each_buffer
 returns-in-Fetch-clause-each_buffer c w buffered =
@@ -130,7 +130,7 @@ returns-in-Load-clause-changed c w buffered = rw c.without_change-in-Load.ensure
 
 pub returns-in-Load-clause-tables : goal.returns-in-Load-clause-tables
 returns-in-Load-clause-tables c w buffered =
-    keeps_by c.args.self.now c.access-in-Load.new.self w (step.Load c.in-Load.hart c.in-Load.address c.in-Load.width c.in-Load.via) _ c.in-Load.is (same_tables c.args.self.now c.access-in-Load.new.self _ _ c.access-in-Load.ensures.tables)
+    keeps_by c.args.self.now c.access-in-Load.new.self w (step.Load c.in-Load.hart c.in-Load.address c.in-Load.width c.in-Load.via) _ c.in-Load.is (same_tables c.args.self.now c.access-in-Load.new.self _ _ c.access-in-Load.ensures.same_tables)
 
 pub returns-in-Load-clause-each_buffer : goal.returns-in-Load-clause-each_buffer
 returns-in-Load-clause-each_buffer c w buffered =
@@ -145,7 +145,7 @@ returns-in-Store-clause-changed c w buffered = rw c.without_change-in-Store.ensu
 
 pub returns-in-Store-clause-tables : goal.returns-in-Store-clause-tables
 returns-in-Store-clause-tables c w buffered =
-    keeps_by c.args.self.now c.access-in-Store.new.self w (step.Store c.in-Store.hart c.in-Store.address c.in-Store.width c.in-Store.value c.in-Store.via) _ c.in-Store.is (same_tables c.args.self.now c.access-in-Store.new.self _ _ c.access-in-Store.ensures.tables)
+    keeps_by c.args.self.now c.access-in-Store.new.self w (step.Store c.in-Store.hart c.in-Store.address c.in-Store.width c.in-Store.value c.in-Store.via) _ c.in-Store.is (same_tables c.args.self.now c.access-in-Store.new.self _ _ c.access-in-Store.ensures.same_tables)
 
 pub returns-in-Store-clause-each_buffer : goal.returns-in-Store-clause-each_buffer
 returns-in-Store-clause-each_buffer c w buffered =
@@ -242,7 +242,7 @@ returns-in-Mmap-clause-changed c w buffered = rw c.without_change-in-Mmap.ensure
 
 pub returns-in-Mmap-clause-tables : goal.returns-in-Mmap-clause-tables
 returns-in-Mmap-clause-tables c w buffered =
-    keeps_by c.args.self.now c.mmap.new.self w (step.Mmap c.in-Mmap.hart c.in-Mmap.length c.in-Mmap.protection c.in-Mmap.flags c.in-Mmap.file) _ c.in-Mmap.is (same_tables c.args.self.now c.mmap.new.self _ _ c.mmap.ensures.tables)
+    keeps_by c.args.self.now c.mmap.new.self w (step.Mmap c.in-Mmap.hart c.in-Mmap.length c.in-Mmap.protection c.in-Mmap.flags c.in-Mmap.file) _ c.in-Mmap.is (same_tables c.args.self.now c.mmap.new.self _ _ c.mmap.ensures.same_tables)
 
 pub returns-in-Mmap-clause-each_buffer : goal.returns-in-Mmap-clause-each_buffer
 returns-in-Mmap-clause-each_buffer c w buffered =

@@ -27,8 +27,8 @@ returns-clause-made c w is =
     goes_on c.args.self.now w is c.args.hart c.in-Some.phase has c.index_mut.result.now c.advance.new.self c.index_mut.ensures.value c.advance.ensures
     (sym (c.can_go_on.ensures w (hart_of has.hart) is has.phased (slot_there c.args.self.now w is c.args.hart c.in-Some.phase has _ (slot_placed _ c.in-Some.phase c.in-Some.on (sym c.in-Some.is ∙ c.phase_and_slot.ensures)))) ∙ c.if-not-can_go_on.false)
 
-pub returns-clause-buffers : goal.returns-clause-buffers
-returns-clause-buffers c w is = advanced_are c.args.self.now c.args.hart c.index_mut.result.now c.advance.new.self c.index_mut.ensures.value is.tables is.kernel c.advance.ensures
+pub returns-clause-entries : goal.returns-clause-entries
+returns-clause-entries c w is = advanced_are c.args.self.now c.args.hart c.index_mut.result.now c.advance.new.self c.index_mut.ensures.value is.tables is.kernel c.advance.ensures
 
 pub advance-requires : goal.advance-requires
 advance-requires c =

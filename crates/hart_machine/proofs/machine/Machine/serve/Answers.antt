@@ -11,7 +11,7 @@ use Rattle.process_model.specs.declared.reply.Reply.TheVariants.{Scalar}
 use Rattle.process_model.specs.declared.step.Step.TheVariants as step
 use Rattle.hart_machine.specs.Harts.{hart_of}
 use Rattle.hart_machine.specs.Marks.{AreMarked, slot_if}
-use Rattle.hart_machine.specs.Worlds.{IsWorld, KeepsTables, IsModelOutcome}
+use Rattle.hart_machine.specs.Worlds.{IsWorldButBuffers, KeepsTables, IsModelOutcome}
 use Rattle.hart_machine.specs.declared.hart.Hart.{Hart}
 use Rattle.hart_machine.proofs.Calling.{call_runs}
 use Rattle.hart_machine.proofs.HartSteps.{refused}
@@ -68,8 +68,8 @@ returns-in-Err-serve_slot-clause-made c w is =
     let gone = c.end.ensures.ended w true (Scalar (Ended rule)) e.world e.there in
     rw c.without_change-in-Err-serve_slot.ensures (subst (λ (o : StepOutcome). IsModelOutcome c.end.new.self (Scalar (Ended rule)) o) (sym (call_runs c.args.self.now w is h s true k (λ hart n p. served w h hart n p p.pending) k.process k.in_slot ∙ e.ends)) (
       refl,
-      subst (λ (p : Process). IsWorld c.end.new.self (ended w h (hart_of k.hart) s p (Scalar (Ended rule))).world) e.process
-          (subst (λ (x : Hart). IsWorld c.end.new.self (ended w h (hart_of x) s (e.there).process (Scalar (Ended rule))).world) e.hart gone),
+      subst (λ (p : Process). IsWorldButBuffers c.end.new.self (ended w h (hart_of k.hart) s p (Scalar (Ended rule))).world) e.process
+          (subst (λ (x : Hart). IsWorldButBuffers c.end.new.self (ended w h (hart_of x) s (e.there).process (Scalar (Ended rule))).world) e.hart gone),
     ))
 
 pub returns-in-Err-serve_slot-clause-changed : goal.returns-in-Err-serve_slot-clause-changed

@@ -31,7 +31,7 @@ use Rattle.exec_segments.specs.Loads.{loads_in}
 pub start-requires-clause-fits : goal.start-requires-clause-fits
 start-requires-clause-fits c =
     let others = seats_of c.args.self.now.slots.items in
-    second_fits c.open_seat-seat.new.self.frames c.open_seat-seat.new.self.kernel.seat c.open_seat-seat.result others (c.open_seat-seat.ensures.rule others c.requires.world.1.rule)
+    second_fits c.open_seat-seat.new.self.frames c.open_seat-seat.new.self.kernel.seat c.open_seat-seat.result others (c.open_seat-seat.ensures.invariant others c.requires.world.1.invariant)
 
 pub start-requires-clause-seat : goal.start-requires-clause-seat
 start-requires-clause-seat c = subst (λ (v : View). HoldsTrampoline v) (sym c.open_seat-seat.ensures.opened) (opened_holds c.args.self.now.kernel.seat)
@@ -41,12 +41,12 @@ index_mut-requires c =
     let r = c.requires.world in
     rw c.open_seat-seat.ensures.slots (free_within c.args.self.now r.0 r.1 c.in-Some.slot (sym (c.free_slot.ensures r.0 r.1) ∙ c.in-Some.is))
 
-pub close_seat-requires-clause-rule : goal.close_seat-requires-clause-rule
-close_seat-requires-clause-rule c =
+pub close_seat-requires-clause-invariant : goal.close_seat-requires-clause-invariant
+close_seat-requires-clause-invariant c =
     let others = seats_of c.args.self.now.slots.items in (
       others,
       second_steps c.open_seat-seat.new.self.frames c.start.new.store c.open_seat-seat.new.self.kernel.seat c.open_seat-seat.result c.in-Err-start.seat others c.in-Err-start.ensures.keeps_refused
-          (c.open_seat-seat.ensures.rule others c.requires.world.1.rule),
+          (c.open_seat-seat.ensures.invariant others c.requires.world.1.invariant),
     )
 
 pub close_seat-requires-clause-seat : goal.close_seat-requires-clause-seat
@@ -69,7 +69,7 @@ returns-in-Ok-start-clause-made c w is =
     m n is o.ensures.size o.ensures.harts o.ensures.files o.ensures.policy (ap (λ k. k.scheme) o.ensures.opener) (open_kernel m o.new.self o.ensures.opener w.frames (length w.slots) is.stacks is.kernel is.of_kernel)
     y ok.ensures.started.0 (rw o.ensures.slots refl)
     (subst (λ k. IsSpace (body_in y) ok.ensures.started.0 (process_of k w.counter c.in-Ok.image.loads)) (c.in-Ok.ensures.scheme ∙ is.scheme) (ok.ensures.started.1 w.counter)) ok.ensures.started.2 refl
-    (second_steps o.new.self.frames c.start.new.store o.new.self.kernel.seat o.result ok.space.seat others ok.ensures.keeps (o.ensures.rule others is.rule))
+    (second_steps o.new.self.frames c.start.new.store o.new.self.kernel.seat o.result ok.space.seat others ok.ensures.keeps (o.ensures.invariant others is.invariant))
     (subst (λ k. start_need k c.in-Ok.image.loads ≤ m.frames.free) (c.in-Ok.ensures.scheme ∙ is.scheme) (subst (λ n. start_need c.in-Ok.image.scheme c.in-Ok.image.loads ≤ n) o.ensures.free ((ok.ensures.exact tt).0 refl)))
 
 pub returns-in-Err-start-clause-made : goal.returns-in-Err-start-clause-made
@@ -85,7 +85,7 @@ returns-in-Err-start-clause-made c w is =
     m n is (c.close_seat.ensures.size ∙ o.ensures.size) (c.close_seat.ensures.harts ∙ o.ensures.harts) (c.close_seat.ensures.files ∙ o.ensures.files) (c.close_seat.ensures.policy ∙ o.ensures.policy) (c.close_seat.ensures.scheme ∙ ap (λ k. k.scheme) o.ensures.opener)
     (c.close_seat.ensures.kernel w.frames (length w.slots) is.stacks is.kernel opened)
     (c.close_seat.ensures.slots ∙ o.ensures.slots)
-    (c.close_seat.ensures.rule others (second_steps o.new.self.frames c.start.new.store o.new.self.kernel.seat o.result e.seat others e.ensures.keeps_refused (o.ensures.rule others is.rule)))
+    (c.close_seat.ensures.invariant others (second_steps o.new.self.frames c.start.new.store o.new.self.kernel.seat o.result e.seat others e.ensures.keeps_refused (o.ensures.invariant others is.invariant)))
     (λ le. let ok = (e.ensures.exact tt).1 (subst (λ n. start_need c.in-Ok.image.scheme c.in-Ok.image.loads ≤ n) (sym o.ensures.free) (subst (λ k. start_need k c.in-Ok.image.loads ≤ m.frames.free) (sym (c.in-Ok.ensures.scheme ∙ is.scheme)) le)) in cc))
 
 pub returns-in_default-clause-made : goal.returns-in_default-clause-made

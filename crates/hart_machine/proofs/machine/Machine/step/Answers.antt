@@ -37,8 +37,8 @@ returns-clause-made c w inn =
     let are = are_of m y.new.self is.tables is.kernel y.result.reply x.is (same_are m y.new.self is.tables is.kernel (step.CopyIn x.hart x.address x.count) _ (λ h. refl) y.ensures.buffers) in
     made_after c.args.self.now y.new.self c.mark.new.self c.mark-2.new.self w c.args.step inn y.result.reply y.result.changed y.result.born made marks keeps are c.mark.ensures.harts c.mark.ensures.buffers c.mark.ensures.others c.mark-2.ensures.harts c.mark-2.ensures.buffers c.mark-2.ensures.others
 
-pub returns-clause-buffers : goal.returns-clause-buffers
-returns-clause-buffers c w inn =
+pub returns-clause-fills : goal.returns-clause-fills
+returns-clause-fills c w inn =
     let x = c.in-CopyIn in
     let y = c.copy_in-reply in
     let m = c.args.self.now in

@@ -19,8 +19,8 @@ returns-clause-made c w inn =
     let y = c.make-reply.ensures in
     made_after c.args.self.now c.make-reply.new.self c.mark.new.self c.mark-2.new.self w c.args.step inn (Scalar c.make-reply.result.reply) c.make-reply.result.changed c.make-reply.result.born (y.made w inn) (y.changed w inn) (y.tables w inn) (y.each_buffer w inn) c.mark.ensures.harts c.mark.ensures.buffers c.mark.ensures.others c.mark-2.ensures.harts c.mark-2.ensures.buffers c.mark-2.ensures.others
 
-pub returns-clause-buffers : goal.returns-clause-buffers
-returns-clause-buffers c w inn =
+pub returns-clause-fills : goal.returns-clause-fills
+returns-clause-fills c w inn =
     let y = c.make-reply.ensures in
     fills_alone c.args.self.now c.make-reply.new.self c.mark.new.self c.mark-2.new.self w c.args.step inn (Scalar c.make-reply.result.reply) c.make-reply.result.changed c.make-reply.result.born (y.made w inn) (y.changed w inn) (y.tables w inn) (y.each_buffer w inn) c.mark.ensures.harts c.mark.ensures.buffers c.mark.ensures.others c.mark-2.ensures.harts c.mark-2.ensures.buffers c.mark-2.ensures.others
 

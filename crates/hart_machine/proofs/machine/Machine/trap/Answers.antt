@@ -57,17 +57,17 @@ returns-clause-buffers c h =
     (slot_there c.args.self.now r.0 r.1 c.args.hart c.in-Some.phase has _ (sym c.in-Some-on.is ∙ slot_placed _ c.in-Some.phase c.in-Some.on (sym c.in-Some.is ∙ c.phase_and_slot.ensures))) in
     same_buffers c.set_pending.new.self c.args.hart c.index_mut.result.now _ c.index_mut.ensures.value refl h ∙ ap (λ (n : Machine). buffer_of n h) (c.set_pending.ensures t.0 t.1)
 
-pub returns-in_default-clause-tables : goal.returns-in_default-clause-tables
-returns-in_default-clause-tables c = nothing_moved c.args.self.now
+pub returns-in_default-clause-same_tables : goal.returns-in_default-clause-same_tables
+returns-in_default-clause-same_tables c = nothing_moved c.args.self.now
 
-pub returns-then-not-is_user-clause-tables : goal.returns-then-not-is_user-clause-tables
-returns-then-not-is_user-clause-tables c = nothing_moved c.args.self.now
+pub returns-then-not-is_user-clause-same_tables : goal.returns-then-not-is_user-clause-same_tables
+returns-then-not-is_user-clause-same_tables c = nothing_moved c.args.self.now
 
-pub returns-in_default-on-clause-tables : goal.returns-in_default-on-clause-tables
-returns-in_default-on-clause-tables c = nothing_moved c.args.self.now
+pub returns-in_default-on-clause-same_tables : goal.returns-in_default-on-clause-same_tables
+returns-in_default-on-clause-same_tables c = nothing_moved c.args.self.now
 
-pub returns-clause-tables : goal.returns-clause-tables
-returns-clause-tables c =
+pub returns-clause-same_tables : goal.returns-clause-same_tables
+returns-clause-same_tables c =
     let m = c.args.self.now in
     let r = c.requires.world in
     let has = has_hart m r.0 r.1 c.args.hart c.in-Some.phase (phase_placed _ c.in-Some.phase c.in-Some.on (sym c.in-Some.is ∙ c.phase_and_slot.ensures)) in

@@ -2,7 +2,7 @@ use Rattle.std.proofs.Common.{◌∙◌, ◌<◌, ◌∷◌, Some, ap, refl, sub
 use Rattle.std.specs.Prelude.{slice_set}
 use Rattle.address_space.specs.Agreement.{IsSpace}
 use Rattle.frame_store.specs.Laws.{KeepsSeats}
-use Rattle.frame_store.specs.Plain.{PlainState, PlainStateRule}
+use Rattle.frame_store.specs.Plain.{PlainState, PlainStateInvariant}
 use Rattle.process_model.specs.Frames.{fork_need}
 use Rattle.process_model.specs.Residence.{child_of, marked}
 use Rattle.std.specs.Vec.{with_item}
@@ -59,7 +59,7 @@ settled_pages-settled-requires-clause-fits c =
     let caller = c.in_ok-slot.ensures.there r.0 r.1 in
     let x = c.in-Some-index_mut.slot_process in
     let there = slot_has m.slots.items s caller.slot_process x _ c.in-Some-index_mut.is c.index_mut.ensures.value caller.place in
-    seat_fits m.frames m.kernel.seat m.slots.items s x there (r.1).rule
+    seat_fits m.frames m.kernel.seat m.slots.items s x there (r.1).invariant
 
 pub settled_pages-settled-requires-clause-ready : goal.settled_pages-settled-requires-clause-ready
 settled_pages-settled-requires-clause-ready c =
@@ -81,7 +81,7 @@ fork-requires-clause-fits c =
     let x = c.in-Some-index_mut.slot_process in
     let there = slot_has m.slots.items s caller.slot_process x _ c.in-Some-index_mut.is c.index_mut.ensures.value caller.place in
     let u = c.settled_pages-settled in
-    rw (u.ensures.same, u.ensures.frames) (seat_fits m.frames m.kernel.seat m.slots.items s x there (r.1).rule)
+    rw (u.ensures.same, u.ensures.frames) (seat_fits m.frames m.kernel.seat m.slots.items s x there (r.1).invariant)
 
 pub fork-requires-clause-ready : goal.fork-requires-clause-ready
 fork-requires-clause-ready c =
@@ -133,7 +133,7 @@ returns-in_err-child-clause-made c w is =
     rw (told.1, told.2, e.dry.0) (forks_dry m w is c.args.hart s caller x y.self there y.frames c.in-Some.place to
     (λ t p a. subst (λ (b : PlainState). b.free < fork_need p) u.ensures.frames (e.dry.1 t p (subst (λ (z : SlotProcess). IsSlotProcess z t p) (sym u.ensures.same) a)))
     (λ t p a. e.whole t p (subst (λ (z : SlotProcess). IsSlotProcess z t p) (sym u.ensures.same) a))
-    (subst (λ (z : SlotProcess). KeepsSeats PlainStateRule m.frames (view_of z) y.frames (view_of y.self)) u.ensures.same (subst (λ (b : PlainState). KeepsSeats PlainStateRule b (view_of u.new.self) y.frames (view_of y.self)) u.ensures.frames e.keeps_refused)))
+    (subst (λ (z : SlotProcess). KeepsSeats PlainStateInvariant m.frames (view_of z) y.frames (view_of y.self)) u.ensures.same (subst (λ (b : PlainState). KeepsSeats PlainStateInvariant b (view_of u.new.self) y.frames (view_of y.self)) u.ensures.frames e.keeps_refused)))
 
 pub returns-in_err-child-clause-changed : goal.returns-in_err-child-clause-changed
 returns-in_err-child-clause-changed c w is =
@@ -181,7 +181,7 @@ returns-clause-made c w is =
     rw (c.space.ensures, c.copied-layout.ensures) (forks_wet m w is c.args.hart s caller x y.self there y.frames c.in-Some.place to (in_slot c.in_ok-child.child y.self.space.layout)
     (λ t p a. e.forked t p (subst (λ (z : SlotProcess). IsSlotProcess z t p) (sym u.ensures.same) a))
     (λ t p a few. e.enough t p (subst (λ (z : SlotProcess). IsSlotProcess z t p) (sym u.ensures.same) a) (subst (λ (b : PlainState). b.free < fork_need p) (sym u.ensures.frames) few))
-    (λ others rule. e.keeps others (subst (λ (z : SlotProcess). PlainStateRule u.new.frames (view_of z ∷ others)) (sym u.ensures.same) (subst (λ (b : PlainState). PlainStateRule b (view_of x ∷ others)) (sym u.ensures.frames) rule))))
+    (λ others rule. e.keeps others (subst (λ (z : SlotProcess). PlainStateInvariant u.new.frames (view_of z ∷ others)) (sym u.ensures.same) (subst (λ (b : PlainState). PlainStateInvariant b (view_of x ∷ others)) (sym u.ensures.frames) rule))))
 
 pub returns-clause-changed : goal.returns-clause-changed
 returns-clause-changed c w is =

@@ -49,11 +49,11 @@ returns-clause-made c w is =
     maps m w is c.args.hart c.in_ok-slot.slot caller c.in-Some.slot_process y.new.self there c.args.length c.args.protection c.args.flags c.args.file y.result
     y.ensures.view y.ensures.answer y.ensures.after y.ensures.refused
 
-pub returns-in_err-slot-clause-tables : goal.returns-in_err-slot-clause-tables
-returns-in_err-slot-clause-tables c = nothing_moved c.args.self.now
+pub returns-in_err-slot-clause-same_tables : goal.returns-in_err-slot-clause-same_tables
+returns-in_err-slot-clause-same_tables c = nothing_moved c.args.self.now
 
-pub returns-clause-tables : goal.returns-clause-tables
-returns-clause-tables c =
+pub returns-clause-same_tables : goal.returns-clause-same_tables
+returns-clause-same_tables c =
     let m = c.args.self.now in
     let r = c.requires.world in
     let caller = c.in_ok-slot.ensures.there r.0 r.1 in

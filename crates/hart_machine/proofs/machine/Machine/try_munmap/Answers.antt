@@ -42,7 +42,7 @@ munmap-requires-clause-fits c =
     let r = c.requires.world in
     let caller = c.in_ok-slot.ensures.there r.0 r.1 in
     let there = slot_has m.slots.items c.in_ok-slot.slot caller.slot_process c.in-Some.slot_process _ c.in-Some.is c.index_mut.ensures.value caller.place in
-    seat_fits m.frames m.kernel.seat m.slots.items c.in_ok-slot.slot c.in-Some.slot_process there (r.1).rule
+    seat_fits m.frames m.kernel.seat m.slots.items c.in_ok-slot.slot c.in-Some.slot_process there (r.1).invariant
 
 pub munmap-requires-clause-ready : goal.munmap-requires-clause-ready
 munmap-requires-clause-ready c =

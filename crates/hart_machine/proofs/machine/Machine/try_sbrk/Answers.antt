@@ -48,7 +48,7 @@ sbrk-requires-clause-fits c =
     let r = c.requires.world in
     let caller = c.in_ok-slot.ensures.there r.0 r.1 in
     let there = slot_has m.slots.items c.in_ok-slot.slot caller.slot_process c.in-Some.slot_process _ c.in-Some.is c.index_mut.ensures.value caller.place in
-    seat_fits m.frames m.kernel.seat m.slots.items c.in_ok-slot.slot c.in-Some.slot_process there (r.1).rule
+    seat_fits m.frames m.kernel.seat m.slots.items c.in_ok-slot.slot c.in-Some.slot_process there (r.1).invariant
 
 pub sbrk-requires-clause-ready : goal.sbrk-requires-clause-ready
 sbrk-requires-clause-ready c =

@@ -30,7 +30,7 @@ translate-requires-clause-fits c =
     let m = c.args.self.now in
     let at = tenant_is m c.args.table c.in-OfProcess.slot c.in-OfProcess.is c.requires.there _ c.index_mut.ensures.value c.in-Some.slot_process c.in-Some.is in
     let r = c.requires.world in
-    seat_fits m.frames m.kernel.seat m.slots.items c.in-OfProcess.slot c.in-Some.slot_process at (r.1).rule
+    seat_fits m.frames m.kernel.seat m.slots.items c.in-OfProcess.slot c.in-Some.slot_process at (r.1).invariant
 
 pub translate-requires-clause-ready : goal.translate-requires-clause-ready
 translate-requires-clause-ready c =

@@ -1,7 +1,7 @@
 use Rattle.std.proofs.Common.{length, None, refl, Some}
 use Rattle.fault_rules.specs.PageService.{moment}
 use Rattle.user_copy.specs.Runs.{runs_of}
-use Rattle.hart_machine.specs.CopyEffect.{moment_of, plain_words}
+use Rattle.hart_machine.specs.CopyEffect.{moment_of, plain_store}
 use Rattle.hart_machine.proofs.StillThere.{still_there, trapframe_out}
 use Rattle.hart_machine.proofs.CopiedRuns.{never_out}
 use Rattle.hart_machine.proofs.slot_process.SlotProcess.copy_bytes_out.Goals as goal
@@ -17,14 +17,14 @@ unreachable-requires c = never_out _ _ _ _ _ _ (rw c.in-Unpromised.is at c.in-Er
 
 pub returns-in-Ok-clause-trapframe : goal.returns-in-Ok-clause-trapframe
 returns-in-Ok-clause-trapframe c =
-    trapframe_out plain_words (runs_of c.args.va.0 c.args.bytes.now) (moment_of c.args.self.now c.args.frames.now c.args.files.now) (moment c.copy_out.new.space c.copy_out.new.store c.copy_out.new.files) 0 (length c.args.bytes.now) None c.in-Ok.ensures.copied
+    trapframe_out plain_store (runs_of c.args.va.0 c.args.bytes.now) (moment_of c.args.self.now c.args.frames.now c.args.files.now) (moment c.copy_out.new.space c.copy_out.new.store c.copy_out.new.files) 0 (length c.args.bytes.now) None c.in-Ok.ensures.copied
 
 pub returns-in-Ok-clause-still : goal.returns-in-Ok-clause-still
 returns-in-Ok-clause-still c = still_there c.args.self.now c.copy_out.new.space (returns-in-Ok-clause-trapframe c) c.copy_out.ensures.copies.space
 
 pub returns-in-Denied-clause-trapframe : goal.returns-in-Denied-clause-trapframe
 returns-in-Denied-clause-trapframe c =
-    trapframe_out plain_words (runs_of c.args.va.0 c.args.bytes.now) (moment_of c.args.self.now c.args.frames.now c.args.files.now) (moment c.copy_out.new.space c.copy_out.new.store c.copy_out.new.files) 0 c.in-Err.short.done (Some c.in-Err.short.rule) c.in-Err.ensures.copied
+    trapframe_out plain_store (runs_of c.args.va.0 c.args.bytes.now) (moment_of c.args.self.now c.args.frames.now c.args.files.now) (moment c.copy_out.new.space c.copy_out.new.store c.copy_out.new.files) 0 c.in-Err.short.done (Some c.in-Err.short.rule) c.in-Err.ensures.copied
 
 pub returns-in-Denied-clause-still : goal.returns-in-Denied-clause-still
 returns-in-Denied-clause-still c = still_there c.args.self.now c.copy_out.new.space (returns-in-Denied-clause-trapframe c) c.copy_out.ensures.copies.space

@@ -1,7 +1,7 @@
 use Rattle.std.proofs.Common.{inl, inr, sym, subst, ◌∙◌}
 use Rattle.std.proofs.lemmas.Bool.{true≢false}
 use Rattle.frame_store.specs.Laws.{fits_after}
-use Rattle.frame_store.specs.Plain.{PlainStateRule}
+use Rattle.frame_store.specs.Plain.{PlainStateInvariant}
 use Rattle.sv39_entry.specs.declared.access.Access.TheVariants.{Load}
 use Rattle.hart_machine.specs.SlotProcesses.{IsSlotProcess}
 use Rattle.hart_machine.specs.declared.slot_process.SlotProcess.{SlotProcess}
@@ -13,7 +13,7 @@ pub copy_bytes_in-reply-requires-clause-ready : goal.copy_bytes_in-reply-require
 copy_bytes_in-reply-requires-clause-ready c = rw c.residence-before.ensures.same c.requires.ready
 
 pub residence-after-requires-clause-fits : goal.residence-after-requires-clause-fits
-residence-after-requires-clause-fits c = let b = c.residence-before.ensures in fits_after PlainStateRule c.copy_bytes_in-reply.ensures.keeps (rw (b.frames, b.same) c.requires.fits)
+residence-after-requires-clause-fits c = let b = c.residence-before.ensures in fits_after PlainStateInvariant c.copy_bytes_in-reply.ensures.keeps (rw (b.frames, b.same) c.requires.fits)
 
 pub residence-after-requires-clause-ready : goal.residence-after-requires-clause-ready
 residence-after-requires-clause-ready c = let r = c.requires.ready in c.copy_bytes_in-reply.ensures.still r.0 r.1 (rw c.residence-before.ensures.same r.2)

@@ -10,7 +10,7 @@ use Rattle.hart_threads.specs.StartEffects.{IsWhy}
 use Rattle.hart_threads.specs.Slots.{FindsSlot, HasReadFull, OnFull}
 use Rattle.hart_threads.specs.StartFrames.{OnNoFrame}
 use Rattle.hart_threads.specs.Starts.{IsBegun}
-use Rattle.process_model.specs.declared.call.Outcome.{Outcome}
+use Rattle.process_model.specs.declared.call.ProcessEnd.{ProcessEnd}
 use Rattle.shared_frames.specs.SeatsOfTable.{FitsIn, view_of}
 use Rattle.shared_frames.specs.declared.seat.SharedSeat.{SharedSeat}
 use Rattle.hart_threads.proofs.start.StartContext.make.Goals as goal
@@ -38,8 +38,8 @@ returns-in-Err-new-clause-made g c =
       journal = e.journal;
       seat = subst (λ (t : TableId). FitsIn t c.end_unstarted.result.seat) (c.started.ensures.store ∙ c.supply-store.ensures) e.fits;
       bare = e.bare;
-      finds = subst (λ (o : Outcome). FindsSlot c.args.slots c.args.taken o) (sym e.outcome) (ltb-true c.args.taken c.args.slots c.in-Ok.ensures.begins);
-      why = subst (λ (o : Outcome). IsWhy c.args.start (view_of c.end_unstarted.result.seat) o) (sym e.outcome) (c.in-Ok.opening.state, c.in-Ok.ensures.process);
+      finds = subst (λ (o : ProcessEnd). FindsSlot c.args.slots c.args.taken o) (sym e.outcome) (ltb-true c.args.taken c.args.slots c.in-Ok.ensures.begins);
+      why = subst (λ (o : ProcessEnd). IsWhy c.args.start (view_of c.end_unstarted.result.seat) o) (sym e.outcome) (c.in-Ok.opening.state, c.in-Ok.ensures.process);
     }
 
 pub returns-in-Ok-new-clause-fits : goal.returns-in-Ok-new-clause-fits
@@ -65,7 +65,7 @@ pub returns-in-Err-clause-frames : goal.returns-in-Err-clause-frames
 returns-in-Err-clause-frames g c = refused_frames (nat_lt c.args.taken c.args.slots) c.args.self.now.alone c.args.enough c.args.start.image (view_of c.args.kernel.now) (view_of c.started.new.kernel) (view_of c.in-Err.seat) c.in-Err.refusal c.in-Err.ensures.refused
 
 pub returns-in-Err-new-clause-full : goal.returns-in-Err-new-clause-full
-returns-in-Err-new-clause-full g c = subst (λ (o : Outcome). OnFull ((c.args.self.now.alone ≡ false) × HasReadFull (view_of c.args.kernel.now) (view_of c.started.new.kernel)) o) (sym c.end_unstarted.ensures.outcome) tt
+returns-in-Err-new-clause-full g c = subst (λ (o : ProcessEnd). OnFull ((c.args.self.now.alone ≡ false) × HasReadFull (view_of c.args.kernel.now) (view_of c.started.new.kernel)) o) (sym c.end_unstarted.ensures.outcome) tt
 
 pub returns-in-Err-new-clause-frames : goal.returns-in-Err-new-clause-frames
-returns-in-Err-new-clause-frames g c = subst (λ (o : Outcome). OnNoFrame (c.args.enough ≡ false) o) (sym c.end_unstarted.ensures.outcome) tt
+returns-in-Err-new-clause-frames g c = subst (λ (o : ProcessEnd). OnNoFrame (c.args.enough ≡ false) o) (sym c.end_unstarted.ensures.outcome) tt

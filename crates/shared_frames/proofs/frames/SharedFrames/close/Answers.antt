@@ -1,7 +1,7 @@
 use Rattle.std.proofs.Common.{◌≡◌, ◌+◌, ◌-◌, ◌∙◌, sym, ap, subst, arith}
 use Rattle.std.specs.Slots.{slots_items}
 use Rattle.shared_frames.specs.Pool.{Pool}
-use Rattle.shared_frames.specs.Rule.{zero_counts}
+use Rattle.shared_frames.specs.Invariant.{zero_counts}
 use Rattle.shared_frames.specs.Totals.{AreTotals, held_frames}
 use Rattle.shared_frames.proofs.Ends.{final, last_totals, totals, at_get}
 use Rattle.shared_frames.proofs.Zeros.{zero_counts-le}

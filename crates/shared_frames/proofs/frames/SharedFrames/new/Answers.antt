@@ -1,12 +1,12 @@
 use Rattle.std.proofs.Common.{◌≡◌, ℕ, ◌+◌, ◌*◌, refl, sym, ap, ◌∙◌, subst, List, [], ◌∷◌, arith, length}
 use Rattle.frame_store.specs.View.{opening_view}
-use Rattle.shared_frames.specs.Rule.{IsSharedRule}
+use Rattle.shared_frames.specs.Invariant.{IsSharedInvariant}
 use Rattle.shared_frames.proofs.Ends.{begins, wide, within-opening}
 use Rattle.shared_frames.proofs.Within.{told}
 use Rattle.shared_frames.proofs.frames.SharedFrames.new.Goals as goal
 
 pub of_words-requires : goal.of_words-requires
-of_words-requires c = subst (λ (ws : List ℕ). IsSharedRule c.args.frames ws (opening_view c.args.frames ∷ [])) (sym (c.deref.ensures.value ∙ c.in_ok-words.ensures)) (begins c.args.frames c.requires.some c.requires.few)
+of_words-requires c = subst (λ (ws : List ℕ). IsSharedInvariant c.args.frames ws (opening_view c.args.frames ∷ [])) (sym (c.deref.ensures.value ∙ c.in_ok-words.ensures)) (begins c.args.frames c.requires.some c.requires.few)
 
 pub returns-clause-fits : goal.returns-clause-fits
 returns-clause-fits c =

@@ -6,6 +6,6 @@ use Rattle.tests_of_frames.proofs.contents.Bench.copy.Goals as goal
 pub invariant_of-self : goal.invariant_of-self
 invariant_of-self c =
     let owns = c.self.invariant in
-    let copied = one_changed _ _ _ _ (owns_turned _ _ _ _ owns) _ _ (c.copy_frame.ensures.keeps [] owns.rule) c.copy_frame.ensures.others _
+    let copied = one_changed _ _ _ _ (owns_turned _ _ _ _ owns) _ _ (c.copy_frame.ensures.keeps [] owns.invariant) c.copy_frame.ensures.others _
     (c.copy_frame.ensures.bytes _ owns.one.known.1) in
     owns_turned _ _ _ _ copied

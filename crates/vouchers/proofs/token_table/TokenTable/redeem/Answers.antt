@@ -3,7 +3,7 @@ use Rattle.std.proofs.Common.{◌∙◌, arith, ap, sym, refl, inl, subst}
 use Rattle.vouchers.specs.Entries.{Has, View, took}
 use Rattle.atomic_table.specs.Table.{Me, step}
 use mathlib.Core.Option.{none}
-use Rattle.vouchers.specs.IssuerRule.{AllIn}
+use Rattle.vouchers.specs.IssuerInvariant.{AllIn}
 use Rattle.vouchers.proofs.Steps.{takes, learns}
 use Rattle.vouchers.proofs.token_table.TokenTable.redeem.Goals as goal
 

@@ -1,4 +1,4 @@
-use Rattle.hart_calls.proofs.at_once.permitted_there.Goals as goal
+use Rattle.hart_calls.proofs.at_once.permitted_boxed.Goals as goal
 
 pub permitted-requires-clause-ready : goal.permitted-requires-clause-ready
 permitted-requires-clause-ready g c = rw c.deref_mut.ensures.value c.requires.ready

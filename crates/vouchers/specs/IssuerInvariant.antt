@@ -1,4 +1,4 @@
--- The invariant of a token table (`IsIssuerRule`, `Kept`): at most one seat (an issuer or a token at the table) is an
+-- The invariant of a token table (`IsIssuerInvariant`, `Kept`): at most one seat (an issuer or a token at the table) is an
 -- issuer; its list has each entry as often as tokens hold it; and what was redeemed last was on the list before.
 -- `Learns`: what a load of the table's word shows.
 use Rattle.std.specs.Prelude.{◌≡◌, ℕ, ◌+◌, true, false, List, [], ◌∷◌}
@@ -23,7 +23,7 @@ AllIn es xs = (e : TokenEntry) → Has e es → Has e xs
 
 -- The invariant, of the views of all seats: at most one is an issuer's; no other view has issued entries; for every weight h
 -- of entries, those issued weigh as much as those held, so each entry is issued as often as it is held
-pub record IsIssuerRule (views : List View) : Type 0 where
+pub record IsIssuerInvariant (views : List View) : Type 0 where
   pub seat : ℕ
   pub issuer : (id : ℕ) (v : View) → get_elem? views id ≡ some v → v.keeps ≡ true → id ≡ seat
   pub others : (id : ℕ) (v : View) → get_elem? views id ≡ some v → v.keeps ≡ false → v.given ≡ []
@@ -32,7 +32,7 @@ pub record IsIssuerRule (views : List View) : Type 0 where
   pub told : (id : ℕ) (v : View) → get_elem? views id ≡ some v → AllIn v.back v.before
 
 abbrev pub Kept : ℕ → State (Unit {0}) View → Type 0
-Kept n s = IsIssuerRule s.views
+Kept n s = IsIssuerInvariant s.views
 
 -- a load of the table's word changes nothing, and shows that the entries redeemed last were on the list before
 abbrev pub Learns : Step (Unit {0}) → Me (Unit {0}) View → ℕ → Me (Unit {0}) View → Type 0

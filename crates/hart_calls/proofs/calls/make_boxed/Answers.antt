@@ -1,4 +1,4 @@
-use Rattle.hart_calls.proofs.calls.make_there.Goals as goal
+use Rattle.hart_calls.proofs.calls.make_boxed.Goals as goal
 
 pub make-requires-clause-ready : goal.make-requires-clause-ready
 make-requires-clause-ready g c = rw c.deref_mut.ensures.value c.requires.ready

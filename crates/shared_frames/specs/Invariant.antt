@@ -1,5 +1,5 @@
--- The invariant of shared frames (`IsSharedRule`, `Kept`), which holds between any two steps: counts are the sums of all
--- seats' references and at most 65,535, the frames of count 0 are the free and the reserved ones, and what each view (the
+-- The invariant of shared frames (`IsSharedInvariant`, `Kept`), which holds between any two steps: counts are the sums of all
+-- seats' references and at most `MOST_REFERENCES`, the frames of count 0 are the free and the reserved ones, and what each view (the
 -- ghost state of a seat, an owner's capability) says is true. And the table's layout, here the places of counts and words
 -- in it.
 use Rattle.std.specs.Prelude.{◌≡◌, ℕ, zero, suc, ◌+◌, ◌*◌, ◌<◌, ◌≤◌, List, [], ◌∷◌, length, slice_index, Some, IsTrue}
@@ -54,9 +54,9 @@ pub record ViewAgrees (n : ℕ) (words : List ℕ) (all : ℕ → ℕ) (v : View
   pub frames : (f : ℕ) → FrameAgrees words f (all f) (hold_of v f)
 
 -- The invariant for n frames, at most 256, with 513 * n + 1 words: each count is the sum of all seats' references to the
--- frame, at most 65,535; the frames of count 0 are as many as the free count and all credits together; and what each view
+-- frame, at most `MOST_REFERENCES`; the frames of count 0 are as many as the free count and all credits together; and what each view
 -- says is true
-pub record IsSharedRule (n : ℕ) (words : List ℕ) (views : List View) : Type 0 where
+pub record IsSharedInvariant (n : ℕ) (words : List ℕ) (views : List View) : Type 0 where
   pub narrow : n ≤ MOST_SHARED_FRAMES
   pub wide : length words ≡ 513 * n + 1
   pub counted : (f : ℕ) → f < n → slice_index words (count_at f) ≡ all_references f views
@@ -65,4 +65,4 @@ pub record IsSharedRule (n : ℕ) (words : List ℕ) (views : List View) : Type 
   pub agrees : (id : ℕ) (v : View) → get_elem? views id ≡ some v → ViewAgrees n words (λ f. all_references f views) v
 
 abbrev pub Kept : ℕ → State (Unit {0}) View → Type 0
-Kept n s = IsSharedRule n s.words s.views
+Kept n s = IsSharedInvariant n s.words s.views

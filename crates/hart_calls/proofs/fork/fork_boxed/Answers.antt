@@ -1,4 +1,4 @@
-use Rattle.hart_calls.proofs.fork.fork_there.Goals as goal
+use Rattle.hart_calls.proofs.fork.fork_boxed.Goals as goal
 
 pub fork_with-requires-clause-ready : goal.fork_with-requires-clause-ready
 fork_with-requires-clause-ready g c = rw c.deref_mut.ensures.value c.requires.ready

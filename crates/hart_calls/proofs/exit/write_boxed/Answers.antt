@@ -1,4 +1,4 @@
-use Rattle.hart_calls.proofs.exit.write_there.Goals as goal
+use Rattle.hart_calls.proofs.exit.write_boxed.Goals as goal
 
 pub write_all_back-requires-clause-fits : goal.write_all_back-requires-clause-fits
 write_all_back-requires-clause-fits g c = rw c.deref_mut.ensures.value c.requires.fits
