@@ -4,7 +4,7 @@
 use Rattle.std.specs.Prelude.{◌≡◌, ℕ, ◌+◌, ◌<◌, List, ◌∷◌}
 use Rattle.frame_store.specs.View.{View, IsHeld}
 
--- the store's invariant `invariant` holds of this seat together with some list of other seats
+-- the store's invariant holds of this seat together with some list of other seats
 abbrev pub IsSeatOf : {Store Seat : Type 0} → (Store → List Seat → Type 0) → Store → Seat → Type 0
 IsSeatOf {Store} {Seat} invariant store seat = (others : List Seat) × invariant store (seat ∷ others)
 

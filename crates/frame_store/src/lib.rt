@@ -5,7 +5,7 @@
 //!
 //! An owner, such as a process, uses its frames through a *seat*. What the seat knows, its *view* (`specs/View.antt`), is
 //! ghost state that contracts alone read. Each call says how it changes the view of its own seat, and keeps the store's
-//! invariant (`invariant`), which ties the views of all seats to the store. So the crates above are proved once, from their own
+//! `invariant`, which ties the views of all seats to the store. So the crates above are proved once, from their own
 //! seat's view, for any store.
 #![tactic(auto)]
 

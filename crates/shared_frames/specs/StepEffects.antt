@@ -54,7 +54,7 @@ Reserves st m found w = w ≡ (cond (found == st.first) (with_credits (st.first 
 abbrev pub Claims : StepEffect
 Claims st m found w = (f : ℕ) → st.word ≡ count_at f → (w ≡ (cond (found == 0) (claimed f m.0) m.0, m.1)) × (found ≡ 0 → references m.0 f ≡ 0)
 
--- the view after an exchange that found a count that it did not expect: `MOST_REFERENCES`, is tallied as read
+-- the view after an exchange that found a count that it did not expect: `MOST_REFERENCES` is tallied as read
 abbrev pub unshared : ℕ → View → View
 unshared found v = cond (found == MOST_REFERENCES) (read_full v) v
 

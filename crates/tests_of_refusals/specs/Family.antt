@@ -16,7 +16,7 @@ AreAlive view space child = IsAlive (body_of view space) × IfSome child (λ c. 
 abbrev pub seats_of : {S : Type 0} → Space S → Option (Space S) → List S
 seats_of space child = space.seat ∷ option_to_list (option_map (λ c. c.seat) child)
 
--- the store's invariant (`invariant`) holds of these seats and of some others
+-- the store's invariant holds of these seats and of some others
 abbrev pub FamilyFits : {Store S : Type 0} → (Store → List S → Type 0) → Store → Space S → Option (Space S) → Type 0
 FamilyFits {Store} {S} invariant store space child = (others : List S) × invariant store (seats_of space child ++ others)
 
