@@ -8,7 +8,7 @@ use Rattle.frame_store.specs.Laws.{IsDry}
 use Rattle.frame_store.specs.Tallies.{spent_is, spent_taken}
 use Rattle.frame_store.specs.View.{spent, View, hold_of, with_credits}
 use Rattle.process_model.specs.Frames.{settle_need, tables_needed}
-use Rattle.process_model.specs.OrderLaws.{leafy_at}
+use Rattle.process_model.proofs.OrderLaws.{leafy_at}
 use Rattle.process_model.specs.PageMap as pages
 use Rattle.process_model.specs.Process.{Process, regions}
 use Rattle.process_model.specs.Regions.{Region, region_at}

@@ -13,7 +13,7 @@ use Rattle.process_model.specs.Process.{Page, Process, regions}
 use Rattle.sv39_entry.specs.Schemes.{trampoline_page, trapframe_page}
 use Rattle.sv39_entry.specs.declared.scheme.Scheme.{Scheme}
 use Rattle.address_space.specs.Parts.{with_settled, with_pages}
-use Rattle.process_model.specs.ValueSets.{count_next, none_in, same_count, values}
+use Rattle.process_model.proofs.ValueSets.{count_next, none_in, same_count, values}
 use Rattle.process_model.specs.Insertion.{behind, behind_more, first_or, in_front, inserted_other, key_in, key_out}
 
 abbrev pub Pages : Type 0

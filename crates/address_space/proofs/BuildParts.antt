@@ -11,7 +11,7 @@ use Rattle.frame_store.specs.Tallies.{spent_is, spent_none, spent_on}
 use Rattle.frame_store.specs.View.{View}
 use Rattle.process_model.specs.Bytes.{numbers_from}
 use Rattle.process_model.specs.Frames.{tables_of}
-use Rattle.process_model.specs.ImageNeed.{run_numbers}
+use Rattle.process_model.proofs.ImageNeed.{run_numbers}
 use Rattle.process_model.specs.Process.{Process, heap_of}
 use Rattle.process_model.specs.Regions.{Region, end_of, holds_page, region_at}
 use Rattle.table_walk.specs.Tables.{Tables}
@@ -21,7 +21,7 @@ use Rattle.address_space.specs.declared.part.Part.{Part}
 use Rattle.address_space.proofs.BuildPages.{Pages, in_run, other_stays, same_regions, tables_up_to, with_both, same_scheme}
 use Rattle.address_space.proofs.Found.{first_found, first_passed, in_front}
 use Rattle.address_space.proofs.NeededParts.{begins, pages_more}
-use Rattle.process_model.specs.ValueSets.{none_in}
+use Rattle.process_model.proofs.ValueSets.{none_in}
 use Rattle.sv39_entry.specs.declared.scheme.Scheme.{Scheme}
 use Rattle.sv39_entry.specs.Schemes.{trapframe_page}
 

@@ -24,7 +24,7 @@ use Rattle.address_space.specs.Agreement.{is_dirty_page, IsPageLeaf, ShowsPages,
 use Rattle.address_space.specs.Parts.{bare_process, IsAscending, numbers_of, pages_of, part_pages, process_of_parts, region_in, with_settled, with_pages}
 use Rattle.address_space.specs.declared.part.Part.{Part}
 use Rattle.address_space.proofs.BuildPages.{Pages, other_stays, page_numbers, same_regions, same_tables_needed, same_scheme}
-use Rattle.process_model.specs.ValueSets.{none_in}
+use Rattle.process_model.proofs.ValueSets.{none_in}
 use Rattle.process_model.specs.Insertion.{behind_more, first_or, inserted_here, inserted_other, key_in, key_out}
 use Rattle.sv39_entry.specs.Schemes.{trapframe_page, top_level, trampoline_page}
 use Rattle.sv39_entry.specs.declared.scheme.Scheme.{Scheme}

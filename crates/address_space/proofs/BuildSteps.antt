@@ -8,7 +8,7 @@ use Rattle.frame_store.specs.Tallies.{spent_is, spent_none, spent_on}
 use Rattle.frame_store.specs.View.{View, IsSole}
 use Rattle.process_model.specs.Bytes.{padded}
 use Rattle.process_model.specs.Frames.{tables_needed, tables_of}
-use Rattle.process_model.specs.ImageNeed.{run_length, run_numbers}
+use Rattle.process_model.proofs.ImageNeed.{run_length, run_numbers}
 use Rattle.process_model.specs.ImageProcess.{page_run}
 use Rattle.process_model.specs.PageMap as pages
 use Rattle.process_model.specs.Process.{Process}

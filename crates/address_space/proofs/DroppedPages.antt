@@ -10,7 +10,7 @@ use Rattle.process_model.specs.Heap.{without_pages}
 use Rattle.process_model.specs.PageMap as pages
 use Rattle.process_model.specs.PageMap.{PageMap}
 use Rattle.process_model.specs.Process.{Page, Process}
-use Rattle.process_model.specs.ReleaseLaws.{still_settled, was_settled}
+use Rattle.process_model.proofs.ReleaseLaws.{still_settled, was_settled}
 use Rattle.sv39_entry.specs.Schemes.{top_level, trampoline_page, trapframe_page, of_scheme}
 use Rattle.sv39_entry.specs.declared.scheme.Scheme.{Scheme}
 use Rattle.table_walk.specs.TableChanges.{IsNextLeafBefore, places}

@@ -22,7 +22,7 @@ use Rattle.address_space.specs.SpaceTeardown.{IsEmptied, IsStripped}
 use Rattle.address_space.specs.SpacesInCalls.{IsSpaceInCall}
 use Rattle.address_space.specs.Steps.{IsBare, TakesFrames}
 use Rattle.address_space.proofs.DroppedLeaf.{changes_take, leaf_goes, left, released_credits, released_takes, takes_none, takes_then, unmapped}
-use Rattle.process_model.specs.ReleaseLaws.{was_settled}
+use Rattle.process_model.proofs.ReleaseLaws.{was_settled}
 use Rattle.address_space.proofs.Owned.{both_of, no_table, one_else, one_here, released_here, released_other, same_references, same_sole}
 use Rattle.table_walk.specs.Nodes.{one_page}
 

@@ -7,7 +7,7 @@ use Rattle.std.specs.FinMap.{get}
 use Rattle.std.specs.Prelude.{IsSome}
 use Rattle.frame_store.specs.View.{AllKnown, View, with_word}
 use Rattle.process_model.specs.Insertion.{put_back}
-use Rattle.process_model.specs.OrderLaws.{leafy_at}
+use Rattle.process_model.proofs.OrderLaws.{leafy_at}
 use Rattle.process_model.specs.PageMap as pages
 use Rattle.process_model.specs.Process.{Page, Process, regions}
 use Rattle.process_model.specs.Regions.{is_shared_kind, lacks_right, makes_leaf, Region, region_at}

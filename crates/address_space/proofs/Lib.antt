@@ -28,6 +28,7 @@ pub mod Owned
 pub mod Owning
 pub mod OwningCounts
 pub mod OwningSteps
+pub mod PendingAccess
 pub mod RegionEnds
 pub mod Relaid
 pub mod SettledPages

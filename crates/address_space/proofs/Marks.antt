@@ -5,7 +5,7 @@ use Rattle.std.proofs.lemmas.Option.{same_Some}
 use Rattle.std.specs.FinMap.{get}
 use Rattle.std.specs.Prelude.{option_and_then, option_map}
 use Rattle.frame_store.specs.View.{AllKnown, IsSole, View, with_word}
-use Rattle.process_model.specs.OrderLaws.{leafy_at}
+use Rattle.process_model.proofs.OrderLaws.{leafy_at}
 use Rattle.process_model.specs.Process.{Page, Process, regions}
 use Rattle.process_model.specs.Regions.{is_shared_kind, keeps_stores, makes_leaf, Region, region_at}
 use Rattle.process_model.specs.Residence.{marked_stored, region_on}

@@ -6,7 +6,7 @@ use Rattle.std.proofs.lemmas.List.{append-nil, length-append, map-append, take_a
 use Rattle.std.proofs.lemmas.List.Concat.{flat_map-cons}
 use Rattle.std.proofs.lemmas.Grind.{flat_map-append}
 use Rattle.process_model.specs.Bytes.{numbers_from}
-use Rattle.process_model.specs.ImageNeed.{run_length, run_numbers}
+use Rattle.process_model.proofs.ImageNeed.{run_length, run_numbers}
 use Rattle.process_model.specs.PageMap.{count, numbers}
 use Rattle.process_model.specs.Regions.{end_of}
 use Rattle.address_space.specs.Layouts.{last_page, region_of}
@@ -16,7 +16,7 @@ use Rattle.sv39_entry.specs.declared.scheme.Scheme.{Scheme}
 use Rattle.address_space.specs.Parts.{AreParts, IsAscending, numbers_of, pages_of, part_pages, region_in, regions_in}
 use Rattle.address_space.specs.declared.part.Part.{Part}
 use Rattle.address_space.specs.declared.region.Region.{Region as CodeRegion}
-use Rattle.process_model.specs.ValueSets.{AreCounted, div_near, div_up, none_counted, run_counted, two_more}
+use Rattle.process_model.proofs.ValueSets.{AreCounted, div_near, div_up, none_counted, run_counted, two_more}
 
 -- ---- one part more
 

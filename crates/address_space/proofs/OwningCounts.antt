@@ -13,7 +13,7 @@ use Rattle.frame_store.specs.Tallies.{spent_none}
 use Rattle.frame_store.specs.View as views
 use Rattle.frame_store.specs.View.{AllKnown, counted, Hold, View, hold_of, IsSole, looked, references, with_credits, with_word}
 use Rattle.process_model.specs.Frames.{take_over_need}
-use Rattle.process_model.specs.OrderLaws.{leafy_at}
+use Rattle.process_model.proofs.OrderLaws.{leafy_at}
 use Rattle.process_model.specs.Process.{Page, Process, regions}
 use Rattle.process_model.specs.Regions.{is_shared_kind, makes_leaf, Region, region_at}
 use Rattle.process_model.specs.Residence.{unmarked, with_page}

@@ -6,7 +6,7 @@ use Rattle.std.proofs.lemmas.Bool.Decides.{eqb_tells}
 use Rattle.process_model.specs.Bytes.{pages_for}
 use Rattle.process_model.specs.Order.{HasOrder, Row}
 use Rattle.process_model.specs.Process.{heap_of, Process, regions}
-use Rattle.process_model.specs.RegionRows.{first_or_second, held, here_or_later, row_up, row_within}
+use Rattle.process_model.proofs.RegionRows.{first_or_second, held, here_or_later, row_up, row_within}
 use Rattle.process_model.specs.Regions.{Region, region_at}
 use Rattle.address_space.specs.Layouts.{region_of}
 use Rattle.address_space.specs.declared.region.Region.{Region as CodeRegion}

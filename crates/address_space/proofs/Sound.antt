@@ -5,11 +5,11 @@ use Rattle.std.proofs.lemmas.Bool.{cases_eq}
 use Rattle.std.specs.Prelude.{is_some}
 use Rattle.process_model.specs.Insertion.{inserted_here, inserted_other}
 use Rattle.process_model.specs.Order.{HasOrder, IsSound}
-use Rattle.process_model.specs.OrderLaws.{regions_row, same_order}
+use Rattle.process_model.proofs.OrderLaws.{regions_row, same_order}
 use Rattle.process_model.specs.PageMap as pages
 use Rattle.process_model.specs.PageMap.{PageMap}
 use Rattle.process_model.specs.Process.{Page, Process, regions}
-use Rattle.process_model.specs.RegionRows.{row_within}
+use Rattle.process_model.proofs.RegionRows.{row_within}
 use Rattle.process_model.specs.Regions.{Region, region_at}
 use Rattle.process_model.specs.Residence.{with_page}
 use Rattle.address_space.specs.Steps.{settled_with}

@@ -29,7 +29,7 @@ use Rattle.address_space.specs.Agreement.{body, IsSpace, IsFrameOfPage}
 use Rattle.address_space.specs.Layouts.{Layout}
 use Rattle.address_space.specs.Steps.{CanRead, CanWrite}
 use Rattle.table_walk.specs.Leaves.{lands, walk_answer}
-use Rattle.address_space.specs.PendingAccess.{agrees_pending}
+use Rattle.address_space.proofs.PendingAccess.{agrees_pending}
 use Rattle.address_space.specs.ProcessLeaves.{frame_is}
 use Rattle.address_space.proofs.Users.{rule_of_region, walked_by_user}
 

@@ -7,7 +7,6 @@ pub mod Kept
 pub mod Kernel
 pub mod Layouts
 pub mod Parts
-pub mod PendingAccess
 pub mod ProcessLeaves
 pub mod SameLeaves
 pub mod CopyOnWrite

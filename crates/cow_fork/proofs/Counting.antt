@@ -11,7 +11,7 @@ use Rattle.std.specs.Prelude.{Contains, is_some}
 use Rattle.process_model.specs.Insertion.{behind, first_or, in_front, same_finds}
 use Rattle.process_model.specs.PageMap.{contains, count, get, keys, numbers, PageMap}
 use Rattle.process_model.specs.Process.{Page, Process}
-use Rattle.process_model.specs.ValueSets.{AreCounted, div_up, has_value, none_counted, none_in, one_more, two_more, value_of, values}
+use Rattle.process_model.proofs.ValueSets.{AreCounted, div_up, has_value, none_counted, none_in, one_more, two_more, value_of, values}
 use Rattle.sv39_entry.specs.Schemes.{trampoline_page, trapframe_page}
 use Rattle.table_walk.specs.Tables.{Tables}
 use Rattle.address_space.specs.SettledLists.{IsNextSettled}

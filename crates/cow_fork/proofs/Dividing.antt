@@ -8,13 +8,13 @@ use Rattle.std.proofs.lemmas.Bool.{cases_eq, eq-eqb, ne_eqb}
 use Rattle.frame_store.specs.Holds.{hold_of-empty}
 use Rattle.frame_store.specs.Laws.{IsAnchored}
 use Rattle.frame_store.specs.View.{CanSplit, empty_view, Hold, hold_of, IsHeld, not_held, references, split_off, View}
-use Rattle.process_model.specs.EachValue.{each_there, found_each}
+use Rattle.process_model.proofs.EachValue.{each_there, found_each}
 use Rattle.process_model.specs.Process.{Page, Process}
 use Rattle.process_model.specs.Insertion.{behind_more, first_or, inserted_here, inserted_other, key_in, key_out}
 use Rattle.process_model.specs.PageMap as pages
 use Rattle.process_model.specs.PageMap.{numbers}
 use Rattle.process_model.specs.Residence.{child_of, child_page, marked, marked_page}
-use Rattle.process_model.specs.ValueSets.{none_in}
+use Rattle.process_model.proofs.ValueSets.{none_in}
 use Rattle.sv39_entry.specs.Word.{ppn}
 use Rattle.sv39_entry.specs.Schemes.{trampoline_page, trapframe_page, of_scheme}
 use Rattle.table_walk.specs.TableCounts.{AreTablesOf, same_members}

@@ -9,7 +9,7 @@ use Rattle.std.proofs.lemmas.Nat.{le-div}
 use Rattle.std.proofs.lemmas.Option.{same_Some}
 use Rattle.std.proofs.Math.Nat.{le-div_iff_mul-le}
 use Rattle.frame_store.specs.View.{IsHeld, View}
-use Rattle.process_model.specs.ValueSets.{div_up}
+use Rattle.process_model.proofs.ValueSets.{div_up}
 use Rattle.sv39_entry.specs.declared.frame.FrameNo.{FrameNo}
 use Rattle.table_walk.specs.TableChanges.{IsNextLeafBefore, places}
 use Rattle.table_walk.specs.Nodes.{above, above_root, low_leaf, node_below, node_from, not_root, power_next, power_some, power_up, root_power, in_level, node_at}

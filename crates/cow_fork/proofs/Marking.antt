@@ -6,9 +6,9 @@ use Rattle.std.specs.Prelude.{option_map}
 use Rattle.std.proofs.lemmas.Bool.{cases_eq, cases_lt}
 use Rattle.std.proofs.lemmas.List.{at_drop_all, at_drop_more}
 use Rattle.std.proofs.lemmas.Option.{same_Some}
-use Rattle.process_model.specs.EachValue.{each_answer}
+use Rattle.process_model.proofs.EachValue.{each_answer}
 use Rattle.process_model.specs.Insertion.{inserted_here, inserted_other, same_finds}
-use Rattle.process_model.specs.OrderLaws.{same_order}
+use Rattle.process_model.proofs.OrderLaws.{same_order}
 use Rattle.process_model.specs.PageMap.{get, insert, PageMap, with_values}
 use Rattle.process_model.specs.Process as of_model
 use Rattle.process_model.specs.Process.{grants_write, Page, Process}

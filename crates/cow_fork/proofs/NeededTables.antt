@@ -7,7 +7,7 @@ use Rattle.std.specs.Prelude.{Contains}
 use Rattle.process_model.specs.Frames.{table_sizes, tables_needed, tables_of_sizes}
 use Rattle.process_model.specs.Insertion.{behind_more}
 use Rattle.process_model.specs.PageMap.{contains, count}
-use Rattle.process_model.specs.ValueSets.{count_next, same_count, values}
+use Rattle.process_model.proofs.ValueSets.{count_next, same_count, values}
 use Rattle.sv39_entry.specs.Schemes.{trampoline_page, trapframe_page, top_level}
 use Rattle.sv39_entry.specs.declared.scheme.Scheme.{Scheme}
 use Rattle.sv39_entry.specs.declared.scheme.Scheme.TheVariants.{Sv39, Sv48}

@@ -11,7 +11,7 @@ use Rattle.frame_store.specs.Tallies.{spent_is, spent_on}
 use Rattle.frame_store.specs.View.{claimed, Hold, hold_of, IsHeld, references, sole_hold, spent, View, with_hold}
 use Rattle.process_model.specs.Frames.{tables_needed}
 use Rattle.process_model.specs.Process.{Process}
-use Rattle.process_model.specs.ValueSets.{none_in}
+use Rattle.process_model.proofs.ValueSets.{none_in}
 use Rattle.sv39_entry.specs.Word.{IsLeafOf}
 use Rattle.table_walk.specs.TableCounts.{AreTablesOf}
 use Rattle.table_walk.specs.Keys.{insert_other, insert_same}

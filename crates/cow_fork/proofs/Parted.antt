@@ -6,8 +6,8 @@ use Rattle.std.specs.FinMap as finite
 use Rattle.std.proofs.lemmas.Option.{same_Some}
 use Rattle.frame_bytes.specs.Contents.{HasBytes}
 use Rattle.frame_store.specs.View.{Hold, hold_of, IsSole, references, View}
-use Rattle.process_model.specs.EachValue.{each_there, found_each}
-use Rattle.process_model.specs.OrderLaws.{same_order}
+use Rattle.process_model.proofs.EachValue.{each_there, found_each}
+use Rattle.process_model.proofs.OrderLaws.{same_order}
 use Rattle.process_model.specs.PageMap as pages
 use Rattle.process_model.specs.Process.{grants_write, Page, Process, regions}
 use Rattle.process_model.specs.Regions.{lacks_right, Region, region_at}

@@ -2,9 +2,9 @@
 -- one (`region_stays`); a filler holds no page.
 use Rattle.std.proofs.Common.{◌≡◌, ℕ, true, ◌≤◌, inl, inr, arith, sym, subst, ◌∙◌, List, [], ◌∷◌, Some}
 use Rattle.process_model.specs.Order.{HasOrder, Row}
-use Rattle.process_model.specs.OrderLaws.{regions_row}
+use Rattle.process_model.proofs.OrderLaws.{regions_row}
 use Rattle.process_model.specs.Process.{Process, regions}
-use Rattle.process_model.specs.RegionRows.{held, here, here_or_later, not_held, passed}
+use Rattle.process_model.proofs.RegionRows.{held, here, here_or_later, not_held, passed}
 use Rattle.process_model.specs.Regions.{end_of, holds_page, Region, region_at}
 use Rattle.sv39_entry.specs.Schemes.{trapframe_page}
 use Rattle.cow_fork.specs.Children.{IsRegionOf}

@@ -8,7 +8,7 @@ use Rattle.std.proofs.Math.Seq.{drop-nil, take-suc}
 use Rattle.std.proofs.lemmas.List.{append_assoc, length-append, length-map, length-take-le, map-append, take_all}
 use Rattle.process_model.specs.Bytes.{padded, pages_for}
 use Rattle.process_model.specs.Frames.{start_need, tables_needed}
-use Rattle.process_model.specs.ImageNeed.{exec_need_is}
+use Rattle.process_model.proofs.ImageNeed.{exec_need_is}
 use Rattle.process_model.specs.Order.{InRow, is_file, IsPlaced}
 use Rattle.process_model.specs.Images.{LoadSegment, end_of_loads, end_page}
 use Rattle.process_model.specs.ImageProcess.{guard_at, image_pages, load_pages, numbered, page_run, parts_of, process_of, segment_region, stack_at}

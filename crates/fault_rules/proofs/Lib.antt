@@ -1,3 +1,4 @@
+pub mod Allowed
 pub mod FirstFrames
 pub mod FirstResidence
 pub mod Pages

@@ -7,7 +7,7 @@ use Rattle.std.proofs.lemmas.Option.{same_Some}
 use Rattle.address_space.specs.Agreement.{Body, IsLeafNumber, IsFrameOfPage, IsShown, IsSpace}
 use Rattle.frame_store.specs.View.{IsSole}
 use Rattle.process_model.specs.Insertion.{inserted_here, inserted_other}
-use Rattle.process_model.specs.OrderLaws.{same_order}
+use Rattle.process_model.proofs.OrderLaws.{same_order}
 use Rattle.process_model.specs.PageMap.{get}
 use Rattle.process_model.specs.Process.{Page, Process, regions}
 use Rattle.process_model.specs.Regions.{region_at}

@@ -14,7 +14,7 @@ use Rattle.process_model.specs.Files.{File, file_page}
 use Rattle.process_model.specs.Order.{HasNoFile, HasOrder, IsInReach, is_file, IsMapping}
 use Rattle.process_model.specs.PageMoves.{page_read}
 use Rattle.process_model.specs.Process.{Process, heap_of, regions}
-use Rattle.process_model.specs.RegionRows.{each_at, first_or_second, held, here_or_later}
+use Rattle.process_model.proofs.RegionRows.{each_at, first_or_second, held, here_or_later}
 use Rattle.process_model.specs.Regions.{end_of, file, holds_page, image, Region, region_at, Source, zeros}
 use Rattle.process_model.specs.Residence.{source_page}
 

@@ -7,10 +7,10 @@ use Rattle.fault_rules.specs.MadeResident.{CanMakeResident, gets_frame, is_count
 use Rattle.frame_store.specs.Tallies.{taken_none}
 use Rattle.process_model.specs.Files.{File}
 use Rattle.process_model.specs.Frames.{resident_need, resident_need_of, unless_through}
-use Rattle.process_model.specs.OrderLaws.{regions_row}
+use Rattle.process_model.proofs.OrderLaws.{regions_row}
 use Rattle.process_model.specs.PageMap.{get}
 use Rattle.process_model.specs.Process.{Page, Process, regions}
-use Rattle.process_model.specs.RegionRows.{row_within}
+use Rattle.process_model.proofs.RegionRows.{row_within}
 use Rattle.process_model.specs.Regions.{Region}
 use Rattle.process_model.specs.Residence.{can_complete, made_resident, made_resident_from, parts_from, region_on, taken_over_unless}
 use Rattle.sv39_entry.specs.Schemes.{trapframe_page}

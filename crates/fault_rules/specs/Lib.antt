@@ -1,4 +1,3 @@
-pub mod Allowed
 pub mod MadeResident
 pub mod PageService
 pub mod Serves

@@ -8,7 +8,7 @@ use Rattle.std.proofs.lemmas.List.{append-nil}
 use Rattle.address_space.specs.Accesses.{IsGranted}
 use Rattle.address_space.specs.Agreement.{Body, IsSpace}
 use Rattle.address_space.specs.Steps.{RunsDry}
-use Rattle.fault_rules.specs.Allowed.{denied_otherwise}
+use Rattle.fault_rules.proofs.Allowed.{denied_otherwise}
 use Rattle.fault_rules.specs.MadeResident.{is_counted, is_shared_by, moves_for}
 use Rattle.fault_rules.specs.Serves.{IsEnd, served_moves}
 use Rattle.fault_rules.specs.declared.service.Served.{Served}
@@ -27,7 +27,7 @@ use Rattle.process_model.specs.Frames.{take_over_need, resident_need, resident_n
 use Rattle.process_model.specs.PageMap.{get}
 use Rattle.process_model.specs.PageMoves.{PageMove}
 use Rattle.process_model.specs.Process.{Page, Process, regions}
-use Rattle.process_model.specs.ResidenceLaws.{made_settles, resident_again}
+use Rattle.process_model.proofs.ResidenceLaws.{made_settles, resident_again}
 use Rattle.process_model.specs.Regions.{copy_rule, first_rule, Region}
 use Rattle.process_model.specs.Residence.{access_answer, can_complete, is_resident, is_resident_page, made_resident, parts_from, region_on}
 use Rattle.process_model.specs.Service.{AccessRequest, if_resident, if_settled, unless_denied, user_access}

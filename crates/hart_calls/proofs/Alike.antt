@@ -7,7 +7,7 @@ use Rattle.std.proofs.lemmas.Option.{same_Some}
 use Rattle.address_space.specs.Agreement.{Body, IsShown, IsSpace}
 use Rattle.process_model.specs.Files.{File}
 use Rattle.process_model.specs.Insertion.{inserted_here, inserted_other}
-use Rattle.process_model.specs.OrderLaws.{same_order}
+use Rattle.process_model.proofs.OrderLaws.{same_order}
 use Rattle.process_model.specs.PageMap.{get}
 use Rattle.process_model.specs.Process.{Page, Process}
 use Rattle.process_model.specs.Residence.{can_complete, made_resident, made_resident_from, region_on, taken_over, taken_over_unless, with_page}

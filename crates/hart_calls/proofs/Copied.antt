@@ -5,7 +5,7 @@ use Rattle.std.proofs.Common.{◌≡◌, ℕ, ◌+◌, ◌<◌, Bool, true, fals
 use Rattle.std.proofs.lemmas.List.{append-nil}
 use Rattle.std.specs.Prelude.{is_some, option_to_list}
 use Rattle.address_space.specs.Agreement.{Body, IsSpace}
-use Rattle.fault_rules.specs.Allowed.{can_reside, denied_otherwise}
+use Rattle.fault_rules.proofs.Allowed.{can_reside, denied_otherwise}
 use Rattle.fault_rules.specs.MadeResident.{CanMakeResident, is_counted, is_shared_by}
 use Rattle.fault_rules.specs.PageService.{body_at, Moment, StoreModel}
 use Rattle.fault_rules.specs.Serves.{IsEnd, served_moves}
@@ -23,7 +23,7 @@ use Rattle.process_model.specs.Frames.{resident_need, resident_need_of, unless_t
 use Rattle.process_model.specs.PageMap.{get}
 use Rattle.process_model.specs.PageMoves.{files_after, PageMove}
 use Rattle.process_model.specs.Process.{Page, Process, regions}
-use Rattle.process_model.specs.ResidenceLaws.{no_alignment, reached_at_once, resident_again}
+use Rattle.process_model.proofs.ResidenceLaws.{no_alignment, reached_at_once, resident_again}
 use Rattle.process_model.specs.Regions.{copy_rule}
 use Rattle.process_model.specs.Residence.{is_resident, is_resident_page, made_resident, made_resident_from, parts_from, region_on, taken_over_unless}
 use Rattle.process_model.specs.declared.reply.Refusal.{Refusal}

@@ -20,7 +20,7 @@ use Rattle.hart_calls.proofs.Copied.{left_moves, left_space, stops, Under}
 use Rattle.hart_calls.proofs.CopiedSteps.{Ran}
 use Rattle.process_model.specs.Environment.{Progress}
 use Rattle.process_model.specs.Copies.{Copied, reached_in}
-use Rattle.process_model.specs.CopyRuns.{so_far}
+use Rattle.process_model.proofs.CopyRuns.{so_far}
 use Rattle.process_model.specs.Files.{File}
 use Rattle.process_model.specs.Frames.{resident_need}
 use Rattle.process_model.specs.PageMap.{get}

@@ -15,8 +15,8 @@ use Rattle.hart_calls.proofs.CopiedEnds.{begun_under, both_whole, calm_elsewhere
 use Rattle.hart_calls.proofs.CopiedSteps.{ran_in, RanIn}
 use Rattle.process_model.specs.Bytes.{numbers_from}
 use Rattle.process_model.specs.Copies.{Copied, copied_in, copy_begun, reached_in}
-use Rattle.process_model.specs.CopyRuns.{more_in, run_in_stops, so_far, stopped_in}
-use Rattle.process_model.specs.CopySplits.{copied_in_split}
+use Rattle.process_model.proofs.CopyRuns.{more_in, run_in_stops, so_far, stopped_in}
+use Rattle.process_model.proofs.CopySplits.{copied_in_split}
 use Rattle.process_model.specs.Files.{File}
 use Rattle.process_model.specs.PageMoves.{files_after, PageMove}
 use Rattle.process_model.specs.Process.{Process, regions}

@@ -15,8 +15,8 @@ use Rattle.hart_calls.proofs.CopiedEnds.{begun_under, both_whole, calm_elsewhere
 use Rattle.hart_calls.proofs.CopiedSteps.{ran_out, RanOut}
 use Rattle.process_model.specs.Bytes.{numbers_from}
 use Rattle.process_model.specs.Copies.{Copied, copied_out, copy_begun, reached_in}
-use Rattle.process_model.specs.CopyRuns.{more_out, run_out_stops, so_far, stopped_out}
-use Rattle.process_model.specs.CopySplits.{copied_out_split}
+use Rattle.process_model.proofs.CopyRuns.{more_out, run_out_stops, so_far, stopped_out}
+use Rattle.process_model.proofs.CopySplits.{copied_out_split}
 use Rattle.process_model.specs.Files.{File}
 use Rattle.process_model.specs.PageMoves.{files_after, PageMove}
 use Rattle.process_model.specs.Process.{Process, regions}

@@ -16,7 +16,7 @@ use Rattle.hart_calls.proofs.Accessed.{most}
 use Rattle.hart_calls.proofs.CopiedEnds.{stop_cases}
 use Rattle.process_model.specs.Environment.{need_at, Progress}
 use Rattle.process_model.specs.Copies.{Copied, copied_in, copied_out, in_reply, out_reply}
-use Rattle.process_model.specs.CopyRuns.{so_far}
+use Rattle.process_model.proofs.CopyRuns.{so_far}
 use Rattle.process_model.specs.Files.{File}
 use Rattle.process_model.specs.Frames.{resident_need}
 use Rattle.process_model.specs.PageMoves.{PageMove}

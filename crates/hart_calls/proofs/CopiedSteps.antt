@@ -5,7 +5,7 @@ use Rattle.std.specs.Prelude.{is_some, Option, option_to_list, zip}
 use Rattle.std.proofs.lemmas.Bool.{and_parts}
 use Rattle.std.proofs.lemmas.List.{append-nil, length-drop, length-take-le}
 use Rattle.address_space.specs.Steps.{CanWrite}
-use Rattle.fault_rules.specs.Allowed.{can_reside}
+use Rattle.fault_rules.proofs.Allowed.{can_reside}
 use Rattle.fault_rules.specs.MadeResident.{is_counted, is_shared_by}
 use Rattle.fault_rules.specs.PageService.{body_at, Moment, StoreModel}
 use Rattle.fault_rules.specs.Serves.{served_moves}
@@ -15,13 +15,13 @@ use Rattle.hart_calls.proofs.Bodies.{still_space}
 use Rattle.hart_calls.proofs.Copied.{around, reaches, Under}
 use Rattle.process_model.specs.Environment.{Progress}
 use Rattle.process_model.specs.Bytes.{numbers_from}
-use Rattle.process_model.specs.CopyRuns.{more_in, more_out, run_in, run_out, so_far}
+use Rattle.process_model.proofs.CopyRuns.{more_in, more_out, run_in, run_out, so_far}
 use Rattle.process_model.specs.Frames.{resident_need}
 use Rattle.process_model.specs.Insertion.{inserted_other}
 use Rattle.process_model.specs.PageMap.{get}
 use Rattle.process_model.specs.PageMoves.{files_after, PageMove}
 use Rattle.process_model.specs.Process.{Page, regions}
-use Rattle.process_model.specs.ResidenceLaws.{granted_again, no_alignment, reached_serves}
+use Rattle.process_model.proofs.ResidenceLaws.{granted_again, no_alignment, reached_serves}
 use Rattle.process_model.specs.Regions.{copy_rule, keeps_stores}
 use Rattle.process_model.specs.Residence.{is_resident, is_resident_page, region_on, stored, with_page}
 use Rattle.sv39_entry.specs.Address.{page_of}

@@ -10,10 +10,10 @@ use Rattle.frame_store.specs.View.{View}
 use Rattle.process_model.specs.Environment.{Environment, Progress}
 use Rattle.process_model.specs.Bytes.{numbers_from}
 use Rattle.process_model.specs.Copies.{Copied, copied_in, copied_out, copy_begun}
-use Rattle.process_model.specs.CopyRuns.{more_in, more_out, run_in, run_in_stops, run_out, run_out_stops, so_far, stopped_in, stopped_out}
-use Rattle.process_model.specs.CopySplits.{copied_in_split, copied_out_split}
+use Rattle.process_model.proofs.CopyRuns.{more_in, more_out, run_in, run_in_stops, run_out, run_out_stops, so_far, stopped_in, stopped_out}
+use Rattle.process_model.proofs.CopySplits.{copied_in_split, copied_out_split}
 use Rattle.process_model.specs.Files.{File}
-use Rattle.process_model.specs.ResidenceLaws.{granted_again, reached_serves}
+use Rattle.process_model.proofs.ResidenceLaws.{granted_again, reached_serves}
 use Rattle.process_model.specs.Service.{environment_of}
 use Rattle.process_model.specs.World.{World}
 use Rattle.process_model.specs.declared.reply.Refusal.{Refusal}

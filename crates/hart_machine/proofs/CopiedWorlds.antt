@@ -8,9 +8,9 @@ use Rattle.std.proofs.lemmas.Bool.{and_parts}
 use Rattle.std.proofs.lemmas.List.{set-set}
 use Rattle.std.proofs.lemmas.Option.{slice_get_within}
 use Rattle.address_space.specs.Agreement.{IsFrameOfPage}
-use Rattle.address_space.specs.PendingAccess.{agrees_pending}
+use Rattle.address_space.proofs.PendingAccess.{agrees_pending}
 use Rattle.address_space.specs.Steps.{CanWrite}
-use Rattle.fault_rules.specs.Allowed.{can_reside}
+use Rattle.fault_rules.proofs.Allowed.{can_reside}
 use Rattle.fault_rules.specs.MadeResident.{CanMakeResident, is_shared_by}
 use Rattle.fault_rules.specs.PageService.{Moment}
 use Rattle.fault_rules.specs.Serves.{IsEnd}
@@ -23,7 +23,7 @@ use Rattle.process_model.specs.Copies.{reached_in}
 use Rattle.process_model.specs.Files.{File}
 use Rattle.process_model.specs.PageMap.{get}
 use Rattle.process_model.specs.Process.{Page, Pending, Process, regions}
-use Rattle.process_model.specs.ResidenceLaws.{no_alignment, reached_parts, reached_serves}
+use Rattle.process_model.proofs.ResidenceLaws.{no_alignment, reached_parts, reached_serves}
 use Rattle.process_model.specs.Regions.{copy_rule, keeps_stores}
 use Rattle.process_model.specs.Residence.{is_resident, is_resident_page, made_resident, region_on, stored, with_page}
 use Rattle.process_model.specs.Service.{environment_of, initial_progress, with_progress}

@@ -4,14 +4,14 @@ use Rattle.std.proofs.Common.{◌≡◌, ℕ, ◌<◌, ◌≤◌, Bool, false, t
 use Rattle.std.specs.Prelude.{slice_get, slice_set}
 use Rattle.std.specs.Vec.{with_item}
 use Rattle.std.proofs.lemmas.Bool.{le-leb, lt-leb}
-use Rattle.address_space.specs.PendingAccess.{agrees_pending}
+use Rattle.address_space.proofs.PendingAccess.{agrees_pending}
 use Rattle.fault_rules.specs.PageService.{Moment}
 use Rattle.frame_store.specs.Plain.{PlainState}
 use Rattle.frame_store.specs.View.{View}
 use Rattle.process_model.specs.Environment.{Progress}
 use Rattle.process_model.specs.Calls.{copy_in_outcome, copy_out_outcome}
 use Rattle.process_model.specs.Copies.{Copied, copied_in, copied_out, out_reply}
-use Rattle.process_model.specs.CopyRuns.{so_far}
+use Rattle.process_model.proofs.CopyRuns.{so_far}
 use Rattle.process_model.specs.Files.{File}
 use Rattle.process_model.specs.Harts as harts
 use Rattle.process_model.specs.Process.{Process, regions, without_pending}

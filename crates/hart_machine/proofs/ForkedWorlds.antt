@@ -11,7 +11,7 @@ use Rattle.address_space.specs.Kernel.{IsKernelTable}
 use Rattle.frame_store.specs.Plain.{PlainState, PlainStateInvariant, to_front}
 use Rattle.frame_store.specs.Seats.{place_set_other, place_set_same, place_split, places_apart}
 use Rattle.frame_store.specs.View.{View}
-use Rattle.process_model.specs.EachValue.{found_each}
+use Rattle.process_model.proofs.EachValue.{found_each}
 use Rattle.process_model.specs.PageMap as pages
 use Rattle.process_model.specs.PageMap.{PageMap}
 use Rattle.process_model.specs.Process.{Page, Process}

@@ -21,7 +21,7 @@ use Rattle.process_model.specs.PageMap as pages
 use Rattle.process_model.specs.PageMap.{PageMap}
 use Rattle.process_model.specs.Process.{Page, Process, without_pending}
 use Rattle.process_model.specs.Regions.{Region}
-use Rattle.process_model.specs.ReleaseLaws.{was_settled}
+use Rattle.process_model.proofs.ReleaseLaws.{was_settled}
 use Rattle.process_model.specs.Steps.{plain_step}
 use Rattle.process_model.specs.World.{StepOutcome, refuses, World}
 use Rattle.process_model.specs.declared.reply.Refusal.{Refusal}

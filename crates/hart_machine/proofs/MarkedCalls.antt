@@ -6,7 +6,7 @@ use Rattle.std.specs.Prelude.{drop, flat_map, not, nat_abs, nat_lt, option_map, 
 use Rattle.std.proofs.lemmas.Bool.{cases_lt}
 use Rattle.std.proofs.lemmas.Option.{same_Some}
 use Rattle.process_model.specs.Bytes.{padded, pages_for}
-use Rattle.process_model.specs.EachValue.{each_answer, each_there}
+use Rattle.process_model.proofs.EachValue.{each_answer, each_there}
 use Rattle.process_model.specs.Files.{File}
 use Rattle.process_model.specs.Heap.{resized, resized_unless, sbrk_result, size_refusal, wanted_size, without_pages}
 use Rattle.process_model.specs.Images.{LoadSegment, end_of_loads}
@@ -17,7 +17,7 @@ use Rattle.hart_machine.proofs.ChangedSlots.{changed, same_settled, sign, sign_c
 use Rattle.process_model.specs.PageMap.{PageMap, from_list, get}
 use Rattle.process_model.specs.Process.{Page, Pending, Process, grants_write, regions, without_pending}
 use Rattle.process_model.specs.Regions.{Region, first_rule, keeps_stores}
-use Rattle.process_model.specs.ReleaseLaws.{run_goes, still_settled, was_settled}
+use Rattle.process_model.proofs.ReleaseLaws.{run_goes, still_settled, was_settled}
 use Rattle.process_model.specs.Residence.{access_answer, can_complete, initial_page, is_resident, is_resident_page, leaves_mark, made_resident, made_resident_from, marked, marked_page, region_on, taken_over, taken_over_unless}
 use Rattle.process_model.specs.Service.{Answer, AccessRequest, if_resident, if_settled, unless_denied, user_access}
 use Rattle.sv39_entry.specs.Address.{page_of}

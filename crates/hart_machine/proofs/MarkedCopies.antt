@@ -8,11 +8,11 @@ use Rattle.address_space.specs.Accesses.{IsGranted}
 use Rattle.process_model.specs.Environment.{Environment, Progress}
 use Rattle.process_model.specs.Bytes.{numbers_from}
 use Rattle.process_model.specs.Copies.{Copied, copied_in, copied_out, copy_begun, next_in, next_out, one_in, one_out, reached_in, with_byte, with_byte_on}
-use Rattle.process_model.specs.CopyRuns.{more_in, more_out}
+use Rattle.process_model.proofs.CopyRuns.{more_in, more_out}
 use Rattle.hart_machine.proofs.ChangedSlots.{changed, sign, sign_changes, sign_of, signs_after_put, signs_stay}
 use Rattle.process_model.specs.PageMap.{get}
 use Rattle.process_model.specs.Process.{Page, Process, regions}
-use Rattle.process_model.specs.ResidenceLaws.{reached_parts, reached_serves, resident_again, same_rule}
+use Rattle.process_model.proofs.ResidenceLaws.{reached_parts, reached_serves, resident_again, same_rule}
 use Rattle.process_model.specs.Regions.{copy_rule, Region, keeps_stores, region_at}
 use Rattle.process_model.specs.Residence.{can_complete, is_resident, is_resident_page, region_on, stored}
 use Rattle.sv39_entry.specs.Address.{page_of}

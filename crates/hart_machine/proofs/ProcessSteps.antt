@@ -11,7 +11,7 @@ use Rattle.frame_store.specs.Seats.{place_set_other, place_set_same}
 use Rattle.process_model.specs.PageMap as pages
 use Rattle.process_model.specs.Process.{Page, Process}
 use Rattle.process_model.specs.World.{World, with_process}
-use Rattle.address_space.specs.PendingAccess.{agrees_pending}
+use Rattle.address_space.proofs.PendingAccess.{agrees_pending}
 use Rattle.address_space.specs.Kernel.{IsKernelTable}
 use Rattle.process_model.specs.declared.limits.TheConstants.{MOST_SLOTS}
 use Rattle.hart_machine.specs.SlotProcesses.{IsSlotProcess, view_of}

@@ -18,7 +18,7 @@ use Rattle.process_model.specs.Environment.{is_shared_page, need_at, Progress, r
 use Rattle.process_model.specs.Files.{File}
 use Rattle.process_model.specs.PageMap.{get}
 use Rattle.process_model.specs.Process.{Page, Pending, Process}
-use Rattle.process_model.specs.ResidenceLaws.{made_settles}
+use Rattle.process_model.proofs.ResidenceLaws.{made_settles}
 use Rattle.process_model.specs.Residence.{is_resident, made_resident}
 use Rattle.process_model.specs.Service.{environment_of, initial_progress, is_dry, served, served_or_ended, with_progress}
 use Rattle.process_model.specs.Stale.{is_changed}

@@ -12,7 +12,7 @@ use Rattle.process_model.specs.Heap.{resized_unless, sbrk_result, without_pages}
 use Rattle.process_model.specs.PageMap as pages
 use Rattle.process_model.specs.PageMap.{PageMap}
 use Rattle.process_model.specs.Process.{Page, Process, without_pending}
-use Rattle.process_model.specs.ReleaseLaws.{was_settled}
+use Rattle.process_model.proofs.ReleaseLaws.{was_settled}
 use Rattle.process_model.specs.Steps.{plain_step}
 use Rattle.process_model.specs.World.{StepOutcome, refuses, with_process, World}
 use Rattle.process_model.specs.declared.reply.Refusal.{Refusal}

@@ -2,7 +2,7 @@
 -- with no pending access (`still_there`).
 use Rattle.std.proofs.Common.{◌≡◌, ℕ, ◌+◌, refl, ap, ◌∙◌, List, [], ◌∷◌, ◌++◌, length, Option, None, Ok, Err}
 use Rattle.address_space.specs.Agreement.{body_of}
-use Rattle.address_space.specs.PendingAccess.{agrees_pending}
+use Rattle.address_space.proofs.PendingAccess.{agrees_pending}
 use Rattle.address_space.specs.declared.space.Space.{Space}
 use Rattle.fault_rules.specs.PageService.{Moment, StoreModel}
 use Rattle.frame_store.specs.View.{View}

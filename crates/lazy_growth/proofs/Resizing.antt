@@ -17,12 +17,12 @@ use Rattle.lazy_growth.specs.SbrkResults.{IsNewSize}
 use Rattle.process_model.specs.Bytes.{pages_for}
 use Rattle.process_model.specs.Heap.{resized, resized_unless, sbrk_result, size_refusal, wanted_size, without_pages}
 use Rattle.process_model.specs.Order.{HasOrder}
-use Rattle.process_model.specs.OrderLaws.{resized_order, sized_order}
+use Rattle.process_model.proofs.OrderLaws.{resized_order, sized_order}
 use Rattle.process_model.specs.PageMap.{only, PageMap}
-use Rattle.process_model.specs.PageRegions.{region_resized}
+use Rattle.process_model.proofs.PageRegions.{region_resized}
 use Rattle.process_model.specs.Process.{Process}
 use Rattle.process_model.specs.Regions.{is_guard_kind, is_shared_kind}
-use Rattle.process_model.specs.ReleaseLaws.{was_settled}
+use Rattle.process_model.proofs.ReleaseLaws.{was_settled}
 use Rattle.process_model.specs.declared.reply.Refusal.{Refusal}
 use Rattle.sv39_entry.specs.Schemes.{trapframe_page}
 use Rattle.table_walk.specs.Tables.{Tables}

@@ -9,7 +9,7 @@ use Rattle.process_model.specs.Bytes.{pages_for}
 use Rattle.process_model.specs.Heap.{size_refusal, wanted_size}
 use Rattle.process_model.specs.Order.{HasOrder}
 use Rattle.process_model.specs.Process.{Process}
-use Rattle.process_model.specs.RegionRows.{row_up}
+use Rattle.process_model.proofs.RegionRows.{row_up}
 use Rattle.process_model.specs.declared.reply.Refusal.TheVariants.{BadSize}
 use Rattle.sv39_entry.specs.Schemes.{trapframe_page, of_scheme}
 use Rattle.sv39_entry.specs.declared.scheme.Scheme.{Scheme}

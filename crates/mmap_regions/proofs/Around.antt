@@ -5,11 +5,11 @@ use Rattle.std.specs.Prelude.{◌&&◌, nat_le, option_map}
 use Rattle.address_space.specs.Layouts.{LaysOut, Layout, region_of}
 use Rattle.address_space.specs.declared.region.Region.{Region as CodeRegion}
 use Rattle.process_model.specs.Bytes.{pages_for}
-use Rattle.process_model.specs.MappingRows.{around_each, around_holds}
+use Rattle.process_model.proofs.MappingRows.{around_each, around_holds}
 use Rattle.process_model.specs.Mappings.{mapping_around}
 use Rattle.process_model.specs.Order.{EachRegion, HasOrder, Row}
 use Rattle.process_model.specs.Process.{Process}
-use Rattle.process_model.specs.RegionRows.{row_up}
+use Rattle.process_model.proofs.RegionRows.{row_up}
 use Rattle.process_model.specs.Regions.{end_of, Region}
 use Rattle.sv39_entry.specs.Schemes.{trapframe_page}
 

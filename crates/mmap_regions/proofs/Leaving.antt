@@ -11,14 +11,14 @@ use Rattle.mmap_regions.specs.Runs.{IsRunOf, MappedRun, requested_run, run_if, r
 use Rattle.process_model.specs.Bytes.{pages_for}
 use Rattle.process_model.specs.Files.{File}
 use Rattle.process_model.specs.Heap.{without_pages}
-use Rattle.process_model.specs.MappingRows.{around_each, around_holds}
+use Rattle.process_model.proofs.MappingRows.{around_each, around_holds}
 use Rattle.process_model.specs.Mappings.{back_of, front_of, leaves_hole, mapping_around, Unmapped, unmapped, unmapped_from, unmapped_if, unmapped_in, unmapped_unless, with_instead}
 use Rattle.process_model.specs.Order.{HasOrder, IsMapping}
-use Rattle.process_model.specs.OrderLaws.{unmapped_order}
-use Rattle.process_model.specs.PageRegions.{mapping_at, region_left}
+use Rattle.process_model.proofs.OrderLaws.{unmapped_order}
+use Rattle.process_model.proofs.PageRegions.{mapping_at, region_left}
 use Rattle.process_model.specs.Process.{Process}
 use Rattle.process_model.specs.Regions.{is_guard_kind, is_shared_kind, Region}
-use Rattle.process_model.specs.ReleaseLaws.{was_settled}
+use Rattle.process_model.proofs.ReleaseLaws.{was_settled}
 use Rattle.process_model.specs.declared.reply.Refusal.{Refusal}
 use Rattle.sv39_entry.specs.Address.{page_of}
 use Rattle.table_walk.specs.Tables.{Tables}

@@ -7,11 +7,11 @@ use Rattle.std.proofs.lemmas.Bool.{and_parts, le-leb, leb-true, lt-leb}
 use Rattle.std.proofs.lemmas.List.{length-map}
 use Rattle.process_model.specs.Bytes.{pages_for}
 use Rattle.process_model.specs.Files.{File, is_writable}
-use Rattle.process_model.specs.GrantLaws.{place_fits}
+use Rattle.process_model.proofs.GrantLaws.{place_fits}
 use Rattle.process_model.specs.Mappings.{asks_write, fits_at, is_apart, is_bad_mapping, is_shared, map_refusal, mapped, mapped_unless, mapping_of, mapping_place}
 use Rattle.process_model.specs.Order.{HasOrder}
-use Rattle.process_model.specs.OrderLaws.{mapped_order}
-use Rattle.process_model.specs.PageRegions.{region_with_mapping}
+use Rattle.process_model.proofs.OrderLaws.{mapped_order}
+use Rattle.process_model.proofs.PageRegions.{region_with_mapping}
 use Rattle.process_model.specs.Process.{Process}
 use Rattle.process_model.specs.Regions.{Region}
 use Rattle.process_model.specs.declared.reply.Refusal.{Refusal}

@@ -10,11 +10,11 @@ use Rattle.address_space.specs.declared.region.Region.{Region as CodeRegion}
 use Rattle.address_space.specs.declared.region.RegionKind.TheVariants as kind
 use Rattle.address_space.specs.declared.region.Source.TheVariants as from
 use Rattle.process_model.specs.Bytes.{pages_for}
-use Rattle.process_model.specs.Mappings.{mapping_place}
+use Rattle.process_model.specs.Mappings.{Fits, mapping_place}
 use Rattle.process_model.specs.Order.{HasOrder, Row}
-use Rattle.process_model.specs.Places.{Fits, place_is, place_is_none}
+use Rattle.process_model.proofs.Places.{place_is, place_is_none}
 use Rattle.process_model.specs.Process.{Process}
-use Rattle.process_model.specs.RegionRows.{row_up}
+use Rattle.process_model.proofs.RegionRows.{row_up}
 use Rattle.process_model.specs.Regions.{end_of, Region}
 use Rattle.sv39_entry.specs.Schemes.{trapframe_page}
 

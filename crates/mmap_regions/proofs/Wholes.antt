@@ -11,9 +11,9 @@ use Rattle.mmap_regions.proofs.Places.{row_get}
 use Rattle.process_model.specs.Bytes.{pages_for}
 use Rattle.process_model.specs.Order.{EachRegion, HasOrder, IsMapping, Row}
 use Rattle.process_model.specs.PageMoves.{all_moves, mapping_moves, PageMove}
-use Rattle.process_model.specs.PageRegions.{behind_heap}
+use Rattle.process_model.proofs.PageRegions.{behind_heap}
 use Rattle.process_model.specs.Process.{Process}
-use Rattle.process_model.specs.RegionRows.{here, holds, not_held, passed}
+use Rattle.process_model.proofs.RegionRows.{here, holds, not_held, passed}
 use Rattle.process_model.specs.Regions.{end_of, Region, region_at}
 use Rattle.sv39_entry.specs.Schemes.{trapframe_page}
 

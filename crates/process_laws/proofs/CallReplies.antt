@@ -18,9 +18,9 @@ use Rattle.process_model.specs.Heap.{heap_limit, resized_unless, sbrk_result, wa
 use Rattle.process_model.specs.Images.{image_loads, LoadSegment}
 use Rattle.process_model.specs.Mappings.{is_bad_mapping, leaves_hole, mapped, mapped_unless, mapping_around, mapping_of, mapping_place, unmapped, unmapped_if, unmapped_in, unmapped_unless}
 use Rattle.process_model.specs.Order.{IsInOrder, Row}
-use Rattle.process_model.specs.Places.{none_above, none_fits, place_fits}
+use Rattle.process_model.proofs.Places.{none_above, none_fits, place_fits}
 use Rattle.process_model.specs.Process.{Process}
-use Rattle.process_model.specs.RegionRows.{row_up}
+use Rattle.process_model.proofs.RegionRows.{row_up}
 use Rattle.process_model.specs.Regions.{end_of, Region}
 use Rattle.process_model.specs.Steps.{step}
 use Rattle.process_model.specs.World.{free_slot, StepOutcome, World}

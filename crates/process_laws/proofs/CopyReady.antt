@@ -18,7 +18,7 @@ use Rattle.process_model.specs.PageMap.{get}
 use Rattle.process_model.specs.Process.{Page, Process, without_pending}
 use Rattle.process_model.specs.Regions.{region_at}
 use Rattle.process_model.specs.Residence.{is_resident, is_resident_page, region_on, stored}
-use Rattle.process_model.specs.ResidenceLaws.{reached_serves, stays_resident}
+use Rattle.process_model.proofs.ResidenceLaws.{reached_serves, stays_resident}
 use Rattle.process_model.specs.Service.{environment_of, initial_progress}
 use Rattle.process_model.specs.Steps.{step}
 use Rattle.process_model.specs.World.{StepOutcome, process_in, World}

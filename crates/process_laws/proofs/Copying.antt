@@ -13,7 +13,7 @@ use Rattle.process_laws.proofs.Running.{has_it, process_runs, ran_on, step_reply
 use Rattle.process_laws.proofs.Users.{same_from}
 use Rattle.process_laws.specs.Headline.{Copies, StopsAfter}
 use Rattle.process_laws.specs.Words.{byte, copied, Forbids, IsGranted, IsInPhase, IsMade, IsOnHart, stopped_by}
-use Rattle.process_model.specs.ResidenceLaws.{made_settles}
+use Rattle.process_model.proofs.ResidenceLaws.{made_settles}
 use Rattle.process_model.specs.Environment.{Environment, Progress, resident_at_address, resident_at, unless_dry, unless_resident}
 use Rattle.process_model.specs.Bytes.{numbers_from}
 use Rattle.process_model.specs.Calls.{copy_in_outcome, copy_out_outcome}

@@ -12,7 +12,7 @@ use Rattle.process_laws.proofs.StepReplies.{step_suits}
 use Rattle.sv39_entry.specs.declared.scheme.Scheme.{Scheme}
 use Rattle.process_model.specs.Bytes.{pages_for, is_width, low_bytes, write_bytes, numbers_from}
 use Rattle.process_model.specs.Files.{File}
-use Rattle.process_model.specs.GrantLaws.{map_granted}
+use Rattle.process_model.proofs.GrantLaws.{map_granted}
 use Rattle.process_model.specs.PageMap.{get}
 use Rattle.process_model.specs.Regions.{Region, copy_rule, first_rule, fault_cause, is_aligned}
 use Rattle.process_model.specs.Process.{Process, Page, Pending, regions, without_pending}

@@ -9,7 +9,7 @@ use Rattle.process_model.specs.ImageProcess.{process_of, numbered, image_pages}
 use Rattle.process_model.specs.Images.{LoadSegment}
 use Rattle.process_laws.proofs.EveryChange.{IsKept}
 use Rattle.process_laws.proofs.LookUps.{found_inserted, found_only}
-use Rattle.process_model.specs.EachValue.{found_each}
+use Rattle.process_model.proofs.EachValue.{found_each}
 
 -- the numbers are below n, and none is at two pages
 pub record IsFresh (n : ℕ) (m : PageMap Page) : Type 0 where

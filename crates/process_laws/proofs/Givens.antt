@@ -10,7 +10,7 @@ use Rattle.std.proofs.lemmas.Option.{same_Some}
 use Rattle.process_laws.proofs.Grants.{around_above, Found, here, skipped}
 use Rattle.process_laws.specs.Pages.{Grant, grant, grant_in, has_cow_mark, has_mark, has_dirty_mark, heap_grant, image_size, is_between, loads_grant, mapping_grant}
 use Rattle.process_model.specs.Bytes.{pages_for}
-use Rattle.process_model.specs.GrantLaws.{none_true, size_granted}
+use Rattle.process_model.proofs.GrantLaws.{none_true, size_granted}
 use Rattle.process_model.specs.Heap.{heap_limit, resized, size_refusal, without_pages}
 use Rattle.process_model.specs.Images.{end_of_loads, end_page, LoadSegment}
 use Rattle.process_model.specs.Insertion.{inserted_here, inserted_other}
@@ -19,7 +19,7 @@ use Rattle.process_model.specs.Mappings.{back_of, fits_at, front_of, is_apart, m
 use Rattle.process_model.specs.Order.{IsInOrder, Row}
 use Rattle.process_model.specs.PageMap.{from_list, get, insert}
 use Rattle.process_model.specs.Process.{heap_of, Page, Process}
-use Rattle.process_model.specs.RegionRows.{row_up}
+use Rattle.process_model.proofs.RegionRows.{row_up}
 use Rattle.process_model.specs.Regions.{end_of, file, guard, heap, holds_page, image, Region, region_at, segment, stack, zeros}
 use Rattle.process_model.specs.World.{is_unserved_access}
 use Rattle.process_model.specs.declared.reply.Refusal.TheVariants.{BadSize, NoRoom}

@@ -14,9 +14,9 @@ use Rattle.process_laws.proofs.PageBytes.{byte_from, byte_in, byte_in-image, byt
 use Rattle.process_laws.specs.Latest.{loads_byte}
 use Rattle.process_laws.specs.Pages.{grant, grant_in, heap_grant, is_between, loads_grant}
 use Rattle.process_model.specs.Bytes.{pages_for}
-use Rattle.process_model.specs.EachValue.{found_each}
+use Rattle.process_model.proofs.EachValue.{found_each}
 use Rattle.process_model.specs.Files.{File}
-use Rattle.process_model.specs.GrantLaws.{place_fits}
+use Rattle.process_model.proofs.GrantLaws.{place_fits}
 use Rattle.process_model.specs.Heap.{resized, size_refusal, without_pages}
 use Rattle.process_model.specs.Images.{end_page, LoadSegment}
 use Rattle.process_model.specs.ImageProcess.{process_of}

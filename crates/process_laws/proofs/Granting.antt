@@ -17,7 +17,7 @@ use Rattle.process_model.specs.ImageProcess.{guard_at, process_of, segment_regio
 use Rattle.process_model.specs.Mappings.{back_of, front_of, is_shared, mapping_around, mapping_of, moved_along, with_instead, with_mapping}
 use Rattle.process_model.specs.Order.{EachRegion, IsInOrder, Row}
 use Rattle.process_model.specs.Process.{heap_of, Process, regions}
-use Rattle.process_model.specs.RegionRows.{each_append, each_at, row_up}
+use Rattle.process_model.proofs.RegionRows.{each_append, each_at, row_up}
 use Rattle.process_model.specs.Regions.{copy_rule, end_of, first_rule, holds_page, is_aligned, is_guard_kind, lacks_right, private_mapping, Region, region_at, shared_mapping}
 use Rattle.process_model.specs.Steps.{run}
 use Rattle.process_model.specs.World.{booted, process_in}

@@ -12,7 +12,7 @@ use Rattle.process_model.specs.declared.image.BadImage.{BadImage}
 use Rattle.process_model.specs.declared.image.BadImage.TheVariants as part
 use Rattle.process_model.specs.declared.image.Image.{Image}
 use Rattle.process_model.specs.declared.image.Image.TheVariants.{Elf, Segments}
-use Rattle.process_model.specs.GrantLaws.{none_true}
+use Rattle.process_model.proofs.GrantLaws.{none_true}
 use Rattle.process_model.specs.declared.limits.TheConstants.{GUARD_PAGES, MOST_SEGMENTS, STACK_PAGES}
 
 row_more : (low : ℕ) (ls : List LoadSegment) (l : LoadSegment) → InRow low ls → StandsAt (end_of_loads low ls) l → InRow low (ls ++ l ∷ [])

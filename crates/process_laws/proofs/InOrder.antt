@@ -6,13 +6,13 @@ use Rattle.std.proofs.lemmas.Option.{same_Some}
 use Rattle.process_laws.specs.DisjointRegions.{AreApart}
 use Rattle.sv39_entry.specs.declared.scheme.Scheme.{Scheme}
 use Rattle.process_model.specs.Bytes.{pages_for}
-use Rattle.process_model.specs.GrantLaws.{map_granted, place_fits}
+use Rattle.process_model.proofs.GrantLaws.{map_granted, place_fits}
 use Rattle.process_model.specs.Images.{LoadSegment, end_page, end_of_loads}
 use Rattle.process_model.specs.ImageProcess.{segment_region, guard_at, stack_at, process_of}
 use Rattle.process_model.specs.Order.{EachRegion, HasLeaves, HasNoFile, InRow, IsInOrder, IsPlaced, Row}
-use Rattle.process_model.specs.OrderLaws.{mapped_order, regions_row, resized_order, same_order, unmapped_order}
+use Rattle.process_model.proofs.OrderLaws.{mapped_order, regions_row, resized_order, same_order, unmapped_order}
 use Rattle.process_model.specs.Process.{Process, regions}
-use Rattle.process_model.specs.RegionRows.{held, row_append}
+use Rattle.process_model.proofs.RegionRows.{held, row_append}
 use Rattle.process_model.specs.Regions.{Region, end_of, holds_page}
 use Rattle.sv39_entry.specs.Address.{page_of}
 use Rattle.sv39_entry.specs.Schemes.{trapframe_page}

@@ -9,7 +9,7 @@ use Rattle.std.proofs.lemmas.Option.{same_Some}
 use Rattle.process_laws.proofs.Grants.{around_above}
 use Rattle.process_laws.specs.Pages.{are_joined, in_one_of, is_between}
 use Rattle.process_model.specs.Bytes.{pages_for}
-use Rattle.process_model.specs.GrantLaws.{size_granted}
+use Rattle.process_model.proofs.GrantLaws.{size_granted}
 use Rattle.process_model.specs.Heap.{heap_limit, size_refusal}
 use Rattle.process_model.specs.ImageProcess.{process_of}
 use Rattle.process_model.specs.Images.{LoadSegment}

@@ -28,7 +28,7 @@ use Rattle.process_model.specs.Calls.{forked, forked_unless, replaced, replaced_
 use Rattle.process_model.specs.Environment.{need_at, resident_at, resident_at_address}
 use Rattle.process_model.specs.Frames.{copies_in, copies_of, exec_need, fork_need, free_frames, live, own_frames, start_need, unless_through}
 use Rattle.process_model.specs.Harts.{Hart, is_kernel}
-use Rattle.process_model.specs.ImageNeed.{exec_need_is}
+use Rattle.process_model.proofs.ImageNeed.{exec_need_is}
 use Rattle.process_model.specs.ImageProcess.{process_of}
 use Rattle.process_model.specs.Images.{image_loads, LoadSegment}
 use Rattle.process_model.specs.PageMap.{count, get, numbers}

@@ -27,7 +27,7 @@ use Rattle.process_model.specs.Environment.{Progress}
 use Rattle.process_model.specs.Bytes.{pages_for}
 use Rattle.process_model.specs.Calls.{forked, forked_unless, mapped_to, replaced, replaced_unless, resized_to, copy_in_outcome, copy_out_outcome, unmapped_to}
 use Rattle.process_model.specs.Copies.{Copied, copied_in, copied_out, in_reply, out_reply}
-use Rattle.process_model.specs.GrantLaws.{place_fits}
+use Rattle.process_model.proofs.GrantLaws.{place_fits}
 use Rattle.process_model.specs.Harts.{Hart}
 use Rattle.process_model.specs.Heap.{resized_unless, sbrk_result, size_refusal, wanted_size, without_pages}
 use Rattle.process_model.specs.Images.{image_loads, LoadSegment}

@@ -18,7 +18,7 @@ use Rattle.process_laws.specs.FrameNeeds.{has_tables, is_settled, SharesFrames}
 use Rattle.process_laws.specs.Pages.{has_cow_mark, has_mark}
 use Rattle.process_model.specs.Bytes.{numbers_from}
 use Rattle.process_model.specs.Copies.{Copied, copied_in, copied_out, copy_begun, next_in, next_out, one_in, one_out, with_byte_on, reached_in}
-use Rattle.process_model.specs.EachValue.{found_each}
+use Rattle.process_model.proofs.EachValue.{found_each}
 use Rattle.process_model.specs.Environment.{Environment, is_shared_by, Progress, resident_at, resident_at_address, unless_dry, unless_resident}
 use Rattle.process_model.specs.Files.{File}
 use Rattle.process_model.specs.Heap.{without_pages}
@@ -29,7 +29,7 @@ use Rattle.process_model.specs.PageMap.{contains, each_value, from_list, get, nu
 use Rattle.process_model.specs.Process.{grants_write, Page, Process, regions}
 use Rattle.process_model.specs.Regions.{copy_rule, Region, keeps_stores, lacks_right, region_at}
 use Rattle.process_model.specs.Residence.{can_complete, child_of, child_page, initial_page, leaves_mark, made_resident_from, marked, marked_page, region_on, settled_anew, stored, taken_over, taken_over_unless, with_page, is_resident, is_resident_page}
-use Rattle.process_model.specs.ResidenceLaws.{reached_parts, reached_serves}
+use Rattle.process_model.proofs.ResidenceLaws.{reached_parts, reached_serves}
 use Rattle.sv39_entry.specs.Address.{page_of}
 use Rattle.sv39_entry.specs.declared.access.Access.{Access}
 use Rattle.sv39_entry.specs.declared.access.Access.TheVariants as access

@@ -9,7 +9,7 @@ use Rattle.process_model.specs.Mappings.{Unmapped, unmapped, unmapped_from, unma
 use Rattle.process_model.specs.PageMap.{get}
 use Rattle.process_model.specs.Process.{Page, Process}
 use Rattle.process_model.specs.Regions.{Region}
-use Rattle.process_model.specs.ReleaseLaws.{run_goes}
+use Rattle.process_model.proofs.ReleaseLaws.{run_goes}
 use Rattle.process_model.specs.Residence.{initial_page, made_resident, made_resident_from}
 use Rattle.process_model.specs.declared.reply.Refusal.{Refusal}
 use Rattle.process_laws.proofs.Standing.{put_is_there}

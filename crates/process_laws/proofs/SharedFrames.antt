@@ -39,7 +39,7 @@ use Rattle.process_laws.specs.FrameNeeds.{copy_on, IsSharedPage}
 use Rattle.process_laws.specs.Pages.{Grant, grant, grant_in, has_mark, is_remapped}
 use Rattle.process_laws.specs.Words.{hart_of_step, is_reply, IsMade, IsOnHart, starts_in_slot}
 use Rattle.process_model.specs.Calls.{forked, forked_unless, started, started_unless}
-use Rattle.process_model.specs.EachValue.{found_each}
+use Rattle.process_model.proofs.EachValue.{found_each}
 use Rattle.process_model.specs.Files.{File}
 use Rattle.process_model.specs.Frames.{copies_of, has_copy, live}
 use Rattle.process_model.specs.ImageProcess.{process_of}

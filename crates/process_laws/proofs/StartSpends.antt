@@ -10,7 +10,7 @@ use Rattle.process_model.specs.Process.{Process, Page}
 use Rattle.process_model.specs.Images.{LoadSegment, image_loads}
 use Rattle.process_model.specs.ImageProcess.{image_pages, page_numbers, numbered, process_of}
 use Rattle.process_model.specs.Frames.{live, copies_of, own_frames, exec_need, tables_needed, start_need}
-use Rattle.process_model.specs.ImageNeed.{exec_need_is}
+use Rattle.process_model.proofs.ImageNeed.{exec_need_is}
 use Rattle.process_model.specs.World.{World, free, free_slot}
 use Rattle.process_model.specs.Service.{is_dry}
 use Rattle.process_model.specs.Calls.{with_image}

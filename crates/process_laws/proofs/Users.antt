@@ -10,7 +10,7 @@ use Rattle.process_laws.proofs.OnHarts.{asks}
 use Rattle.process_laws.proofs.Running.{has_it, process_runs, ran_on, set_lives, step_process, step_reply, was_made}
 use Rattle.process_laws.proofs.Standing.{made_stands}
 use Rattle.process_laws.specs.Words.{UserAccess, IsAccessStep, Forbids, IsAnswer, IsResident, IsGranted, IsMade, IsOnHart, with_pending_access}
-use Rattle.process_model.specs.ResidenceLaws.{made_settles}
+use Rattle.process_model.proofs.ResidenceLaws.{made_settles}
 use Rattle.process_model.specs.Environment.{is_shared_page, Progress, resident_at_address, resident_at, unless_dry, unless_resident}
 use Rattle.process_model.specs.Bytes.{is_width}
 use Rattle.process_model.specs.Files.{File}

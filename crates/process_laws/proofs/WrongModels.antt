@@ -20,7 +20,7 @@ use Rattle.process_model.specs.Files.{File}
 use Rattle.process_model.specs.Harts.{Hart, is_kernel, cleaned_at, cleaned_for, cleaned_if, fenced}
 use Rattle.process_model.specs.Images.{image_loads, LoadSegment}
 use Rattle.process_model.specs.declared.limits.TheConstants.{MOST_MAPPINGS}
-use Rattle.process_model.specs.Places.{Fits}
+use Rattle.process_model.specs.Mappings.{Fits}
 use Rattle.process_model.specs.PageMap.{get}
 use Rattle.process_model.specs.Process.{Page, Process, regions}
 use Rattle.process_model.specs.Order.{Row}

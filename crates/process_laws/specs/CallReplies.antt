@@ -11,7 +11,7 @@ use Rattle.process_model.specs.Files.{File, is_writable}
 use Rattle.process_model.specs.Harts.{entry_serves, Hart, in_trampoline, is_kernel, is_user, may_switch, next_phase}
 use Rattle.process_model.specs.Images.{image_loads, LoadSegment}
 use Rattle.process_model.specs.Mappings.{is_bad_mapping}
-use Rattle.process_model.specs.Places.{Fits}
+use Rattle.process_model.specs.Mappings.{Fits}
 use Rattle.process_model.specs.Process.{Process}
 use Rattle.process_model.specs.Regions.{end_of, Region}
 use Rattle.process_model.specs.World.{awaits_service, can_run, free_slot, World}

@@ -2,7 +2,7 @@
 -- that most rows speak of has an image of one text page (0), two data pages (1, 2), a guard (3) and a stack (4), so its heap
 -- begins at 0x5000. A page number is an address without its last three hexadecimal digits; a page table covers 512 pages, the
 -- tables above it 512 * 512.
-use Rattle.std.specs.Prelude.{◌≡◌, ℕ, Bool, true, false, ◌+◌, ◌*◌, Option, None, Some, List, [], ◌∷◌, ◌++◌, negsuc, refl, replicate}
+use Rattle.std.specs.Prelude.{◌≡◌, ℕ, Bool, true, false, ◌+◌, ◌-◌, ◌*◌, Option, None, Some, List, [], ◌∷◌, ◌++◌, negsuc, refl, replicate}
 use Rattle.process_laws.specs.CallReplies.{is_below_base, is_range, refusal_on}
 use Rattle.process_laws.specs.FrameNeeds.{frames_for_child, frames_for_image, frames_for_page}
 use Rattle.process_laws.specs.Words.{cause, keys_after, UserAccess}
@@ -22,6 +22,7 @@ use Rattle.process_model.specs.declared.phase.Phase.{Phase}
 use Rattle.process_model.specs.declared.phase.Phase.TheVariants.{Enter0, Enter1, Idle, Leave2, User}
 use Rattle.process_model.specs.declared.reply.Refusal.TheVariants.{BadArgument, Impossible, NoEntry}
 use Rattle.process_model.specs.declared.step.Step.TheVariants as step
+use Rattle.process_model.specs.declared.limits.TheConstants.{BUFFER_SIZE}
 use Rattle.sv39_entry.specs.declared.access.Access.{Access}
 use Rattle.sv39_entry.specs.declared.access.Access.TheVariants.{Fetch, Load, Store}
 use Rattle.sv39_entry.specs.declared.rule.Rule.{Rule}
@@ -285,8 +286,8 @@ fill_under_the_asid_of_slot_0 = refl
 
 full_buffer_loses_its_first : keys_after policy.Full (record in_user_mode {
   keys = key 9 0
-      ∷ replicate 31 (key 1 0);
-}) (step.Fill 0 0x2000) ≡ replicate 31 (key 1 0) ++ key 2 0 ∷ []
+      ∷ replicate (BUFFER_SIZE - 1) (key 1 0);
+}) (step.Fill 0 0x2000) ≡ replicate (BUFFER_SIZE - 1) (key 1 0) ++ key 2 0 ∷ []
 full_buffer_loses_its_first = refl
 
 eviction_closes_up : keys_after policy.Full (before_fence User) (step.Evict 0 1) ≡ key 1 0 ∷ key 2 2 ∷ []

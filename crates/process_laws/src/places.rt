@@ -2,7 +2,7 @@
 // when it fits nowhere; munmap leaves exactly the mapping's pages outside its range, as one region at most unless the range
 // touches neither end of the mapping.
 ghost use Rattle.std.specs.Prelude.{◌≡◌, ◌≤◌, ◌↔◌, ◌&&◌, ◌||◌, ℕ, None, Some, false, length, ◌++◌, nat_le, nat_lt, is_some};
-ghost use Rattle.process_model.specs.Places.{Fits};
+ghost use Rattle.process_model.specs.Mappings.{Fits};
 ghost use Rattle.process_model.specs.Mappings.{back_of, front_of, leaves_hole, mapping_place};
 ghost use Rattle.process_model.specs.Process.{Process};
 ghost use Rattle.process_model.specs.Regions.{end_of, holds_page, Region, region_at};

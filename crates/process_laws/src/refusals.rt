@@ -16,7 +16,7 @@ ghost use Rattle.process_model.specs.Bytes.{pages_for};
 ghost use Rattle.process_model.specs.Harts.{Hart, is_kernel};
 ghost use Rattle.process_model.specs.Images.{image_loads, LoadSegment};
 ghost use Rattle.process_model.specs.declared.limits.TheConstants.{LONGEST_COPY, MOST_MAPPINGS};
-ghost use Rattle.process_model.specs.Places.{Fits};
+ghost use Rattle.process_model.specs.Mappings.{Fits};
 ghost use Rattle.process_model.specs.PageMap.{get};
 ghost use Rattle.process_model.specs.Process.{Process, regions};
 ghost use Rattle.process_model.specs.Regions.{Region};

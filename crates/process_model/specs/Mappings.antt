@@ -1,8 +1,8 @@
 -- mmap (`mapped`) and munmap (`unmapped`) of files (the mmap lab of MIT 6.1810): where a mapping goes, what it grants, and
 -- when a call is refused. Write-back: which pages of a mapping are written to its file, by munmap, or of all mappings, at
 -- exec or the end.
-use Rattle.std.specs.Prelude.{ℕ, Bool, true, false, not, ◌+◌, ◌-◌, ◌*◌, ◌/◌, ◌%◌, ◌^◌, max, nat_le, nat_lt, ◌==◌, ◌&&◌, ◌||◌, Option, None}
-use Rattle.std.specs.Prelude.{Some, is_none, unwrap_or, Result, Ok, Err, slice_get, List, [], ◌∷◌, ◌++◌, length, filter, map, fold}
+use Rattle.std.specs.Prelude.{◌≡◌, ◌≤◌, ◌⊎◌, ℕ, Bool, true, false, not, ◌+◌, ◌-◌, ◌*◌, ◌/◌, ◌%◌, max, nat_le, nat_lt, ◌==◌, ◌&&◌, ◌||◌}
+use Rattle.std.specs.Prelude.{Option, None, Some, is_none, unwrap_or, Result, Ok, Err, slice_get, List, [], ◌∷◌, ◌++◌, length, filter, map, fold}
 use Rattle.std.specs.Prelude.{if◌then◌else◌}
 use Rattle.std.specs.List.{list_all}
 use Rattle.process_model.specs.Bytes.{pages_for, first_true}
@@ -25,6 +25,12 @@ is_apart first pages m = nat_le (first + pages) m.first || nat_le (end_of m) fir
 -- other mappings
 abbrev pub fits_at : Process → ℕ → ℕ → Bool
 fits_at p pages first = nat_le (pages_for p.size) first && nat_le (first + pages) (trapframe_page p.scheme) && list_all (is_apart first pages) p.mappings
+
+-- `pages` pages from page `first` on are above the heap, below the trapframe, and meet no mapping: what `fits_at` tests
+pub record Fits (p : Process) (pages first : ℕ) : Type 0 where
+  pub above : pages_for p.size ≤ first
+  pub below : first + pages ≤ trapframe_page p.scheme
+  pub apart : (i : ℕ) (m : Region) → slice_get p.mappings i ≡ Some m → (first + pages ≤ m.first) ⊎ (end_of m ≤ first)
 
 abbrev pub greatest : List ℕ → Option ℕ
 greatest [] = None

@@ -1,19 +1,12 @@
 -- Tests that fields are read as numbers and bytes (equations), that a faulty line is refused with the first cause that
 -- applies (`IsRefused`), and in which order steps are refused; status limits and segment flags (`Plays`, lines with
 -- answers).
+use Prim.Native.String.{String}
 use Rattle.std.proofs.Common.{◌≡◌, refl, [], ◌∷◌}
-use Rattle.std.specs.Prelude.{None, Some, negsuc, pos, codes, replicate}
-use Rattle.std.specs.Fmt.{digits}
-use Rattle.process_model.specs.Bytes.{number, low_bytes}
-use Rattle.process_model.specs.Frames.{tables_needed}
-use Rattle.process_model.specs.Images.{segment_loads}
-use Rattle.process_model.specs.ImageProcess.{process_of}
+use Rattle.std.specs.Prelude.{List, None, Some, negsuc, pos, codes, replicate}
 use Rattle.script_language.specs.Numbers.{number_of, signed_of, hex_of}
-use Rattle.script_language.specs.Script.{line_of, item_line}
-use Rattle.process_model.specs.Steps.{step}
-use Rattle.process_model.specs.World.{on_hart, with_its_process}
 use Rattle.script_language.specs.declared.script.Cause.TheVariants as cause
-use Rattle.process_rows.proofs.Playing.{Plays, IsRefused, silent, ◌⇒◌}
+use Rattle.process_rows.proofs.Playing.{IsRefused, Line, Plays, silent, ◌⇒◌}
 
 -- numbers and bytes
 
@@ -41,188 +34,148 @@ signed_zero = refl
 odd_digits : hex_of (codes "123") ≡ None
 odd_digits = refl
 
-width_is_no_number : IsRefused (silent "boot 1 64 4 full" ∷ silent "load 0 0 @1" ∷ []) 2 cause.Number
-unfolding item_line line_of
-width_is_no_number = refl
+-- faulty lines, with the number of the line and the cause
 
-entry_without_at : IsRefused (silent "boot 1 64 4 full" ∷ silent "load 0 0 1 1" ∷ []) 2 cause.Field
-unfolding item_line line_of
-entry_without_at = refl
+abbrev booted_then : String → List Line
+booted_then line = silent "boot 1 64 4 full" ∷ silent line ∷ []
 
-entry_without_digits : IsRefused (silent "boot 1 64 4 full" ∷ silent "load 0 0 1 @" ∷ []) 2 cause.Field
-unfolding item_line line_of
-entry_without_digits = refl
+width_is_no_number : IsRefused (booted_then "load 0 0 @1") 2 cause.Number
+width_is_no_number = unfold IsRefused in refl
 
-entry_twice : IsRefused (silent "boot 1 64 4 full" ∷ silent "load 0 0 1 @1 @2" ∷ []) 2 cause.Count
-unfolding item_line line_of
-entry_twice = refl
+entry_without_at : IsRefused (booted_then "load 0 0 1 1") 2 cause.Field
+entry_without_at = unfold IsRefused in refl
 
-entry_of_a_switch : IsRefused (silent "boot 1 64 4 full" ∷ silent "switch 0 0 @1" ∷ []) 2 cause.Count
-unfolding item_line line_of
-entry_of_a_switch = refl
+entry_without_digits : IsRefused (booted_then "load 0 0 1 @") 2 cause.Field
+entry_without_digits = unfold IsRefused in refl
 
-slot_is_no_number : IsRefused (silent "boot 1 64 4 full" ∷ silent "switch 0 x" ∷ []) 2 cause.Number
-unfolding item_line line_of
-slot_is_no_number = refl
+entry_twice : IsRefused (booted_then "load 0 0 1 @1 @2") 2 cause.Count
+entry_twice = unfold IsRefused in refl
+
+entry_of_a_switch : IsRefused (booted_then "switch 0 0 @1") 2 cause.Count
+entry_of_a_switch = unfold IsRefused in refl
+
+slot_is_no_number : IsRefused (booted_then "switch 0 x") 2 cause.Number
+slot_is_no_number = unfold IsRefused in refl
 
 -- a fault of a number comes before one of another form
 number_after_form : IsRefused (silent "file x xx 00" ∷ []) 1 cause.Number
-unfolding item_line line_of
-number_after_form = refl
+number_after_form = unfold IsRefused in refl
 
-number_behind_form : IsRefused (silent "boot 1 64 4 full" ∷ silent "copyout x 0 123" ∷ []) 2 cause.Number
-unfolding item_line line_of
-number_behind_form = refl
+number_behind_form : IsRefused (booted_then "copyout x 0 123") 2 cause.Number
+number_behind_form = unfold IsRefused in refl
 
-form_before_limits : IsRefused (silent "boot 1 64 4 full" ∷ silent "store 0 0 3 1 x" ∷ []) 2 cause.Field
-unfolding item_line line_of
-form_before_limits = refl
+form_before_limits : IsRefused (booted_then "store 0 0 3 1 x") 2 cause.Field
+form_before_limits = unfold IsRefused in refl
 
-width_of_three : IsRefused (silent "boot 1 64 4 full" ∷ silent "load 0 0 3" ∷ []) 2 cause.Limits
-unfolding item_line line_of
-width_of_three = refl
+width_of_three : IsRefused (booted_then "load 0 0 3") 2 cause.Limits
+width_of_three = unfold IsRefused in refl
 
 letter_twice : IsRefused (silent "image 0:1:rr:-" ∷ []) 1 cause.Field
-unfolding item_line line_of
-letter_twice = refl
+letter_twice = unfold IsRefused in refl
 
 another_letter : IsRefused (silent "image 0:1:ra:-" ∷ []) 1 cause.Field
-unfolding item_line line_of
-another_letter = refl
+another_letter = unfold IsRefused in refl
 
 no_letters : IsRefused (silent "image 0:1::-" ∷ []) 1 cause.Field
-unfolding item_line line_of
-no_letters = refl
+no_letters = unfold IsRefused in refl
 
 no_hex : IsRefused (silent "image 0:1:r:" ∷ []) 1 cause.Field
-unfolding item_line line_of
-no_hex = refl
+no_hex = unfold IsRefused in refl
 
 five_pieces : IsRefused (silent "image 0:1:r:-:-" ∷ []) 1 cause.Field
-unfolding item_line line_of
-five_pieces = refl
+five_pieces = unfold IsRefused in refl
 
 second_segment_is_read : IsRefused (silent "image 0:1:r:- 0:1:q:-" ∷ []) 1 cause.Field
-unfolding item_line line_of
-second_segment_is_read = refl
+second_segment_is_read = unfold IsRefused in refl
 
 image_without_segments : IsRefused (silent "image" ∷ []) 1 cause.Count
-unfolding item_line line_of
-image_without_segments = refl
+image_without_segments = unfold IsRefused in refl
 
 odd_elf : IsRefused (silent "elf 123" ∷ []) 1 cause.Field
-unfolding item_line line_of
-odd_elf = refl
+odd_elf = unfold IsRefused in refl
 
 mode_of_a_file : IsRefused (silent "file 1 wr -" ∷ []) 1 cause.Field
-unfolding item_line line_of
-mode_of_a_file = refl
+mode_of_a_file = unfold IsRefused in refl
 
 file_too_long : IsRefused (silent "file 65537 rw -" ∷ []) 1 cause.Limits
-unfolding item_line line_of
-file_too_long = refl
+file_too_long = unfold IsRefused in refl
 
 more_bytes_than_the_file_has : IsRefused (silent "file 2 rw 616263" ∷ []) 1 cause.Limits
-unfolding item_line line_of
-more_bytes_than_the_file_has = refl
+more_bytes_than_the_file_has = unfold IsRefused in refl
 
 seventeenth_file : IsRefused (replicate 17 (silent "file 0 ro -")) 17 cause.TooMany
-unfolding item_line line_of
-seventeenth_file = refl
+seventeenth_file = unfold IsRefused in refl
 
 sixty_fifth_image : IsRefused (replicate 65 (silent "elf -")) 65 cause.TooMany
-unfolding item_line line_of
-sixty_fifth_image = refl
+sixty_fifth_image = unfold IsRefused in refl
 
-undeclared_image : IsRefused (silent "boot 1 64 4 full" ∷ silent "start 0" ∷ []) 2 cause.Limits
-unfolding item_line line_of
-undeclared_image = refl
+undeclared_image : IsRefused (booted_then "start 0") 2 cause.Limits
+undeclared_image = unfold IsRefused in refl
 
-undeclared_image_of_exec : IsRefused (silent "elf -" ∷ silent "boot 1 64 4 full" ∷ silent "exec 0 1" ∷ []) 3 cause.Limits
-unfolding item_line line_of
-undeclared_image_of_exec = refl
+undeclared_image_of_exec : IsRefused (silent "elf -" ∷ booted_then "exec 0 1") 3 cause.Limits
+undeclared_image_of_exec = unfold IsRefused in refl
 
-undeclared_file : IsRefused (silent "boot 1 64 4 full" ∷ silent "show 0 0 1" ∷ []) 2 cause.Limits
-unfolding item_line line_of
-undeclared_file = refl
+undeclared_file : IsRefused (booted_then "show 0 0 1") 2 cause.Limits
+undeclared_file = unfold IsRefused in refl
 
-show_of_too_much : IsRefused (silent "file 0 ro -" ∷ silent "boot 1 64 4 full" ∷ silent "show 0 0 257" ∷ []) 3 cause.Limits
-unfolding item_line line_of
-show_of_too_much = refl
+show_of_too_much : IsRefused (silent "file 0 ro -" ∷ booted_then "show 0 0 257") 3 cause.Limits
+show_of_too_much = unfold IsRefused in refl
 
-copy_of_too_much : IsRefused (silent "boot 1 64 4 full" ∷ silent "copyin 0 0 257" ∷ []) 2 cause.Limits
-unfolding item_line line_of
-copy_of_too_much = refl
+copy_of_too_much : IsRefused (booted_then "copyin 0 0 257") 2 cause.Limits
+copy_of_too_much = unfold IsRefused in refl
 
-status_too_large : IsRefused (silent "boot 1 64 4 full" ∷ silent "exit 0 0x80000000" ∷ []) 2 cause.Limits
-unfolding item_line line_of
-status_too_large = refl
+status_too_large : IsRefused (booted_then "exit 0 0x80000000") 2 cause.Limits
+status_too_large = unfold IsRefused in refl
 
-status_too_small : IsRefused (silent "boot 1 64 4 full" ∷ silent "exit 0 -2147483649" ∷ []) 2 cause.Limits
-unfolding item_line line_of
-status_too_small = refl
+status_too_small : IsRefused (booted_then "exit 0 -2147483649") 2 cause.Limits
+status_too_small = unfold IsRefused in refl
 
-unknown_word : IsRefused (silent "boot 1 64 4 full" ∷ silent "Load 0 0 1" ∷ []) 2 cause.Word
-unfolding item_line line_of
-unknown_word = refl
+unknown_word : IsRefused (booted_then "Load 0 0 1") 2 cause.Word
+unknown_word = unfold IsRefused in refl
 
 word_before_order : IsRefused (silent "pool 64 4" ∷ []) 1 cause.Word
-unfolding item_line line_of
-word_before_order = refl
+word_before_order = unfold IsRefused in refl
 
 step_before_boot : IsRefused (silent "audit" ∷ []) 1 cause.Order
-unfolding item_line line_of
-step_before_boot = refl
+step_before_boot = unfold IsRefused in refl
 
-declaration_after_boot : IsRefused (silent "boot 1 64 4 full" ∷ silent "file x" ∷ []) 2 cause.Order
-unfolding item_line line_of
-declaration_after_boot = refl
+declaration_after_boot : IsRefused (booted_then "file x") 2 cause.Order
+declaration_after_boot = unfold IsRefused in refl
 
 order_before_count : IsRefused (silent "audit 1 2" ∷ []) 1 cause.Order
-unfolding item_line line_of
-order_before_count = refl
+order_before_count = unfold IsRefused in refl
 
-audit_with_a_field : IsRefused (silent "boot 1 64 4 full" ∷ silent "audit 1" ∷ []) 2 cause.Count
-unfolding item_line line_of
-audit_with_a_field = refl
+audit_with_a_field : IsRefused (booted_then "audit 1") 2 cause.Count
+audit_with_a_field = unfold IsRefused in refl
 
 no_boot_at_all : IsRefused (silent "file 0 ro -" ∷ silent "# nothing more" ∷ []) 3 cause.Order
-unfolding item_line line_of
-no_boot_at_all = refl
+no_boot_at_all = unfold IsRefused in refl
 
 nine_harts : IsRefused (silent "boot 9 64 4 full" ∷ []) 1 cause.Limits
-unfolding item_line line_of
-nine_harts = refl
+nine_harts = unfold IsRefused in refl
 
 no_hart : IsRefused (silent "boot 0 64 4 full" ∷ []) 1 cause.Limits
-unfolding item_line line_of
-no_hart = refl
+no_hart = unfold IsRefused in refl
 
 fifteen_frames : IsRefused (silent "boot 1 15 4 full" ∷ []) 1 cause.Limits
-unfolding item_line line_of
-fifteen_frames = refl
+fifteen_frames = unfold IsRefused in refl
 
 too_many_frames : IsRefused (silent "boot 1 1025 4 full" ∷ []) 1 cause.Limits
-unfolding item_line line_of
-too_many_frames = refl
+too_many_frames = unfold IsRefused in refl
 
 sixty_five_slots : IsRefused (silent "boot 1 1024 65 full" ∷ []) 1 cause.Limits
-unfolding item_line line_of
-sixty_five_slots = refl
+sixty_five_slots = unfold IsRefused in refl
 
 no_slot : IsRefused (silent "boot 1 64 0 full" ∷ []) 1 cause.Limits
-unfolding item_line line_of
-no_slot = refl
+no_slot = unfold IsRefused in refl
 
 -- an entry of the trampoline may be named
 named_trampoline_entry : Plays (
     "boot 1 64 4 full" ⇒ "ok"
     ∷ "tramp 0 0 @0" ⇒ "refused 19 Impossible idle"
     ∷ "tramp 0 2" ⇒ "refused 15 BadArgument"
-    ∷ "tramp 0 4096" ⇒ "refused 15 BadArgument"
-    ∷ [])
-unfolding number low_bytes digits item_line line_of on_hart with_its_process step
-named_trampoline_entry = refl
+    ∷ "tramp 0 4096" ⇒ "refused 15 BadArgument" ∷ [])
+named_trampoline_entry = unfold Plays in refl
 
 -- a hart that is not there comes before all else
 order_of_refusals : Plays (
@@ -231,35 +184,26 @@ order_of_refusals : Plays (
     ∷ "next 0" ⇒ "refused 19 Impossible idle"
     ∷ "evict 0 0" ⇒ "refused 20 NoEntry"
     ∷ "switch 0 9" ⇒ "refused 19 Impossible idle"
-    ∷ "switch 0 -" ⇒ "ok"
-    ∷ "serve 0" ⇒ "refused 19 Impossible idle"
-    ∷ "copyin 0 0 256" ⇒ "refused 19 Impossible idle"
-    ∷ [])
-unfolding number low_bytes digits item_line line_of on_hart with_its_process step
-order_of_refusals = refl
+    ∷ "switch 0 -" ⇒ "ok" ∷ "serve 0" ⇒ "refused 19 Impossible idle"
+    ∷ "copyin 0 0 256" ⇒ "refused 19 Impossible idle" ∷ [])
+order_of_refusals = unfold Plays in refl
 
 -- the least and the greatest status
 statuses : Plays (
     "boot 1 64 4 full" ⇒ "ok"
     ∷ "exit 0 -2147483648" ⇒ "refused 19 Impossible idle"
-    ∷ "exit 0 2147483647" ⇒ "refused 19 Impossible idle"
-    ∷ [])
-unfolding number low_bytes digits item_line line_of on_hart with_its_process step
-statuses = refl
+    ∷ "exit 0 2147483647" ⇒ "refused 19 Impossible idle" ∷ [])
+statuses = unfold Plays in refl
 
 -- flags in any order
 flags_in_any_order : Plays (
     silent "image 0x0:0x1000:xwr:-"
     ∷ "boot 1 64 4 full" ⇒ "ok"
-    ∷ "start 0" ⇒ "slot 0"
-    ∷ [])
-unfolding number low_bytes digits item_line line_of on_hart with_its_process step segment_loads process_of tables_needed
-flags_in_any_order = refl
+    ∷ "start 0" ⇒ "slot 0" ∷ [])
+flags_in_any_order = unfold Plays in refl
 
 no_flags : Plays (
     silent "image 0x0:0x1000:-:-"
     ∷ "boot 1 64 4 full" ⇒ "ok"
-    ∷ "start 0" ⇒ "slot 0"
-    ∷ [])
-unfolding number low_bytes digits item_line line_of on_hart with_its_process step segment_loads process_of tables_needed
-no_flags = refl
+    ∷ "start 0" ⇒ "slot 0" ∷ [])
+no_flags = unfold Plays in refl

@@ -1,4 +1,6 @@
 pub mod Playing
+pub mod Openings
+pub mod ElfFiles
 pub mod Stores
 pub mod Buffers
 pub mod Rules
@@ -14,6 +16,3 @@ pub mod Hostile
 pub mod Needs
 pub mod Faulty
 pub mod Prefixes
-pub mod LongerPrefixes
-pub mod Started
-pub mod BadImages

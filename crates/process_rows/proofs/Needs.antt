@@ -16,8 +16,7 @@ use Rattle.process_model.specs.declared.reply.Refusal.{Refusal}
 abbrev standard_image : List Segment
 standard_image =
     record { address = 0; memory_size = 0x1000; writes = false; executes = true; bytes = 0x13 ∷ 0x05 ∷ 0 ∷ 0 ∷ [] }
-    ∷ record { address = 0x1000; memory_size = 0x1800; writes = true; executes = false; bytes = [] }
-    ∷ []
+    ∷ record { address = 0x1000; memory_size = 0x1800; writes = true; executes = false; bytes = [] } ∷ []
 
 abbrev loads_or_none : Result (List LoadSegment) BadImage → List LoadSegment
 loads_or_none (Ok ls) = ls
@@ -35,30 +34,24 @@ settle_need_after (Err r) page = None
 
 -- five tables, the trapframe and five pages
 start_takes_eleven : start_need Sv39 standard_loads ≡ 11
-unfolding segment_loads tables_needed
-start_takes_eleven = refl
+start_takes_eleven = unfold segment_loads tables_needed in refl
 
 exec_takes_ten : exec_need Sv39 standard_loads ≡ 10
-unfolding segment_loads tables_needed
-exec_takes_ten = refl
+exec_takes_ten = unfold segment_loads tables_needed in refl
 
 -- five tables and the trapframe
 fork_takes_six : fork_need standard_process ≡ 6
-unfolding segment_loads process_of tables_needed
-fork_takes_six = refl
+fork_takes_six = unfold segment_loads process_of tables_needed in refl
 
 -- a page whose tables are there, one that needs the last table, and one that needs two
 page_takes_one : settle_need_after (sbrk_result standard_process (pos 0x40000000)) 5 ≡ Some 1
-unfolding segment_loads process_of tables_needed sbrk_result
-page_takes_one = refl
+page_takes_one = unfold segment_loads process_of tables_needed sbrk_result in refl
 
 page_takes_two : settle_need_after (sbrk_result standard_process (pos 0x40000000)) 0x200 ≡ Some 2
-unfolding segment_loads process_of tables_needed sbrk_result
-page_takes_two = refl
+page_takes_two = unfold segment_loads process_of tables_needed sbrk_result in refl
 
 page_takes_three : settle_need_after (sbrk_result standard_process (pos 0x40000000)) 0x40000 ≡ Some 3
-unfolding segment_loads process_of tables_needed sbrk_result
-page_takes_three = refl
+page_takes_three = unfold segment_loads process_of tables_needed sbrk_result in refl
 
 -- a memory of more than 512 frames needs one more table in the kernel
 kernel_takes_ten : kernel_frames Sv39 512 4 ≡ 10
@@ -76,16 +69,13 @@ abbrev tall_process : Process
 tall_process = process_of Sv48 0 tall_loads
 
 start_takes_thirteen : start_need Sv48 tall_loads ≡ 13
-unfolding segment_loads tables_needed
-start_takes_thirteen = refl
+start_takes_thirteen = unfold segment_loads tables_needed in refl
 
 fork_takes_eight : fork_need tall_process ≡ 8
-unfolding segment_loads process_of tables_needed
-fork_takes_eight = refl
+fork_takes_eight = unfold segment_loads process_of tables_needed in refl
 
 page_takes_four : settle_need_after (sbrk_result tall_process (pos 0x400000000000)) 0x8000000 ≡ Some 4
-unfolding segment_loads process_of tables_needed sbrk_result
-page_takes_four = refl
+page_takes_four = unfold segment_loads process_of tables_needed sbrk_result in refl
 
 tall_kernel_takes_twelve : kernel_frames Sv48 512 4 ≡ 12
 tall_kernel_takes_twelve = refl

@@ -78,20 +78,15 @@ fn keeps_sixteen_files(rt: HostRuntime) -> Result<(), Fail> {
     let texts = filled(rt.alloc(), &lengths)?;
     let files = cabinet(rt.alloc(), &texts)?;
     for (number, length) in lengths.iter().enumerate() {
-        let there = (
-            files.length(number),
-            files.bytes(number).map(|bytes| bytes.len()),
-        );
-        assert_eq!(rt; there, (Some(*length), Some(*length)), "file {number}");
-        assert_eq!(rt; files.writable(number), number % 2 == 0, "file {number}");
+        let bytes = files.bytes(number).map(|bytes| bytes.len());
+        let there = (files.length(number), bytes, files.writable(number));
+        let wanted = (Some(*length), Some(*length), number % 2 == 0);
+        assert_eq!(rt; there, wanted, "file {number}");
     }
     for number in [16, usize::MAX] {
-        let there = (
-            files.length(number),
-            files.bytes(number).map(|bytes| bytes.len()),
-        );
-        assert_eq!(rt; there, (None, None), "file {number}");
-        assert!(rt; !files.writable(number), "file {number}");
+        let bytes = files.bytes(number).map(|bytes| bytes.len());
+        let there = (files.length(number), bytes, files.writable(number));
+        assert_eq!(rt; there, (None, None, false), "file {number}");
     }
     Ok(())
 }
@@ -168,21 +163,14 @@ fn writes_pages(rt: HostRuntime) -> Result<(), Fail> {
         (3, 0, 2, 2, Some(2)),
         (3, 0, 3, 0, None),
     ];
+    let kept = (Some(5_000), Some(0), Some(65_536));
     for (file, offset, seen, at, byte) in rows {
         let mut files = three_files(rt.alloc())?;
         files.write_page(file, offset, &page);
         let there = files.bytes(seen).and_then(|bytes| bytes.get(at)).copied();
-        assert_eq!(rt;
-            there,
-            byte,
-            "file {file} from {offset}, file {seen} at {at}"
-        );
+        assert_eq!(rt; there, byte, "{file} from {offset}, {seen} at {at}");
         let lengths = (files.length(0), files.length(1), files.length(2));
-        assert_eq!(rt;
-            lengths,
-            (Some(5_000), Some(0), Some(65_536)),
-            "file {file} from {offset}"
-        );
+        assert_eq!(rt; lengths, kept, "file {file} from {offset}");
     }
     Ok(())
 }

@@ -42,8 +42,9 @@ fn refuses_when_too_few_are_left(rt: HostRuntime) -> Result<(), Fail> {
     Ok(())
 }
 
+/// Why a client of a store is refused.
 #[derive(Clone, Copy, PartialEq, Eq, Debug)]
-enum Refusal {
+pub(crate) enum Refusal {
     NoFrame,
     SharersFull,
 }

@@ -2,20 +2,17 @@
 // addresses, canonical addresses, numbers and special addresses of both schemes (Sv39, Sv48), exception causes, numbers and
 // names of rules.
 
-use std::test::Fail;
 use sv39_entry::{Access, Entry, FrameNo, Kind, Mode, Rights, Rule, Satp, Scheme, Va, Vpn};
 
 #[test]
 fn writes_words(rt: HostRuntime) {
     let (code, data) = (Rights::READ | Rights::EXECUTE, Rights::READ | Rights::WRITE);
+    let frame = FrameNo(5);
     let rows = [
-        (Entry::leaf(FrameNo(5), code, true, false, true), 0x2000145b),
-        (Entry::leaf(FrameNo(5), data, true, false, true), 0x200014d7),
-        (Entry::leaf(FrameNo(5), data, true, true, true), 0x200015d3),
-        (
-            Entry::leaf(FrameNo(5), data, true, false, false),
-            0x20001457,
-        ),
+        (Entry::leaf(frame, code, true, false, true), 0x2000145b),
+        (Entry::leaf(frame, data, true, false, true), 0x200014d7),
+        (Entry::leaf(frame, data, true, true, true), 0x200015d3),
+        (Entry::leaf(frame, data, true, false, false), 0x20001457),
         (Entry::pointer(FrameNo(7)), 0x20001c01),
     ];
     for (entry, word) in rows {
@@ -72,12 +69,8 @@ fn judges_accesses(rt: HostRuntime) {
         (0x200800d7, Access::Store, Mode::Supervisor, false),
     ];
     for (word, access, mode, allowed) in rows {
-        let entry = Entry::from_word(word);
-        assert_eq!(rt;
-            entry.permits(access, mode),
-            allowed,
-            "at {word:x} {access:?} {mode:?}"
-        );
+        let permits = Entry::from_word(word).permits(access, mode);
+        assert_eq!(rt; permits, allowed, "at {word:x} {access:?} {mode:?}");
     }
     assert_eq!(rt; Entry::from_word(0x200015d3).ppn(), 0x80005);
     assert!(rt; Rights::READ.grants(Access::Load) && !Rights::READ.grants(Access::Store));
@@ -94,13 +87,11 @@ fn indices(page: Vpn) -> (usize, usize, usize, usize) {
 }
 
 #[test]
-fn takes_addresses_apart(rt: HostRuntime) -> Result<(), Fail> {
+fn takes_addresses_apart(rt: HostRuntime) {
     let page = Va(0x234567).page();
     assert_eq!(rt; parts(Va(0x234567)), (0x234, 0x567));
-    assert_eq!(rt;
-        (indices(page), page.at(0x567)),
-        ((0, 0, 1, 0x34), Va(0x234567))
-    );
+    assert_eq!(rt; indices(page), (0, 0, 1, 0x34));
+    assert_eq!(rt; page.at(0x567), Va(0x234567));
     let rows = [
         (0x3ffffff000, (0, 255, 511, 511)),
         (0x7fffffffe000, (255, 511, 511, 510)),
@@ -115,7 +106,6 @@ fn takes_addresses_apart(rt: HostRuntime) -> Result<(), Fail> {
     assert_eq!(rt; pages, (None, Some(7)));
     let frames = (FrameNo::from_ppn(0x80005), FrameNo::from_ppn(0x7ffff));
     assert_eq!(rt; frames, (Some(FrameNo(5)), None));
-    Ok(())
 }
 
 #[test]
@@ -138,53 +128,36 @@ fn knows_canonical_addresses(rt: HostRuntime) {
 }
 
 /// Addresses of a scheme: `maxva`, `trampoline`, `trapframe`, and the kernel stacks of slots 0, 1 and 55.
-type Places = [u64; 6];
+fn places(scheme: Scheme) -> [Va; 6] {
+    [
+        scheme.maxva(),
+        scheme.trampoline(),
+        scheme.trapframe(),
+        scheme.kernel_stack(0),
+        scheme.kernel_stack(1),
+        scheme.kernel_stack(55),
+    ]
+}
 
 #[test]
 fn knows_schemes(rt: HostRuntime) {
-    let rows: [(Scheme, u32, u64, u64, Places); 2] = [
-        (
-            Scheme::Sv39,
-            2,
-            0x8000000,
-            8,
-            [
-                0x4000000000,
-                0x3ffffff000,
-                0x3fffffe000,
-                0x3fffffd000,
-                0x3fffffb000,
-                0x3ffff8f000,
-            ],
-        ),
-        (
-            Scheme::Sv48,
-            3,
-            0x1000000000,
-            9,
-            [
-                0x800000000000,
-                0x7ffffffff000,
-                0x7fffffffe000,
-                0x7fffffffd000,
-                0x7fffffffb000,
-                0x7ffffff8f000,
-            ],
-        ),
+    let in_both = [
+        (0x4000000000, 0x800000000000),
+        (0x3ffffff000, 0x7ffffffff000),
+        (0x3fffffe000, 0x7fffffffe000),
+        (0x3fffffd000, 0x7fffffffd000),
+        (0x3fffffb000, 0x7fffffffb000),
+        (0x3ffff8f000, 0x7ffffff8f000),
     ];
-    for (scheme, top_level, pages, mode, places) in rows {
+    assert_eq!(rt; places(Scheme::Sv39), in_both.map(|place| Va(place.0)));
+    assert_eq!(rt; places(Scheme::Sv48), in_both.map(|place| Va(place.1)));
+    for (scheme, top_level, pages, mode) in [
+        (Scheme::Sv39, 2, 0x8000000, 8),
+        (Scheme::Sv48, 3, 0x1000000000, 9),
+    ] {
         assert_eq!(rt; scheme.top_level(), top_level);
         assert_eq!(rt; scheme.page_limit(), pages);
         assert_eq!(rt; scheme.mode(), mode);
-        let has = [
-            scheme.maxva().0,
-            scheme.trampoline().0,
-            scheme.trapframe().0,
-            scheme.kernel_stack(0).0,
-            scheme.kernel_stack(1).0,
-            scheme.kernel_stack(55).0,
-        ];
-        assert_eq!(rt; has, places);
     }
 }
 

@@ -8,30 +8,13 @@ ghost use Rattle.frame_store.specs.Laws.{IsSeatOf, KeepsSeats};
 ghost use Rattle.frame_store.specs.View.{IsHeld};
 ghost use Rattle.shared_frames.specs.SeatsOfTable.{FitsIn, view_of};
 
+use crate::clients::Refusal;
 use frame_store::{FrameAccess, FrameSupply, NoFrame, PlainFrames, SharersFull};
 use shared_frames::{SharedFrames, SharedSeat};
 use std::sync::Wait;
 use std::test::Fail;
 use std::thread::{Threads, join};
 use sv39_entry::FrameNo;
-
-#[derive(Debug, Drop)]
-enum Refusal {
-    NoFrame,
-    SharersFull,
-}
-
-impl From<NoFrame> for Refusal {
-    fn from(_: NoFrame) -> Refusal {
-        Refusal::NoFrame
-    }
-}
-
-impl From<SharersFull> for Refusal {
-    fn from(_: SharersFull) -> Refusal {
-        Refusal::SharersFull
-    }
-}
 
 /// Reserves three frames, claims two of them and shares one, then releases and gives back all of it. Works over any store.
 fn round<F: FrameSupply>(store: &mut F, seat: &mut F::Seat) -> Result<(), Refusal>

@@ -1,5 +1,5 @@
-// `three_files`: the files that each story (test case) begins with. `changes`: which of their bytes differ in the end, each
-// as a `Change` (file, offset, value).
+// `three_files`: the files that each story (test case) begins with. `changes_of`: which of their bytes differ in the end,
+// each as a `Change` (file, offset, value).
 
 ghost use Rattle.std.specs.Prelude.{◌≡◌};
 ghost use Rattle.process_model.specs.Files.{fits_file};
@@ -65,7 +65,7 @@ pub(crate) fn three_files(alloc: Global) -> Result<Cabinet, Fail> {
 ///
 /// # Errors
 /// `AllocError`: the host is out of memory.
-pub(crate) fn changes(alloc: Global, files: &Cabinet) -> Result<Vec<Change>, AllocError> {
+pub(crate) fn changes_of(alloc: Global, files: &Cabinet) -> Result<Vec<Change>, AllocError> {
     let mut changes = Vec::new(alloc);
     for (file, (length, _)) in FILES.into_iter().enumerate() {
         let bytes = files.bytes(file).unwrap_or_default();

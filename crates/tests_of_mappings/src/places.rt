@@ -1,11 +1,13 @@
 // Tests that mmap places mappings right, above the heap and at most sixteen of them, and reports refusals in order; and that
-// munmap takes only pages at an end of one mapping, whose addresses and frames can be used again. Each is a `Story` (test
+// munmap takes only pages at an end of one mapping, whose addresses and frames can be used again. Each is a story (test
 // case): rows of an operation and its reply. TRAPFRAME is at 0x3fffffe000.
 
 use crate::operation::Operation::{Map, Serve, Unmap};
 use crate::operation::Row;
-use crate::stores::{Story, first_wrong_outcome};
-use process_model::Refusal;
+use crate::stores::play;
+use process_model::Refusal::{
+    BadArgument, FileNotWritable, HoleInMapping, MappingsFull, NoFrame, NoRoom,
+};
 use process_model::Reply::Scalar;
 use process_model::ScalarReply::{Done, MappedAt, Ready, Refused};
 use std::alloc::{AllocError, Global};
@@ -20,13 +22,10 @@ fn sixteen(alloc: Global) -> Result<Vec<Row>, AllocError> {
         let address = 0x3fffffd000 - 0x1000 * below;
         rows.push((Map(4_096, 1, 2, 0), Scalar(MappedAt(address))))?;
     }
-    rows.push((Map(4_096, 1, 2, 0), Scalar(Refused(Refusal::MappingsFull))))?;
+    rows.push((Map(4_096, 1, 2, 0), Scalar(Refused(MappingsFull))))?;
     // a fault of the request itself is reported before `MappingsFull`
-    rows.push((Map(0, 1, 2, 0), Scalar(Refused(Refusal::BadArgument))))?;
-    rows.push((
-        Map(4_096, 3, 1, 1),
-        Scalar(Refused(Refusal::FileNotWritable)),
-    ))?;
+    rows.push((Map(0, 1, 2, 0), Scalar(Refused(BadArgument))))?;
+    rows.push((Map(4_096, 3, 1, 1), Scalar(Refused(FileNotWritable))))?;
     // the sixteenth is at 0x3fffffd000 - 15 * 0x1000; its room is the highest that is free once it is unmapped
     rows.push((Unmap(0x3ffffee000, 4_096), Scalar(Done)))?;
     rows.push((Map(4_096, 1, 2, 0), Scalar(MappedAt(0x3ffffee000))))?;
@@ -38,21 +37,14 @@ fn takes_sixteen_mappings(rt: HostRuntime) -> Result<(), Fail> {
     let rows = sixteen(rt.alloc())?;
     // page 0x3ffffed ends where the sixteenth mapping begins: `MappingsFull` is reported before `NoRoom`
     for page in [0, 0x3ffffed] {
-        let story = Story {
-            frames: 8,
-            page,
-            promises: None,
-            rows: &rows,
-            changes: &[],
-        };
-        assert_eq!(rt; first_wrong_outcome(&rt, rt.alloc(), &story)?, None);
+        play(&rt, rt.alloc(), 8, page, None, &rows, &[])?;
     }
     Ok(())
 }
 
 #[test]
 fn refuses_in_order(rt: HostRuntime) -> Result<(), Fail> {
-    let bad = || Scalar(Refused(Refusal::BadArgument));
+    let bad = || Scalar(Refused(BadArgument));
     let rows = [
         (Map(0, 1, 2, 0), bad()),
         (Map(1_048_577, 1, 2, 0), bad()),
@@ -64,39 +56,22 @@ fn refuses_in_order(rt: HostRuntime) -> Result<(), Fail> {
         (Map(4_096, 3, 1, 3), bad()),
         // file 1 is read-only
         (Map(0, 3, 1, 1), bad()),
-        (
-            Map(4_096, 3, 1, 1),
-            Scalar(Refused(Refusal::FileNotWritable)),
-        ),
-        (
-            Map(4_096, 2, 1, 1),
-            Scalar(Refused(Refusal::FileNotWritable)),
-        ),
+        (Map(4_096, 3, 1, 1), Scalar(Refused(FileNotWritable))),
+        (Map(4_096, 2, 1, 1), Scalar(Refused(FileNotWritable))),
         (Map(4_096, 3, 2, 1), Scalar(MappedAt(0x3fffffd000))),
         (Map(4_096, 5, 1, 1), Scalar(MappedAt(0x3fffffc000))),
         // 256 pages
         (Map(1_048_576, 7, 2, 0), Scalar(MappedAt(0x3fffefc000))),
     ];
-    let story = Story {
-        frames: 8,
-        page: 0,
-        promises: None,
-        rows: &rows,
-        changes: &[],
-    };
-    assert_eq!(rt; first_wrong_outcome(&rt, rt.alloc(), &story)?, None);
-    Ok(())
+    play(&rt, rt.alloc(), 8, 0, None, &rows, &[])
 }
 
 #[test]
 fn gives_room_back(rt: HostRuntime) -> Result<(), Fail> {
-    let bad = || Scalar(Refused(Refusal::BadArgument));
+    let bad = || Scalar(Refused(BadArgument));
     let rows = [
         (Map(12_288, 1, 2, 0), Scalar(MappedAt(0x3fffffb000))),
-        (
-            Unmap(0x3fffffc000, 4_096),
-            Scalar(Refused(Refusal::HoleInMapping)),
-        ),
+        (Unmap(0x3fffffc000, 4_096), Scalar(Refused(HoleInMapping))),
         (Unmap(0x3fffffb001, 4_096), bad()),
         (Unmap(0x3fffffb000, 0), bad()),
         // a fourth page, after its end or before its beginning
@@ -117,20 +92,12 @@ fn gives_room_back(rt: HostRuntime) -> Result<(), Fail> {
         (Unmap(0x3fffffa000, 8_192), bad()),
         (Map(4_096, 1, 2, 0), Scalar(MappedAt(0x3fffffd000))),
     ];
-    let story = Story {
-        frames: 8,
-        page: 0,
-        promises: None,
-        rows: &rows,
-        changes: &[],
-    };
-    assert_eq!(rt; first_wrong_outcome(&rt, rt.alloc(), &story)?, None);
-    Ok(())
+    play(&rt, rt.alloc(), 8, 0, None, &rows, &[])
 }
 
 #[test]
 fn stays_above_the_heap(rt: HostRuntime) -> Result<(), Fail> {
-    let full = || Scalar(Refused(Refusal::NoRoom));
+    let full = || Scalar(Refused(NoRoom));
     let rows = [
         (Map(12_289, 1, 2, 0), full()),
         (Map(12_288, 1, 2, 0), Scalar(MappedAt(0x3fffffb000))),
@@ -140,15 +107,7 @@ fn stays_above_the_heap(rt: HostRuntime) -> Result<(), Fail> {
         (Map(1, 1, 2, 0), Scalar(MappedAt(0x3fffffb000))),
     ];
     // the heap ends at 0x3fffffb000, three pages below the trapframe
-    let story = Story {
-        frames: 8,
-        page: 0x3fffffa,
-        promises: None,
-        rows: &rows,
-        changes: &[],
-    };
-    assert_eq!(rt; first_wrong_outcome(&rt, rt.alloc(), &story)?, None);
-    Ok(())
+    play(&rt, rt.alloc(), 8, 0x3fffffa, None, &rows, &[])
 }
 
 #[test]
@@ -156,22 +115,11 @@ fn gives_frames_back(rt: HostRuntime) -> Result<(), Fail> {
     let rows = [
         (Map(8_192, 1, 2, 0), Scalar(MappedAt(0x3fffffc000))),
         (Serve(Access::Load, 0x3fffffc000), Scalar(Ready)),
-        (
-            Serve(Access::Load, 0x3fffffd000),
-            Scalar(Refused(Refusal::NoFrame)),
-        ),
+        (Serve(Access::Load, 0x3fffffd000), Scalar(Refused(NoFrame))),
         (Unmap(0x3fffffc000, 4_096), Scalar(Done)),
         (Serve(Access::Load, 0x3fffffd000), Scalar(Ready)),
     ];
     // frame 0, the trapframe, the page of data and five page tables, which serve the mapping too; one of the nine frames is
     // free
-    let story = Story {
-        frames: 9,
-        page: 0,
-        promises: None,
-        rows: &rows,
-        changes: &[],
-    };
-    assert_eq!(rt; first_wrong_outcome(&rt, rt.alloc(), &story)?, None);
-    Ok(())
+    play(&rt, rt.alloc(), 9, 0, None, &rows, &[])
 }

@@ -1,11 +1,12 @@
 // Tests that each protection argument of mmap, from 1 to 7, grants the right fetches, loads and stores, and no others: one
-// `Story` (test case) of rows of an operation and its reply.
+// story (test case) of rows of an operation and its reply.
 
 use crate::operation::Operation::{Fetch, Load, Map, Serve, Store};
 use crate::operation::Row;
-use crate::stores::{Story, first_wrong_outcome};
+use crate::stores::play;
 use process_model::Reply::Scalar;
 use process_model::ScalarReply::{Fault, MappedAt, Ready, Stored, Value};
+use process_model::{Reply, ScalarReply};
 use std::alloc::{AllocError, Global};
 use std::test::Fail;
 use sv39_entry::Access;
@@ -22,29 +23,22 @@ const PROTECTIONS: [(u64, u64, bool, bool, bool); 7] = [
     (7, 0x3fffff7000, true, true, true),
 ];
 
+/// The reply to an access: this one if it is granted, else a page fault.
+fn told(is_granted: bool, reply: ScalarReply, cause: u64) -> Reply {
+    Scalar(if is_granted { reply } else { Fault(cause) })
+}
+
 /// For each protection: maps a page privately, makes it ready, and makes each access. The causes of page faults are 12 for a
 /// fetch, 13 for a load and 15 for a store (RISC-V Privileged Architecture 20211203, 4.1.8).
 fn accesses(alloc: Global) -> Result<Vec<Row>, AllocError> {
     let mut rows = Vec::new(alloc);
     for (protection, address, loads, stores, fetches) in PROTECTIONS {
         let first = if loads { Access::Load } else { Access::Fetch };
-        let value = |granted, cause| {
-            if granted {
-                Scalar(Value(0))
-            } else {
-                Scalar(Fault(cause))
-            }
-        };
-        let stored = if stores {
-            Scalar(Stored)
-        } else {
-            Scalar(Fault(15))
-        };
         rows.push((Map(4_096, protection, 2, 0), Scalar(MappedAt(address))))?;
         rows.push((Serve(first, address), Scalar(Ready)))?;
-        rows.push((Fetch(address), value(fetches, 12)))?;
-        rows.push((Load(address, 8), value(loads, 13)))?;
-        rows.push((Store(address, 8, 1), stored))?;
+        rows.push((Fetch(address), told(fetches, Value(0), 12)))?;
+        rows.push((Load(address, 8), told(loads, Value(0), 13)))?;
+        rows.push((Store(address, 8, 1), told(stores, Stored, 15)))?;
     }
     Ok(rows)
 }
@@ -52,13 +46,5 @@ fn accesses(alloc: Global) -> Result<Vec<Row>, AllocError> {
 #[test]
 fn grants_what_was_asked(rt: HostRuntime) -> Result<(), Fail> {
     let rows = accesses(rt.alloc())?;
-    let story = Story {
-        frames: 16,
-        page: 0,
-        promises: None,
-        rows: &rows,
-        changes: &[],
-    };
-    assert_eq!(rt; first_wrong_outcome(&rt, rt.alloc(), &story)?, None);
-    Ok(())
+    play(&rt, rt.alloc(), 16, 0, None, &rows, &[])
 }

@@ -1,6 +1,6 @@
-// `Story`, a struct: a test case of one process: its frames, its page, the promises (reservations of page I/O) that the
-// files make, its rows (operations with replies), the bytes of files it must change. `first_wrong_outcome` plays it over
-// plain frames and over shared frames; `Outcome`, `End`, `StoreKind`: how it ended, and over which store.
+// `play`: plays a story (a test case of one process: rows of an operation and its reply) over plain frames and over shared
+// frames, with files that may refuse one promise (a reservation of page I/O). `Story`, a struct: the frames, the page and
+// the rows of a story; `End`, a struct: how it ended.
 
 ghost use Rattle.std.specs.Prelude.{◌<◌, ◌≤◌, IfErr, IfOk};
 ghost use Rattle.address_space.specs.Agreement.{HoldsTrampoline};
@@ -9,7 +9,7 @@ ghost use Rattle.frame_store.specs.Laws.{IsSeatOf, KeepsSeats};
 ghost use Rattle.sv39_entry.specs.Schemes.{trapframe_page};
 ghost use Rattle.sv39_entry.specs.declared.scheme.Scheme.TheVariants.{Sv39};
 
-use crate::cabinets::{Change, changes, three_files};
+use crate::cabinets::{Change, changes_of, three_files};
 use crate::initial_parts::one_page;
 use crate::operation::Row;
 use crate::perform::{Wrong, first_wrong};
@@ -18,6 +18,7 @@ use file_cabinet::Files;
 use frame_store::{FrameAccess, FrameSeat, FrameSupply, NoFrame, PlainFrames};
 use shared_frames::SharedFrames;
 use std::alloc::{AllocError, Global};
+use std::process::Abort;
 use std::sync::Wait;
 use std::test::Fail;
 use sv39_entry::Scheme;
@@ -25,84 +26,60 @@ use tests_of_files::RefusingFiles;
 
 /// What a process that begins with one page does, over a store of `frames` frames.
 #[derive(Clone, Copy)]
-pub(crate) struct Story<'a> {
-    pub frames: usize,
-    /// The number of that page. The heap begins after it, empty.
-    pub page: u64,
-    /// How many promises the files make before they refuse one; `None`: they refuse none.
-    pub promises: Option<usize>,
-    pub rows: &'a [Row],
-    /// The bytes of the files that must differ in the end.
-    pub changes: &'a [Change],
-}
-
-#[derive(Clone, Copy, PartialEq, Eq, Debug)]
-pub(crate) enum StoreKind {
-    Plain,
-    Shared,
+struct Story<'a> {
+    frames: usize,
+    page: u64,
+    rows: &'a [Row],
 }
 
 /// How a story ended. `wrong`: its first wrong reply, `Some(None)` if there is none, `None` if the process could not be
 /// built. `free`: the number of free frames, once the process is destroyed.
 #[derive(Drop, PartialEq, Eq, Debug)]
-pub(crate) struct End {
-    pub wrong: Option<Wrong>,
-    pub free: usize,
+struct End {
+    wrong: Option<Wrong>,
+    free: usize,
 }
 
-/// The end of a story over a store of this kind, and the bytes of files that it changed.
-#[derive(Drop, PartialEq, Eq, Debug)]
-pub(crate) struct Outcome {
-    pub kind: StoreKind,
-    pub end: End,
-    pub changes: Vec<Change>,
-}
-
-/// Plays a story with the three files over plain frames and over shared ones. Returns the first outcome that has a wrong
-/// reply or other changes of files, or after which not all frames are free; `None` if there is none.
+/// Plays rows over plain frames and over shared frames, `frames` of them, with the three files. The process begins with one
+/// page, number `page`; the heap begins after it, empty. Asserts that no reply is wrong, that the files differ in these
+/// bytes in the end, and that all frames are free then. `promises`: how many promises the files make before they refuse one;
+/// `None`: they refuse none.
 ///
 /// # Errors
 /// `Fail`: the host is out of memory.
-pub(crate) fn first_wrong_outcome<R: Wait>(
+pub(crate) fn play<R: Abort + Wait>(
     rt: &R,
     alloc: Global,
-    story: &Story,
-) -> Result<Option<Outcome>, Fail>
-    requires some { 0 < story.now.frames }
-    requires few { story.now.frames ≤ 256 }
-    requires low { story.now.page < trapframe_page Sv39 }
+    frames: usize,
+    page: u64,
+    promises: Option<usize>,
+    rows: &[Row],
+    changes: &[Change],
+) -> Result<(), Fail>
+    requires some { 0 < frames }
+    requires few { frames ≤ 256 }
+    requires low { page < trapframe_page Sv39 }
 {
-    for kind in [StoreKind::Plain, StoreKind::Shared] {
+    let story = Story { frames, page, rows };
+    for is_shared in [false, true] {
         let mut files = RefusingFiles {
             files: three_files(alloc)?,
-            until_refusal: story.promises,
+            until_refusal: promises,
         };
-        let end = played(rt, alloc, kind, story, &mut files)?;
-        let changes = changes(alloc, &files.files)?;
-        let all_free = end.free == story.frames;
-        if end.wrong != Some(None) || !all_free || changes.as_slice() != story.changes {
-            return Ok(Some(Outcome { kind, end, changes }));
-        }
+        let end = if is_shared {
+            over_shared(rt, alloc, &story, &mut files)?
+        } else {
+            over_plain(alloc, &story, &mut files)?
+        };
+        assert_eq!(rt;
+            (end.wrong, end.free),
+            (Some(None), frames),
+            "shared: {is_shared}"
+        );
+        let changed = changes_of(alloc, &files.files)?;
+        assert_eq!(rt; changed.as_slice(), changes, "shared: {is_shared}");
     }
-    Ok(None)
-}
-
-/// Plays a story over a store of this kind, and returns how it ended.
-fn played<R: Wait, C: Files>(
-    rt: &R,
-    alloc: Global,
-    kind: StoreKind,
-    story: &Story,
-    files: &mut C,
-) -> Result<End, AllocError>
-    requires some { 0 < story.now.frames }
-    requires few { story.now.frames ≤ 256 }
-    requires low { story.now.page < trapframe_page Sv39 }
-{
-    match kind {
-        StoreKind::Plain => over_plain(alloc, story, files),
-        StoreKind::Shared => over_shared(rt, alloc, story, files),
-    }
+    Ok(())
 }
 
 /// Builds the process, performs the rows and destroys it. Returns the first wrong reply and the seat, which holds nothing;

@@ -1,9 +1,9 @@
 // Tests that munmap and `write_back` write the stored pages of shared mappings to the right place of their file, up to the
-// file's length, and neither pages that were only loaded from nor private ones. Each is a `Story` (test case): rows of an
+// file's length, and neither pages that were only loaded from nor private ones. Each is a story (test case): rows of an
 // operation and its reply. The byte of file n at offset k is k / 256 + 64 * n.
 
 use crate::operation::Operation::{Load, Look, Map, Serve, Store, Unmap, WriteBack};
-use crate::stores::{Story, first_wrong_outcome};
+use crate::stores::play;
 use process_model::Reply::Scalar;
 use process_model::ScalarReply::{Done, Fault, MappedAt, Ready, Stored, Value};
 use std::test::Fail;
@@ -31,20 +31,13 @@ fn writes_up_to_the_end_of_a_file(rt: HostRuntime) -> Result<(), Fail> {
         // a load page fault (RISC-V Privileged Architecture 20211203, 4.1.8)
         (Load(0x3fffffd380, 8), Scalar(Fault(13))),
     ];
-    let story = Story {
-        frames: 12,
-        page: 0,
-        promises: None,
-        rows: &rows,
-        changes: &[
-            (0, 4_996, 0xa4),
-            (0, 4_997, 0xa3),
-            (0, 4_998, 0xa2),
-            (0, 4_999, 0xa1),
-        ],
-    };
-    assert_eq!(rt; first_wrong_outcome(&rt, rt.alloc(), &story)?, None);
-    Ok(())
+    let changes = [
+        (0, 4_996, 0xa4),
+        (0, 4_997, 0xa3),
+        (0, 4_998, 0xa2),
+        (0, 4_999, 0xa1),
+    ];
+    play(&rt, rt.alloc(), 12, 0, None, &rows, &changes)
 }
 
 #[test]
@@ -69,15 +62,8 @@ fn leaves_what_was_only_loaded(rt: HostRuntime) -> Result<(), Fail> {
         (Unmap(0x3fffffd000, 4_096), Scalar(Done)),
         (Unmap(0x3fffffb000, 4_096), Scalar(Done)),
     ];
-    let story = Story {
-        frames: 12,
-        page: 0,
-        promises: None,
-        rows: &rows,
-        changes: &[(0, 0x100, 2), (0, 0x101, 2)],
-    };
-    assert_eq!(rt; first_wrong_outcome(&rt, rt.alloc(), &story)?, None);
-    Ok(())
+    let changes = [(0, 0x100, 2), (0, 0x101, 2)];
+    play(&rt, rt.alloc(), 12, 0, None, &rows, &changes)
 }
 
 #[test]
@@ -105,22 +91,15 @@ fn writes_all_mappings(rt: HostRuntime) -> Result<(), Fail> {
         (Unmap(0x3fffff9000, 10_003), Scalar(Done)),
         (Unmap(0x3fffffc000, 1), Scalar(Done)),
     ];
-    let story = Story {
-        frames: 12,
-        page: 0,
-        promises: None,
-        rows: &rows,
-        changes: &[
-            (0, 4_096, 0xd1),
-            (0, 4_097, 0xd2),
-            (2, 4_095, 0xe1),
-            (2, 10_000, 0xf8),
-            (2, 10_001, 0xf7),
-            (2, 10_002, 0xf6),
-        ],
-    };
-    assert_eq!(rt; first_wrong_outcome(&rt, rt.alloc(), &story)?, None);
-    Ok(())
+    let changes = [
+        (0, 4_096, 0xd1),
+        (0, 4_097, 0xd2),
+        (2, 4_095, 0xe1),
+        (2, 10_000, 0xf8),
+        (2, 10_001, 0xf7),
+        (2, 10_002, 0xf6),
+    ];
+    play(&rt, rt.alloc(), 12, 0, None, &rows, &changes)
 }
 
 #[test]
@@ -135,13 +114,6 @@ fn keeps_places_in_the_file(rt: HostRuntime) -> Result<(), Fail> {
         (Store(0x3fffffc000, 2, 0xc1c2), Scalar(Stored)),
         (Unmap(0x3fffffc000, 4_096), Scalar(Done)),
     ];
-    let story = Story {
-        frames: 12,
-        page: 0,
-        promises: None,
-        rows: &rows,
-        changes: &[(2, 4_096, 0xc2), (2, 4_097, 0xc1)],
-    };
-    assert_eq!(rt; first_wrong_outcome(&rt, rt.alloc(), &story)?, None);
-    Ok(())
+    let changes = [(2, 4_096, 0xc2), (2, 4_097, 0xc1)];
+    play(&rt, rt.alloc(), 12, 0, None, &rows, &changes)
 }

@@ -12,7 +12,7 @@ use Rattle.process_model.specs.Order.{HasOrder}
 use Rattle.process_model.specs.PageMap as pages
 use Rattle.process_model.specs.PageMap.{from_list}
 use Rattle.process_model.specs.Process.{Page, Process, heap_of}
-use Rattle.process_model.specs.RegionRows.{behind_all, holds, in_first, not_held, passed}
+use Rattle.process_model.proofs.RegionRows.{behind_all, holds, in_first, not_held, passed}
 use Rattle.process_model.specs.Regions.{Region, end_of, holds_page, region_at}
 use Rattle.process_model.specs.Residence.{with_page}
 use Rattle.sv39_entry.specs.Schemes.{trapframe_page}

@@ -34,10 +34,7 @@ const MEMORY_SIZE: usize = 104;
 
 /// The check that a file fails; `None` if it is accepted.
 fn refusal(scheme: Scheme, bytes: &[u8]) -> Option<BadImage> {
-    match read_image(scheme, bytes) {
-        Ok(_) => None,
-        Err(part) => Some(part),
-    }
+    read_image(scheme, bytes).err()
 }
 
 /// Writes a number as eight bytes at `at`, the lowest first; does nothing if they do not fit.
@@ -60,8 +57,8 @@ fn with_numbers(
     Ok(refusal(scheme, &bytes))
 }
 
-/// The length of the first prefix of the file that fails another check than it must; `None` if there is none.
-fn wrong_front() -> Option<usize> {
+#[test]
+fn judges_each_front(rt: HostRuntime) {
     for count in 0..=124 {
         let told = match count {
             0..64 => Some(BadImage::Header),
@@ -69,16 +66,12 @@ fn wrong_front() -> Option<usize> {
             120..124 => Some(BadImage::Contents),
             _ => None,
         };
-        if refusal(Scheme::Sv39, &FILE[..count]) != told {
-            return Some(count);
-        }
+        assert_eq!(rt;
+            refusal(Scheme::Sv39, &FILE[..count]),
+            told,
+            "{count} bytes"
+        );
     }
-    None
-}
-
-#[test]
-fn judges_each_front(rt: HostRuntime) {
-    assert_eq!(rt; wrong_front(), None);
 }
 
 /// The offset of a field, the number written there, and the check that the file then fails.
@@ -108,25 +101,16 @@ fn rows(scheme: Scheme) -> [Row; 15] {
     ]
 }
 
-/// The first row whose file fails another check; `None` if there is none.
-fn wrong_row(alloc: Global, scheme: Scheme) -> Result<Option<Row>, AllocError> {
-    for row in rows(scheme) {
-        let (field, told) = row;
-        if with_numbers(alloc, scheme, [field, field])? != told {
-            return Ok(Some(row));
-        }
-    }
-    Ok(None)
-}
-
 #[test]
 fn judges_each_field(rt: HostRuntime) {
     let empty = [(FILE_SIZE, 0), (MEMORY_SIZE, 0)];
     for scheme in SCHEMES {
-        let alloc = rt.alloc();
-        assert_eq!(rt; wrong_row(alloc, scheme), Ok(None), "{scheme:?}");
-        let told = with_numbers(alloc, scheme, empty);
-        assert_eq!(rt; told, Ok(Some(BadImage::NoLoad)), "{scheme:?}");
+        for (field, told) in rows(scheme) {
+            let found = with_numbers(rt.alloc(), scheme, [field, field]);
+            assert_eq!(rt; found, Ok(told), "{scheme:?} {field:?}");
+        }
+        let found = with_numbers(rt.alloc(), scheme, empty);
+        assert_eq!(rt; found, Ok(Some(BadImage::NoLoad)), "{scheme:?}");
     }
 }
 
@@ -144,13 +128,9 @@ fn with_two_headers(alloc: Global, address: u64) -> Result<Option<BadImage>, All
 
 #[test]
 fn judges_headers_in_a_row(rt: HostRuntime) {
-    assert_eq!(rt;
-        [
-            with_two_headers(rt.alloc(), 0),
-            with_two_headers(rt.alloc(), 0x1000)
-        ],
-        [Ok(Some(BadImage::Order)), Ok(None)]
-    );
+    for (address, told) in [(0, Some(BadImage::Order)), (0x1000, None)] {
+        assert_eq!(rt; with_two_headers(rt.alloc(), address), Ok(told));
+    }
 }
 
 /// The check that the file fails with zeros appended up to a length in bytes.
@@ -162,13 +142,9 @@ fn with_length(alloc: Global, length: usize) -> Result<Option<BadImage>, AllocEr
 
 #[test]
 fn takes_a_mebibyte(rt: HostRuntime) {
-    assert_eq!(rt;
-        [
-            with_length(rt.alloc(), 1_048_576),
-            with_length(rt.alloc(), 1_048_577)
-        ],
-        [Ok(None), Ok(Some(BadImage::TooLong))]
-    );
+    for (length, told) in [(1_048_576, None), (1_048_577, Some(BadImage::TooLong))] {
+        assert_eq!(rt; with_length(rt.alloc(), length), Ok(told));
+    }
 }
 
 /// The rules that deny accesses to the process of the file, `None` for a granted one: a fetch and a store at the end of page

@@ -9,6 +9,7 @@ use exec_segments::{Image, start};
 use frame_store::{PlainFrames, PlainSeat};
 use process_model::{BadImage, Bytes, Segment};
 use std::alloc::{AllocError, Global};
+use std::test::Fail;
 use sv39_entry::{Access, Rule, Scheme, Va};
 
 /// A read-only segment of `memory_size` bytes at `address`, which begins with `bytes` bytes of 7.
@@ -29,10 +30,7 @@ fn segment(
 
 /// The check that an image of these segments fails; `None` if it is accepted.
 fn refusal(scheme: Scheme, segments: &[Segment]) -> Option<BadImage> {
-    match Image::from_segments(scheme, segments) {
-        Ok(_) => None,
-        Err(part) => Some(part),
-    }
+    Image::from_segments(scheme, segments).err()
 }
 
 /// A segment: its address, its size in memory, and the number of bytes that it begins with.
@@ -81,21 +79,13 @@ fn rows(scheme: Scheme) -> [Row; 13] {
     ]
 }
 
-/// The first row whose image fails another check; `None` if there is none.
-fn wrong_row(alloc: Global, scheme: Scheme) -> Result<Option<Row>, AllocError> {
-    for row in rows(scheme) {
-        let (address, memory_size, bytes, told) = row;
-        if refusal_of(alloc, scheme, &[(address, memory_size, bytes)])? != told {
-            return Ok(Some(row));
-        }
-    }
-    Ok(None)
-}
-
 #[test]
 fn judges_each_segment(rt: HostRuntime) {
     for scheme in SCHEMES {
-        assert_eq!(rt; wrong_row(rt.alloc(), scheme), Ok(None), "{scheme:?}");
+        for (address, memory_size, bytes, told) in rows(scheme) {
+            let found = refusal_of(rt.alloc(), scheme, &[(address, memory_size, bytes)]);
+            assert_eq!(rt; found, Ok(told), "{scheme:?} {address:x} {memory_size:x}");
+        }
     }
 }
 
@@ -103,41 +93,29 @@ fn judges_each_segment(rt: HostRuntime) {
 fn judges_segments_in_a_row(rt: HostRuntime) {
     let in_order = [(0x0, 0x1001, 0), (0x0, 0x0, 0), (0x2000, 0x1, 0)];
     let meeting = [(0x0, 0x1001, 0), (0x1000, 0x1, 0)];
-    assert_eq!(rt;
-        [
-            refusal_of(rt.alloc(), Scheme::Sv48, &in_order),
-            refusal_of(rt.alloc(), Scheme::Sv48, &meeting),
-            refusal_of(rt.alloc(), Scheme::Sv48, &[])
-        ],
-        [
-            Ok(None),
-            Ok(Some(BadImage::Order)),
-            Ok(Some(BadImage::NoLoad))
-        ]
-    );
+    for (given, told) in [
+        (&in_order[..], None),
+        (&meeting[..], Some(BadImage::Order)),
+        (&[], Some(BadImage::NoLoad)),
+    ] {
+        assert_eq!(rt; refusal_of(rt.alloc(), Scheme::Sv48, given), Ok(told));
+    }
 }
 
-/// The first number of segments, each of one page, with which an image fails another check than it must; `None` if there is
-/// none.
-fn wrong_number(alloc: Global) -> Result<Option<u64>, AllocError> {
-    let mut segments = Vec::new(alloc);
+/// Segments of one page each.
+#[test]
+fn takes_sixteen_segments(rt: HostRuntime) -> Result<(), Fail> {
+    let mut segments = Vec::new(rt.alloc());
     for page in 0..=17 {
         let told = match page {
             0 => Some(BadImage::NoLoad),
             17 => Some(BadImage::TooMany),
             _ => None,
         };
-        if refusal(Scheme::Sv39, &segments) != told {
-            return Ok(Some(page));
-        }
-        segments.push(segment(alloc, 0x1000 * page, 0x1000, 1)?)?;
+        assert_eq!(rt; refusal(Scheme::Sv39, &segments), told, "{page} segments");
+        segments.push(segment(rt.alloc(), 0x1000 * page, 0x1000, 1)?)?;
     }
-    Ok(None)
-}
-
-#[test]
-fn takes_sixteen_segments(rt: HostRuntime) {
-    assert_eq!(rt; wrong_number(rt.alloc()), Ok(None));
+    Ok(())
 }
 
 /// Whether the last eight bytes of the data may be loaded, those of the stack stored, and the page between them is the

@@ -1,6 +1,6 @@
 // Tests that `KernelTable`, xv6's `kvmmake`, leads addresses to the right frames (`Row`: an access, an address and its walk)
 // over both frame stores; maps each slot's kernel stack (slot: a place in the process table); takes the right number of
-// frames (`FreeRow`); and, if too few are free, returns its seat.
+// frames; and, if too few are free, returns its seat.
 
 ghost use Rattle.std.specs.Prelude.{◌≤◌, IfErr, IfOk};
 ghost use Rattle.address_space.specs.Agreement.{HoldsTrampoline};
@@ -159,12 +159,10 @@ fn free_beside(
     }
 }
 
-/// A scheme, the numbers of frames and slots, and what `free_beside` must return.
-type FreeRow = (Scheme, u16, u16, Option<usize>);
-
-fn free_rows() -> [FreeRow; 16] {
+#[test]
+fn takes_its_frames(rt: HostRuntime) {
     let (sv39, sv48) = (Scheme::Sv39, Scheme::Sv48);
-    [
+    for (scheme, frames, slots, told) in [
         (sv39, 64, 1, Some(57)),
         (sv39, 64, 4, Some(54)),
         (sv39, 64, 64, None),
@@ -181,25 +179,12 @@ fn free_rows() -> [FreeRow; 16] {
         (sv48, 512, 4, Some(500)),
         (sv48, 513, 4, Some(500)),
         (sv48, 513, 64, Some(440)),
-    ]
-}
-
-/// The first row for which `free_beside` returns something else; `None` if there is none.
-fn wrong_free(alloc: Global) -> Result<Option<FreeRow>, AllocError> {
-    for row in free_rows() {
-        let (scheme, frames, slots, told) = row;
+    ] {
         // changes no row; it shows the limits to the proof
         let (frames, slots) = (frames.clamp(16, 1024), slots.clamp(1, 64));
-        if free_beside(alloc, scheme, frames, slots)? != told {
-            return Ok(Some(row));
-        }
+        let free = free_beside(rt.alloc(), scheme, frames, slots);
+        assert_eq!(rt; free, Ok(told), "{scheme:?} {frames} {slots}");
     }
-    Ok(None)
-}
-
-#[test]
-fn takes_its_frames(rt: HostRuntime) {
-    assert_eq!(rt; wrong_free(rt.alloc()), Ok(None));
 }
 
 /// Numbers of free frames, held frames and references, after a refusal.

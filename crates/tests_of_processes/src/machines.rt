@@ -13,6 +13,7 @@ use process_model::{
     Bytes, Config, Image, Phase, Policy, Refusal, Reply, ScalarReply, Segment, Step,
 };
 use std::alloc::{AllocError, Global};
+use std::test::Fail;
 use sv39_entry::{Scheme, Va, Vpn};
 
 const POLICIES: [Policy; 2] = [Policy::Full, Policy::Asid];
@@ -45,35 +46,25 @@ fn rows(scheme: Scheme) -> [Row; 14] {
     ]
 }
 
-/// The first row that is booted or refused otherwise, with this policy and scheme; `None` if there is none.
-fn wrong_row(alloc: Global, policy: Policy, scheme: Scheme) -> Option<Row> {
-    for row in rows(scheme) {
-        let (harts, frames, slots, refusal) = row;
-        let config = Config {
-            harts,
-            frames,
-            slots,
-            policy,
-            scheme,
-        };
-        let Ok(files) = Cabinet::new(alloc, &[]) else {
-            return Some(row);
-        };
-        if Machine::boot(alloc, config, files).err() != refusal {
-            return Some(row);
-        }
-    }
-    None
-}
-
 #[test]
-fn boots_within_limits(rt: HostRuntime) {
+fn boots_within_limits(rt: HostRuntime) -> Result<(), Fail> {
     for scheme in SCHEMES {
         for policy in POLICIES {
-            let wrong = wrong_row(rt.alloc(), policy, scheme);
-            assert_eq!(rt; wrong, None, "{scheme:?} {policy:?}");
+            for (harts, frames, slots, refusal) in rows(scheme) {
+                let config = Config {
+                    harts,
+                    frames,
+                    slots,
+                    policy,
+                    scheme,
+                };
+                let files = Cabinet::new(rt.alloc(), &[])?;
+                let told = Machine::boot(rt.alloc(), config, files).err();
+                assert_eq!(rt; told, refusal, "{config:?}");
+            }
         }
     }
+    Ok(())
 }
 
 /// A booted machine with two harts, `frames` frames, four slots and no files; `None` if it could not be booted.
@@ -128,6 +119,7 @@ fn switch<'a>(hart: usize, slot: usize) -> Step<'a> {
 
 /// Steps of two processes of one image, each on a hart of its own.
 fn steps(image: Image<'_>) -> [Step<'_>; 23] {
+    let address = 0x1008;
     [
         Step::Start(image),
         Step::Start(image),
@@ -139,16 +131,13 @@ fn steps(image: Image<'_>) -> [Step<'_>; 23] {
         next(0),
         Step::Store {
             hart: 0,
-            address: 0x1008,
+            address,
             width: 8,
             value: 0x1122334455667788,
             via: None,
         },
         load(0, 0x1008, 4),
-        Step::Fill {
-            hart: 0,
-            address: 0x1008,
-        },
+        Step::Fill { hart: 0, address },
         Step::Load {
             hart: 0,
             address: 0x100c,
@@ -217,10 +206,8 @@ type Buffered = (usize, Option<Vpn>);
 
 /// The number of entries of a hart's buffer and the page of the oldest; `None` if there is no such hart.
 fn buffered(machine: &Machine, hart: usize) -> Option<Buffered> {
-    match machine.buffer(hart) {
-        Some(buffer) => Some((buffer.len(), buffer.entry(0).map(|entry| entry.page))),
-        None => None,
-    }
+    let buffer = machine.buffer(hart)?;
+    Some((buffer.len(), buffer.entry(0).map(|entry| entry.page)))
 }
 
 fn text_of(alloc: Global, replies: &[Reply]) -> Option<String> {
@@ -261,14 +248,9 @@ fn told(alloc: Global, machine: &mut Machine, steps: &[Step<'_>], at_once: bool)
     replies_of_steps(alloc, machine, steps)
 }
 
-/// What is observed of two harts.
-#[derive(Drop)]
-struct Outcome {
-    replies: String,
-    /// The buffers of hart 0 and of a hart that does not exist, and that of hart 0 after an eviction.
-    buffers: [Option<Buffered>; 3],
-    evicted: Reply,
-}
+/// The replies; the buffers of hart 0 and of a hart that does not exist, and that of hart 0 after an eviction; and the reply
+/// to the eviction.
+type Outcome = (String, [Option<Buffered>; 3], Reply);
 
 /// Boots a machine, makes `steps` and evicts entry 0 of hart 0; `None` if the host is out of memory.
 fn played(alloc: Global, policy: Policy, scheme: Scheme, at_once: bool) -> Option<Outcome> {
@@ -278,11 +260,8 @@ fn played(alloc: Global, policy: Policy, scheme: Scheme, at_once: bool) -> Optio
     let replies = told(alloc, &mut machine, &steps, at_once)?;
     let (there, nowhere) = (buffered(&machine, 0), buffered(&machine, 9));
     let evicted = machine.step(Step::Evict { hart: 0, entry: 0 });
-    Some(Outcome {
-        replies,
-        buffers: [there, nowhere, buffered(&machine, 0)],
-        evicted,
-    })
+    let buffers = [there, nowhere, buffered(&machine, 0)];
+    Some((replies, buffers, evicted))
 }
 
 #[test]
@@ -296,19 +275,10 @@ fn steps_on_two_harts(rt: HostRuntime) {
         (Policy::Asid, Scheme::Sv48, false),
     ] {
         let outcome = played(rt.alloc(), policy, scheme, at_once);
-        let Outcome {
-            replies,
-            buffers,
-            evicted,
-        } = outcome.expect(&rt, "memory is ample");
-        assert_eq!(rt;
-            (replies.as_str(), buffers, evicted),
-            (
-                REPLIES,
-                [Some((1, Some(page))), None, Some((0, None))],
-                Reply::Scalar(ScalarReply::Done)
-            )
-        );
+        let (replies, buffers, evicted) = outcome.expect(&rt, "memory is ample");
+        assert_eq!(rt; replies.as_str(), REPLIES);
+        assert_eq!(rt; buffers, [Some((1, Some(page))), None, Some((0, None))]);
+        assert_eq!(rt; evicted, Reply::Scalar(ScalarReply::Done));
     }
 }
 
@@ -316,11 +286,8 @@ fn steps_on_two_harts(rt: HostRuntime) {
 fn first_replies(alloc: Global, scheme: Scheme) -> Option<String> {
     let segments = [page(alloc).ok()?];
     let mut machine = with_two_harts(alloc, 64, Policy::Full, scheme)?;
-    replies_of_run(
-        alloc,
-        &mut machine,
-        &first_steps(Image::Segments(&segments)),
-    )
+    let steps = first_steps(Image::Segments(&segments));
+    replies_of_run(alloc, &mut machine, &steps)
 }
 
 #[test]
@@ -334,24 +301,13 @@ fn runs_eight_steps_at_once(rt: HostRuntime) {
 /// A process starts, is scheduled and returns to user mode; its page is filled into the buffer; it traps into the kernel and
 /// returns.
 fn there_and_back(image: Image<'_>) -> [Step<'_>; 13] {
-    [
-        Step::Start(image),
-        switch(0, 0),
-        next(0),
-        next(0),
-        next(0),
-        Step::Fill {
-            hart: 0,
-            address: 0x1000,
-        },
-        Step::Trap { hart: 0 },
-        next(0),
-        next(0),
-        next(0),
-        next(0),
-        next(0),
-        next(0),
-    ]
+    let address = 0x1000;
+    let mut steps = [next(0); 13];
+    steps[0] = Step::Start(image);
+    steps[1] = switch(0, 0);
+    steps[5] = Step::Fill { hart: 0, address };
+    steps[6] = Step::Trap { hart: 0 };
+    steps
 }
 
 /// The number of entries of hart 0's buffer after `there_and_back`.
@@ -373,22 +329,10 @@ fn keeps_entries_by_identifiers(rt: HostRuntime) {
     }
 }
 
-/// `count` times the step `Next` of hart 0, which is idle.
-fn idle_steps<'a>(alloc: Global, count: usize) -> Result<Vec<Step<'a>>, AllocError> {
-    Vec::from_elem(alloc, Step::Next { hart: 0 }, count)
-}
-
 /// Whether each reply is the refusal of a step on an idle hart.
 fn are_idle(replies: &[Reply]) -> bool {
-    for reply in replies {
-        if !matches!(
-            reply,
-            Reply::Scalar(ScalarReply::Refused(Refusal::Impossible(Phase::Idle)))
-        ) {
-            return false;
-        }
-    }
-    true
+    let idle = Reply::Scalar(ScalarReply::Refused(Refusal::Impossible(Phase::Idle)));
+    replies.iter().all(|reply| *reply == idle)
 }
 
 /// The number of replies to steps that one `run` makes; `None` if one of them is not the refusal of a step on an idle hart.
@@ -401,13 +345,11 @@ fn idle_replies(alloc: Global, machine: &mut Machine, steps: &[Step<'_>]) -> Opt
     }
 }
 
-/// `idle_replies` for `count` steps on a machine that was just booted.
+/// `idle_replies` for `count` steps of hart 0, which is idle, on a machine that was just booted.
 fn replies_when_idle(alloc: Global, count: usize) -> Option<usize> {
     let mut machine = with_two_harts(alloc, 64, Policy::Full, Scheme::Sv48)?;
-    match idle_steps(alloc, count) {
-        Ok(steps) => idle_replies(alloc, &mut machine, &steps),
-        Err(_) => None,
-    }
+    let steps = Vec::from_elem(alloc, next(0), count).ok()?;
+    idle_replies(alloc, &mut machine, &steps)
 }
 
 #[test]
@@ -418,36 +360,25 @@ fn runs_thousands_of_steps(rt: HostRuntime) {
 /// A process starts, grows its heap past 2^39 and returns to user mode; a load there faults, the fault is served, and the
 /// load is made again.
 fn far_steps(image: Image<'_>) -> [Step<'_>; 16] {
-    [
-        Step::Start(image),
-        switch(0, 0),
-        Step::Sbrk {
-            hart: 0,
-            delta: 1 << 39,
-        },
-        next(0),
-        next(0),
-        next(0),
-        load(0, 1 << 39, 1),
-        next(0),
-        next(0),
-        next(0),
-        Step::Serve { hart: 0 },
-        next(0),
-        next(0),
-        next(0),
-        load(0, 1 << 39, 1),
-        Step::Trap { hart: 0 },
-    ]
+    let delta = 1 << 39;
+    let mut steps = [next(0); 16];
+    steps[0] = Step::Start(image);
+    steps[1] = switch(0, 0);
+    steps[2] = Step::Sbrk { hart: 0, delta };
+    steps[6] = load(0, 1 << 39, 1);
+    steps[10] = Step::Serve { hart: 0 };
+    steps[14] = load(0, 1 << 39, 1);
+    steps[15] = Step::Trap { hart: 0 };
+    steps
 }
 
-const FAR_REPLIES: &str =
+const SERVED: &str =
     "[Scalar(Started(0)), Scalar(Done), Scalar(OldSize(16384)), Scalar(Done), Scalar(Done), Scalar(Done), \
     Scalar(Fault(13)), Scalar(Done), Scalar(Done), Scalar(Done), Scalar(Ready), Scalar(Done), Scalar(Done), \
     Scalar(Done), Scalar(Value(0)), Scalar(Done)]";
 
 /// The replies to `far_steps` if too few frames are free for the page: the service ends the process, and the hart is idle.
-const ENDED_REPLIES: &str =
+const ENDED: &str =
     "[Scalar(Started(0)), Scalar(Done), Scalar(OldSize(16384)), Scalar(Done), Scalar(Done), Scalar(Done), \
     Scalar(Fault(13)), Scalar(Done), Scalar(Done), Scalar(Done), Scalar(Ended(NoFrame)), \
     Scalar(Refused(Impossible(Idle))), Scalar(Refused(Impossible(Idle))), Scalar(Refused(Impossible(Idle))), \
@@ -466,11 +397,7 @@ fn far_replies(alloc: Global, frames: usize) -> Option<String> {
 fn far_page_needs_four_frames(rt: HostRuntime) {
     for frames in 23..=27 {
         let told = far_replies(rt.alloc(), frames).expect(&rt, "memory is ample");
-        let wanted = if frames < 27 {
-            ENDED_REPLIES
-        } else {
-            FAR_REPLIES
-        };
+        let wanted = if frames < 27 { ENDED } else { SERVED };
         assert_eq!(rt; told.as_str(), wanted, "{frames} frames");
     }
 }
@@ -512,29 +439,15 @@ fn accounts_with(alloc: Global, scheme: Scheme, frames: usize) -> Option<[Accoun
 #[test]
 fn accounts_are_counted_by_hand(rt: HostRuntime) {
     let (sv39, sv48) = (Scheme::Sv39, Scheme::Sv48);
-    let rows = [
-        (
-            sv39,
-            64,
-            [(54, 10, 0, 10), (45, 19, 1, 20), (36, 28, 1, 30)],
-        ),
-        (sv39, 19, [(9, 10, 0, 10), (0, 19, 1, 20), (0, 19, 1, 20)]),
-        (sv39, 18, [(8, 10, 0, 10), (8, 10, 0, 10), (8, 10, 0, 10)]),
-        (
-            sv48,
-            64,
-            [(52, 12, 0, 12), (41, 23, 1, 24), (30, 34, 1, 36)],
-        ),
-        (sv48, 23, [(11, 12, 0, 12), (0, 23, 1, 24), (0, 23, 1, 24)]),
-        (
-            sv48,
-            22,
-            [(10, 12, 0, 12), (10, 12, 0, 12), (10, 12, 0, 12)],
-        ),
-    ];
-    for row in rows {
-        let (scheme, frames, counted) = row;
+    for (scheme, frames, booted, first, second) in [
+        (sv39, 64, (54, 10, 0, 10), (45, 19, 1, 20), (36, 28, 1, 30)),
+        (sv39, 19, (9, 10, 0, 10), (0, 19, 1, 20), (0, 19, 1, 20)),
+        (sv39, 18, (8, 10, 0, 10), (8, 10, 0, 10), (8, 10, 0, 10)),
+        (sv48, 64, (52, 12, 0, 12), (41, 23, 1, 24), (30, 34, 1, 36)),
+        (sv48, 23, (11, 12, 0, 12), (0, 23, 1, 24), (0, 23, 1, 24)),
+        (sv48, 22, (10, 12, 0, 12), (10, 12, 0, 12), (10, 12, 0, 12)),
+    ] {
         let told = accounts_with(rt.alloc(), scheme, frames);
-        assert_eq!(rt; told, Some(counted), "{scheme:?} {frames}");
+        assert_eq!(rt; told, Some([booted, first, second]), "{scheme:?} {frames}");
     }
 }

@@ -1,5 +1,5 @@
-// Tests that `frames_needed` returns how many frames a process with two runs of pages takes (`Row`: scheme, the two runs,
-// the number), and that `Space::build` builds a space with exactly the frames that it needs and refuses with one fewer.
+// Tests that `frames_needed` returns how many frames a process with two runs of pages takes, and that `Space::build` builds
+// a space with exactly the frames that it needs and refuses with one fewer.
 
 ghost use Rattle.std.specs.Prelude.{◌≡◌, ◌+◌, ◌<◌, ◌≤◌, false, IsTrue, true};
 ghost use Rattle.address_space.specs.Layouts.{region_of};
@@ -53,15 +53,13 @@ fn needed(scheme: Scheme, lower: Run, upper: Run) -> Option<usize> {
     Some(frames_needed(scheme, &parts))
 }
 
-/// A scheme, two runs of pages, and what `needed` must return.
-type Row = (Scheme, Run, Run, Option<usize>);
-
 /// Beside its pages a process takes a trapframe, a root table, and the tables between the root and TRAPFRAME: two, or three
 /// under Sv48. A run takes one table for each aligned group of 512 pages that it touches, one for each of 2^18, and under
 /// Sv48 one for each of 2^27. Each table counts once.
-fn rows() -> [Row; 17] {
+#[test]
+fn counts_frames(rt: HostRuntime) {
     let (sv39, sv48) = (Scheme::Sv39, Scheme::Sv48);
-    [
+    for (scheme, lower, upper, count) in [
         (sv39, (0, 1), (1, 1), Some(8)),
         (sv39, (0, 1), (2, 3), Some(10)),
         (sv39, (0, 512), (512, 1), Some(520)),
@@ -79,23 +77,10 @@ fn rows() -> [Row; 17] {
         (sv48, (0, 1), (134_217_728, 1), Some(13)),
         (sv48, (134_217_727, 2), (34_359_737_854, 512), Some(526)),
         (sv48, (0, 1), (34_359_738_366, 1), None),
-    ]
-}
-
-/// The first row for which `needed` returns something else; `None` if there is none.
-fn wrong_row() -> Option<Row> {
-    for row in rows() {
-        let (scheme, lower, upper, count) = row;
-        if needed(scheme, lower, upper) != count {
-            return Some(row);
-        }
+    ] {
+        let told = needed(scheme, lower, upper);
+        assert_eq!(rt; told, count, "{scheme:?} {lower:?} {upper:?}");
     }
-    None
-}
-
-#[test]
-fn counts_frames(rt: HostRuntime) {
-    assert_eq!(rt; wrong_row(), None);
 }
 
 /// Two pages from page 0 on, which begin with 5,000 bytes, and page 4.

@@ -1,7 +1,6 @@
 // Tests that a `Space` (a process in memory) keeps what is written to it and releases all its frames: over both frame stores
-// it is built, written and read, a far page of its heap is settled (brought into memory) or refused, and it is destroyed
-// (`Row`: scheme, frames, page, reads, free frames). And that its mappings can be added, cut and removed, and its layout
-// (the regions) copied.
+// it is built, written and read, a far page of its heap is settled (brought into memory) or refused, and it is destroyed.
+// And that its mappings can be added, cut and removed, and its layout (the regions) copied.
 
 ghost use Rattle.std.specs.Prelude.{[], ◌∷◌, ◌≡◌, ◌%◌, ◌^◌, ◌<◌, ◌≤◌, false, IfErr, IfOk};
 ghost use Rattle.address_space.specs.Agreement.{body_of, IsSpace, HoldsTrampoline, IsAlive};
@@ -33,13 +32,7 @@ const FAR: u64 = 0xfedc_ba98_7654_3210;
 
 /// What was read. Of the first page of the data: `NEAR`, before the far page was to be settled and after, and `AGAIN`. Of
 /// the far page, if it was settled: its first bytes, before and after `FAR` was written.
-#[derive(Clone, Copy, PartialEq, Eq, Debug)]
-struct Reads {
-    before: u64,
-    after: u64,
-    again: u64,
-    far: Option<(u64, u64)>,
-}
+type Reads = (u64, u64, u64, Option<(u64, u64)>);
 
 /// The reads, `None` if the space could not be built; and the number of free frames in the end.
 type Outcome = (Option<Reads>, usize);
@@ -174,21 +167,11 @@ fn try_far<S: FrameSeat, F: FrameSupply<Seat = S>>(
     let after = space.read(store, near, 8);
     let again = kept(space, store, near, AGAIN);
     if !settled {
-        return Reads {
-            before,
-            after,
-            again,
-            far: None,
-        };
+        return (before, after, again, None);
     }
     let fresh = space.read(store, far, 8);
     let written = kept(space, store, far, FAR);
-    Reads {
-        before,
-        after,
-        again,
-        far: Some((fresh, written)),
-    }
+    (before, after, again, Some((fresh, written)))
 }
 
 /// Builds the standard space, makes the reads, releases the far page and destroys the space. Returns the reads and the seat,
@@ -255,48 +238,15 @@ fn over_shared<R: Wait>(
     Ok((reads, frames.close(seat).free))
 }
 
-const SETTLED: Reads = Reads {
-    before: NEAR,
-    after: NEAR,
-    again: AGAIN,
-    far: Some((0, FAR)),
-};
-
-const REFUSED: Reads = Reads {
-    before: NEAR,
-    after: NEAR,
-    again: AGAIN,
-    far: None,
-};
-
-/// The outcomes over plain frames and over shared frames.
-fn over_both<R: Wait>(
-    rt: &R,
-    alloc: Global,
-    scheme: Scheme,
-    frames: usize,
-    page: u64,
-) -> Result<[Outcome; 2], AllocError>
-    requires some { 0 < frames }
-    requires few { frames ≤ 256 }
-    requires in_heap { 5 ≤ page }
-    requires low { page < trapframe_page scheme }
-{
-    let plain = over_plain(alloc, scheme, frames, page)?;
-    let shared = over_shared(rt, alloc, scheme, frames, page)?;
-    Ok([plain, shared])
-}
-
-/// A scheme, the number of frames, the far page, the reads, and the number of free frames in the end.
-type Row = (Scheme, usize, u64, Option<Reads>, usize);
-
 /// Beside frame 0 the space takes eleven frames: five page tables, the trapframe and its five pages. The far pages take one
 /// to three more, missing page tables included. Under Sv48 it has seven page tables, and a page from 2^39 on, past the last
 /// page of Sv39, needs three page tables of its own.
-fn rows() -> [Row; 13] {
-    let (refused, settled) = (Some(REFUSED), Some(SETTLED));
+#[test]
+fn lives_over_both_stores(rt: HostRuntime) {
+    let refused = Some((NEAR, NEAR, AGAIN, None));
+    let settled = Some((NEAR, NEAR, AGAIN, Some((0, FAR))));
     let (sv39, sv48) = (Scheme::Sv39, Scheme::Sv48);
-    [
+    for (scheme, frames, page, reads, free) in [
         (sv39, 11, 0x5, None, 10),
         (sv39, 12, 0x5, refused, 12),
         (sv39, 13, 0x5, settled, 13),
@@ -310,26 +260,17 @@ fn rows() -> [Row; 13] {
         (sv48, 17, 0x4000000, settled, 17),
         (sv48, 17, 0x8000000, refused, 17),
         (sv48, 18, 0x8000000, settled, 18),
-    ]
-}
-
-/// The first row with another outcome over one of the stores; `None` if there is none.
-fn wrong_row<R: Wait>(rt: &R, alloc: Global) -> Result<Option<Row>, AllocError> {
-    for row in rows() {
-        let (scheme, frames, page, reads, free) = row;
+    ] {
         // changes no row; it shows the limits to the proof
         let last = scheme.trapframe().page().number() - 1;
         let (frames, page) = (frames.clamp(1, 256), page.clamp(0x5, last));
-        if over_both(rt, alloc, scheme, frames, page)? != [(reads, free); 2] {
-            return Ok(Some(row));
-        }
+        let over_both = [
+            over_plain(rt.alloc(), scheme, frames, page),
+            over_shared(&rt, rt.alloc(), scheme, frames, page),
+        ];
+        let wanted = Ok((reads, free));
+        assert_eq!(rt; over_both, [wanted; 2], "{scheme:?} {frames} {page:x}");
     }
-    Ok(None)
-}
-
-#[test]
-fn lives_over_both_stores(rt: HostRuntime) {
-    assert_eq!(rt; wrong_row(&rt, rt.alloc()), Ok(None));
 }
 
 /// The first page of the region that has page 100, and of the region that has page 102: the first and the third page of the
@@ -337,10 +278,7 @@ fn lives_over_both_stores(rt: HostRuntime) {
 type Firsts = (Option<u64>, Option<u64>);
 
 fn first_at<S: FrameSeat>(space: &Space<S>, page: u64) -> Option<u64> {
-    match space.layout.region_at(page) {
-        Some(region) => Some(region.first),
-        None => None,
-    }
+    space.layout.region_at(page).map(|region| region.first)
 }
 
 fn firsts<S: FrameSeat>(space: &Space<S>) -> Firsts {

@@ -15,7 +15,7 @@ use Rattle.table_walk.specs.Tables.{Tables}
 use Rattle.address_space.specs.Agreement.{Body, body, IsSpace, IsAlive}
 use Rattle.address_space.specs.Layouts.{Layout}
 use Rattle.cow_fork.specs.Forks.{HasForked}
-use Rattle.fault_rules.specs.Allowed.{can_reside}
+use Rattle.fault_rules.proofs.Allowed.{can_reside}
 use Rattle.fault_rules.specs.MadeResident.{HasMadeResident}
 use Rattle.fault_rules.specs.Serves.{DoesNothing, IsEnd}
 use Rattle.fault_rules.specs.declared.service.Served.{Served}

@@ -2,15 +2,14 @@
 // rule, and that a shrinking heap releases its frames: two stories (test cases), rows of an operation, its answer, and
 // whether it changes nothing.
 
-use crate::images_and_file::STANDARD;
 use crate::operation::Answer::{Copied, Done, Refused, Served, Short};
 use crate::operation::Operation::{CopyIn, CopyOut, Grow, Map, Serve, Unmap};
 use crate::operation::Row;
-use crate::stores::first_wrong_outcome;
-use crate::stories::Story;
+use crate::stores::play;
 use fault_rules::Served::{Ended, Ready};
 use process_model::Refusal::{BadArgument, BadSize, HoleInMapping, NoRoom};
 use std::test::Fail;
+use sv39_entry::Rule::{GuardPage, NoExec, NoFrame, NoRegion, NoWrite};
 use sv39_entry::{Access, Rule};
 use user_copy::Stop::Denied;
 
@@ -31,11 +30,7 @@ const BESIDE: u64 = 1 << 21;
 /// pages and no page table, and grows again.
 fn heap() -> [Row; 18] {
     let served = |address: u64| (Serve(Access::Store, address), Served(Ready), false);
-    let dry = (
-        Serve(Access::Store, BESIDE),
-        Served(Ended(Rule::NoFrame)),
-        true,
-    );
+    let dry = (Serve(Access::Store, BESIDE), Served(Ended(NoFrame)), true);
     [
         (Grow(-1), Refused(BadSize), true),
         (Grow(i64::MIN), Refused(BadSize), true),
@@ -49,7 +44,7 @@ fn heap() -> [Row; 18] {
         dry,
         (Grow(1 - FAR), Done, false),
         (CopyIn(LOW), Copied(0x0403_0201), true),
-        (CopyIn(HIGH), Short(Denied(Rule::NoRegion), 0, 0), true),
+        (CopyIn(HIGH), Short(Denied(NoRegion), 0, 0), true),
         (Grow(FAR - 1), Done, false),
         served(HIGH),
         (CopyIn(HIGH), Copied(0), true),
@@ -72,15 +67,11 @@ fn denied() -> [Row; 12] {
         (Unmap(first + 1, 0x1000), refused, true),
         (Unmap(first, 0x3001), refused, true),
         (Unmap(first + 0x1000, 0x1000), Refused(HoleInMapping), true),
-        ended(Access::Store, 0x0, Rule::NoWrite),
-        ended(Access::Fetch, 0x1000, Rule::NoExec),
-        ended(Access::Load, 0x3000, Rule::GuardPage),
-        (
-            CopyOut(0xffe, [1; 4]),
-            Short(Denied(Rule::NoWrite), 0, 0),
-            true,
-        ),
-        (CopyIn(0x2ffe), Short(Denied(Rule::GuardPage), 2, 0), true),
+        ended(Access::Store, 0x0, NoWrite),
+        ended(Access::Fetch, 0x1000, NoExec),
+        ended(Access::Load, 0x3000, GuardPage),
+        (CopyOut(0xffe, [1; 4]), Short(Denied(NoWrite), 0, 0), true),
+        (CopyIn(0x2ffe), Short(Denied(GuardPage), 2, 0), true),
     ]
 }
 
@@ -88,15 +79,7 @@ fn denied() -> [Row; 12] {
 fn refuses_what_cannot_be(rt: HostRuntime) -> Result<(), Fail> {
     let (heap, denied) = (heap(), denied());
     for (left, rows) in [(7, &heap[..]), (0, &denied[..])] {
-        let story = Story {
-            left: STANDARD + left,
-            sharers: 0,
-            promises: None,
-            rows,
-            free: 0,
-        };
-        let fault = first_wrong_outcome(&rt, rt.alloc(), &story)?;
-        assert_eq!(rt; fault, None, "with {left}");
+        play(&rt, rt.alloc(), left, 0, None, rows, 0)?;
     }
     Ok(())
 }

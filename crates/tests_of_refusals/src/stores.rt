@@ -1,47 +1,51 @@
-// `first_wrong_outcome`: plays a story (test case) over plain frames and over shared frames, and returns the first wrong
-// `Outcome`. `StoreKind`, an enum: which of the two stores.
+// `play`: plays a story (test case) over plain frames and over shared frames, and asserts that it has no wrong row and gives
+// its frames back.
 
-use crate::images_and_file::{SMALL, one_file, standard_segments};
+use crate::images_and_file::{SMALL, STANDARD, one_file, standard_segments};
+use crate::operation::Row;
 use crate::stories::{FRAMES, Story, Told, played_over};
 use frame_store::PlainFrames;
 use process_model::Image;
 use shared_frames::SharedFrames;
 use std::alloc::Global;
+use std::process::Abort;
 use std::sync::Wait;
 use std::test::Fail;
 
-#[derive(Clone, Copy, PartialEq, Eq, Debug)]
-pub(crate) enum StoreKind {
-    Plain,
-    Shared,
-}
-
-/// The store, the result of a story over it, and the number of free frames once its processes are destroyed.
-pub(crate) type Outcome = (StoreKind, Told, usize);
-
-/// Plays a story over both stores. Image 0 is of the standard segments, and image 1 is the small ELF file. Returns the first
-/// outcome with a wrong row, with another number of free frames than the story's, or after which a frame other than frame 0
-/// is not free; `None` if there is none.
+/// Plays rows over both stores. Image 0 is of the standard segments, and image 1 is the small ELF file. Asserts that no row
+/// is wrong, that `free` frames are free after the rows, and that all but frame 0 are free once the processes are destroyed.
+/// `left`: how many frames are free when the process has started. `sharers` and `promises` are as in `Story`.
 ///
 /// # Errors
 /// `Fail`: the process could not be started, or the host is out of memory.
-pub(crate) fn first_wrong_outcome<R: Wait>(
+pub(crate) fn play<R: Abort + Wait>(
     rt: &R,
     alloc: Global,
-    story: &Story,
-) -> Result<Option<Outcome>, Fail> {
+    left: usize,
+    sharers: usize,
+    promises: Option<usize>,
+    rows: &[Row],
+    free: usize,
+) -> Result<(), Fail> {
     let segments = standard_segments(alloc)?;
     let images = [Image::Segments(&segments), Image::Elf(SMALL)];
-    for kind in [StoreKind::Plain, StoreKind::Shared] {
-        let (played, free) = match kind {
-            StoreKind::Plain => over_plain(alloc, &images, story)?,
-            StoreKind::Shared => over_shared(rt, alloc, &images, story)?,
+    let left = STANDARD.saturating_add(left);
+    let story = Story {
+        left,
+        sharers,
+        promises,
+        rows,
+    };
+    for is_shared in [false, true] {
+        let told = if is_shared {
+            over_shared(rt, alloc, &images, &story)?
+        } else {
+            over_plain(alloc, &images, &story)?
         };
-        if played != (None, story.free) || free != FRAMES - 1 {
-            return Ok(Some((kind, played, free)));
-        }
+        let wanted = ((None, free), FRAMES - 1);
+        assert_eq!(rt; told, wanted, "shared: {is_shared}, {left} left: {rows:?}");
     }
-    Ok(None)
+    Ok(())
 }
 
 fn over_plain(alloc: Global, images: &[Image], story: &Story) -> Result<(Told, usize), Fail> {

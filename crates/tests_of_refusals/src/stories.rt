@@ -1,5 +1,5 @@
 // `Story`, a struct: a test case of one process beside a second seat, the keeper: frames left, references of frame 0,
-// promises (reservations of page I/O), rows of operations, free frames after them. `played_over` plays it over any store.
+// promises (reservations of page I/O), rows of operations. `played_over` plays it over any store.
 
 ghost use Rattle.std.specs.Prelude.{IfOk};
 ghost use Rattle.frame_store.specs.Laws.{IsSeatOf, KeepsSeats};
@@ -19,7 +19,7 @@ use sv39_entry::Scheme;
 /// The number of frames of a story's store. The keeper reserves all but frame 0 and those that are left to the process.
 pub(crate) const FRAMES: usize = 64;
 
-/// What a process of the first image does, and how many frames are free after it.
+/// What a process of the first image does.
 #[derive(Clone, Copy)]
 pub(crate) struct Story<'a> {
     /// The number of frames left to the process.
@@ -29,11 +29,9 @@ pub(crate) struct Story<'a> {
     /// How many promises the file makes before it refuses one; `None`: it refuses none.
     pub promises: Option<usize>,
     pub rows: &'a [Row],
-    /// The number of free frames after the rows, before the process is destroyed.
-    pub free: usize,
 }
 
-/// The first wrong row, and the number of free frames after the rows.
+/// The first wrong row, and the number of free frames after the rows, before the process is destroyed.
 pub(crate) type Told = (Wrong, usize);
 
 /// Plays a story over a store whose only seat is the keeper. Returns its result, and the one seat in the end.

@@ -61,9 +61,8 @@ fn tells_each_failed_read(rt: HostRuntime) -> Result<(), Fail> {
     let whole = script.as_bytes();
     for count in 0..=whole.len() {
         let mut text = Vec::new(rt.alloc());
-        let mut reader = Reader::new(FailingReader {
-            bytes: &whole[..count],
-        });
+        let bytes = &whole[..count];
+        let mut reader = Reader::new(FailingReader { bytes });
         let mut writer = Writer::new(&mut text);
         let result = play(rt.alloc(), &mut reader, &mut writer);
         assert_eq!(rt; result, Err(PlayError::Io), "after {count} bytes");
@@ -86,11 +85,8 @@ fn tells_each_failed_write(rt: HostRuntime) -> Result<(), Fail> {
                 tells,
             });
             let result = play(rt.alloc(), &mut reader, &mut writer);
-            let want = if room < whole.len() {
-                Err(PlayError::Io)
-            } else {
-                Ok(())
-            };
+            let fits = room == whole.len();
+            let want = if fits { Ok(()) } else { Err(PlayError::Io) };
             assert_eq!(rt; result, want, "with room for {room}");
             assert_eq!(rt; writer.into_inner().written.as_slice(), &whole[..room]);
         }

@@ -2,6 +2,7 @@
 // length; takes an image of 17 pages; and writes a long text in few calls. `CountingWriter`, a struct: counts calls and
 // bytes.
 
+use crate::script_pieces::played;
 use audit_player::{PlayError, Reader, Writer, play};
 use script_language::Cause;
 use std::alloc::{AllocError, Global};
@@ -51,10 +52,8 @@ fn takes_a_hundred_thousand_lines(rt: HostRuntime) -> Result<(), Fail> {
     let mut script = String::from_str(rt.alloc(), "boot 1 16 1 full\n")?;
     push_times(&mut script, "on 0 0\n\n#\n", 100_000)?;
     let reply = "refused 19 Impossible idle\n".len();
-    assert_eq!(rt;
-        counted(rt.alloc(), script.as_bytes()),
-        (Ok(()), (42, 3 + 100_000 * reply))
-    );
+    let told = counted(rt.alloc(), script.as_bytes());
+    assert_eq!(rt; told, (Ok(()), (42, 3 + 100_000 * reply)));
     script.push_str("on 0 0")?;
     let refused = Err(PlayError::Script(300_002, Cause::TooMany));
     assert_eq!(rt; counted(rt.alloc(), script.as_bytes()), (refused, (0, 0)));
@@ -79,11 +78,8 @@ fn refuses_what_is_too_long(rt: HostRuntime) -> Result<(), Fail> {
     for (count, line, cause) in rows {
         let script = blanks(rt.alloc(), count)?;
         let refused = Err(PlayError::Script(line, cause));
-        assert_eq!(rt;
-            counted(rt.alloc(), script.as_slice()),
-            (refused, (0, 0)),
-            "at {count}"
-        );
+        let told = counted(rt.alloc(), script.as_slice());
+        assert_eq!(rt; told, (refused, (0, 0)), "at {count}");
     }
     Ok(())
 }
@@ -94,13 +90,9 @@ fn takes_a_long_image(rt: HostRuntime) -> Result<(), Fail> {
     let mut script = String::from_str(rt.alloc(), "image 0x1000:0x11000:r:a5")?;
     push_times(&mut script, "00", 0x11000 - 2)?;
     script.push_str("5a\nboot 1 64 1 full\nstart 0\non 0 0\nload 0 0x1000 1\nload 0 0x11ffe 2\n")?;
-    let mut text = Vec::new(rt.alloc());
-    let mut reader = Reader::new(script.as_bytes());
-    let mut writer = Writer::new(&mut text);
-    assert_eq!(rt; play(rt.alloc(), &mut reader, &mut writer), Ok(()));
-    assert_eq!(rt;
-        text.as_slice(),
-        b"ok\nslot 0\nok\nvalue 0xa5\nvalue 0x5a00\n".as_slice()
-    );
+    let (result, text) = played(rt.alloc(), script.as_bytes());
+    let want = "ok\nslot 0\nok\nvalue 0xa5\nvalue 0x5a00\n";
+    assert_eq!(rt; result, Ok(()));
+    assert_eq!(rt; text.as_slice(), want.as_bytes());
     Ok(())
 }

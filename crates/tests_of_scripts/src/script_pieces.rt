@@ -7,7 +7,7 @@ use std::alloc::Global;
 use std::test::Fail;
 
 /// Plays a script. Returns the result, and the text that was written.
-fn played(alloc: Global, script: &[u8]) -> (Result<(), PlayError>, Vec<u8>) {
+pub(crate) fn played(alloc: Global, script: &[u8]) -> (Result<(), PlayError>, Vec<u8>) {
     let mut text = Vec::new(alloc);
     let mut reader = Reader::new(script);
     let mut writer = Writer::new(&mut text);

@@ -21,9 +21,8 @@ fn threads_tell_each_failed_read(rt: HostRuntime) -> Result<(), Fail> {
     let whole = FAMILY.as_bytes();
     for count in 0..=whole.len() {
         let mut text = Vec::new(rt.alloc());
-        let mut reader = Reader::new(FailingReader {
-            bytes: &whole[..count],
-        });
+        let bytes = &whole[..count];
+        let mut reader = Reader::new(FailingReader { bytes });
         let mut writer = Writer::new(&mut text);
         let result = play_threads(&rt, rt.alloc(), &mut reader, &mut writer, 2);
         assert_eq!(rt; result, Err(PlayError::Io), "after {count} bytes");
@@ -45,11 +44,8 @@ fn threads_tell_each_failed_write(rt: HostRuntime) -> Result<(), Fail> {
                 tells,
             });
             let result = play_threads(&rt, rt.alloc(), &mut reader, &mut writer, 2);
-            let want = if room < whole.len() {
-                Err(PlayError::Io)
-            } else {
-                Ok(())
-            };
+            let fits = room == whole.len();
+            let want = if fits { Ok(()) } else { Err(PlayError::Io) };
             assert_eq!(rt; result, want, "with room for {room}");
             assert_eq!(rt; writer.into_inner().written.as_slice(), &whole[..room]);
         }
@@ -91,16 +87,14 @@ fn file_of_calls(alloc: Global, lines: usize, each: usize) -> Result<String, All
 /// 9,999 there is.
 #[test]
 fn a_full_journal_ends_its_process(rt: HostRuntime) -> Result<(), Fail> {
-    let file = file_of_calls(rt.alloc(), 10_000, 10_000)?;
-    let (result, text) = played(&rt, rt.alloc(), file.as_str());
-    let want = "process 0 calls 10000 ended 22 JournalFull\nfree 54 of 54\n";
-    assert_eq!(rt; result, Ok(()));
-    assert_eq!(rt; text.as_slice(), want.as_bytes());
-    let file = file_of_calls(rt.alloc(), 9_999, 10_000)?;
-    let (result, text) = played(&rt, rt.alloc(), file.as_str());
-    let want = "process 0 calls 10000 exit 0\nfree 54 of 54\n";
-    assert_eq!(rt; result, Ok(()));
-    assert_eq!(rt; text.as_slice(), want.as_bytes());
+    let (full, exits) = ("ended 22 JournalFull", "exit 0");
+    for (calls, end) in [(10_000, full), (9_999, exits)] {
+        let file = file_of_calls(rt.alloc(), calls, 10_000)?;
+        let (result, text) = played(&rt, rt.alloc(), file.as_str());
+        let want = format!(in rt.alloc(); "process 0 calls 10000 {end}\nfree 54 of 54\n")?;
+        assert_eq!(rt; result, Ok(()));
+        assert_eq!(rt; text.as_slice(), want.as_bytes());
+    }
     Ok(())
 }
 
@@ -110,11 +104,8 @@ fn lists_and_files_may_be_too_long(rt: HostRuntime) -> Result<(), Fail> {
     for (lines, each, at) in [(10_001, 20_000, 10_004), (99_991, 10_000, 100_003)] {
         let file = file_of_calls(rt.alloc(), lines, each)?;
         let (result, text) = played(&rt, rt.alloc(), file.as_str());
-        assert_eq!(rt;
-            result,
-            Err(PlayError::Script(at, Cause::TooMany)),
-            "of {lines} lines"
-        );
+        let want = Err(PlayError::Script(at, Cause::TooMany));
+        assert_eq!(rt; result, want, "of {lines} lines");
         assert!(rt; text.is_empty());
     }
     Ok(())

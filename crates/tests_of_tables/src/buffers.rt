@@ -69,14 +69,13 @@ fn fences_leaves_of_level_3(rt: HostRuntime) -> Result<(), Fail> {
     assert_eq!(rt; satp.mode(), 9);
     let mut buffer: Buffer<32> = Buffer::new();
     buffer.fill(&mut memory, Scheme::Sv48, satp, Va(0x80234000));
-    assert_eq!(rt;
-        buffer.use_entry(0, Va(0x80234567), 7, Access::Load, Mode::User),
-        Ok(Walk::Leaf {
-            word: NOWHERE,
-            level: 3,
-            address: 0x80234567
-        })
-    );
+    let mapped = Walk::Leaf {
+        word: NOWHERE,
+        level: 3,
+        address: 0x80234567,
+    };
+    let told = buffer.use_entry(0, Va(0x80234567), 7, Access::Load, Mode::User);
+    assert_eq!(rt; told, Ok(mapped));
     buffer.fence(Some(Va(0x8000000000)), None);
     assert_eq!(rt; buffer.len(), 1);
     buffer.fence(Some(Va(0x7000000000)), None);
@@ -122,12 +121,8 @@ fn keeps_nothing_of_access_faults(rt: HostRuntime) -> Result<(), Fail> {
     let mut buffer: Buffer<32> = Buffer::new();
     for (frames, word) in [(3, DATA), (FRAMES, NOWHERE), (FRAMES, 0x00000001)] {
         let words = tables(rt.alloc(), frames, word)?;
-        buffer.fill(
-            &mut PlainWords::new(&words),
-            Scheme::Sv39,
-            satp(),
-            Va(0x200000),
-        );
+        let mut memory = PlainWords::new(&words);
+        buffer.fill(&mut memory, Scheme::Sv39, satp(), Va(0x200000));
         assert_eq!(rt; buffer.len(), 0, "at {frames} {word:x}");
     }
     Ok(())
@@ -159,16 +154,11 @@ fn answers_by_entries(rt: HostRuntime) -> Result<(), Fail> {
         (3, 0x234567, 7, load, user, Err(NoEntry)),
     ];
     for (n, address, asid, access, mode, outcome) in rows {
-        assert_eq!(rt;
-            buffer.use_entry(n, Va(address), asid, access, mode),
-            outcome,
-            "at {n} {address:x} {asid} {access:?} {mode:?}"
-        );
+        let told = buffer.use_entry(n, Va(address), asid, access, mode);
+        assert_eq!(rt; told, outcome, "{n} {address:x} {asid} {access:?} {mode:?}");
     }
-    assert_eq!(rt;
-        buffer.matching(Va(0x234000), 7).as_slice(),
-        [0, 2].as_slice()
-    );
+    let matching = buffer.matching(Va(0x234000), 7);
+    assert_eq!(rt; matching.as_slice(), [0, 2].as_slice());
     assert_eq!(rt; buffer.evict(0), Ok(()));
     assert_eq!(rt; buffer.evict(2), Err(NoEntry));
     assert_eq!(rt; buffer.matching(Va(0x234000), 7).as_slice(), [1].as_slice());
@@ -183,10 +173,8 @@ fn shows_what_entries_keep(rt: HostRuntime) -> Result<(), Fail> {
     buffer.fill(&mut memory, Scheme::Sv39, satp(), Va(0x234567));
     let entry = buffer.entry(0).ok_or("an entry")?;
     let leaf = entry.leaf.ok_or("a leaf")?;
-    assert_eq!(rt;
-        (entry.page.number(), entry.asid, entry.global),
-        (0x234, 7, true)
-    );
+    let told = (entry.page.number(), entry.asid, entry.global);
+    assert_eq!(rt; told, (0x234, 7, true));
     assert_eq!(rt; (leaf.word(), leaf.level()), (GLOBAL, 1));
     assert_eq!(rt; buffer.matching(Va(0x234000), 8).as_slice(), [0].as_slice());
     Ok(())

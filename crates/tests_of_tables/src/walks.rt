@@ -129,18 +129,9 @@ fn walks_from_the_root(rt: HostRuntime) -> Result<(), Fail> {
     let mut memory = PlainWords::new(&words);
     let root = FrameNo(1).ppn();
     for (address, outcome) in rows {
-        assert_eq!(rt;
-            translate(
-                &mut memory,
-                Scheme::Sv48,
-                root,
-                Va(address),
-                Access::Load,
-                Mode::User
-            ),
-            outcome,
-            "at {address:x}"
-        );
+        let (access, mode) = (Access::Load, Mode::User);
+        let told = translate(&mut memory, Scheme::Sv48, root, Va(address), access, mode);
+        assert_eq!(rt; told, outcome, "at {address:x}");
     }
     Ok(())
 }
@@ -157,14 +148,10 @@ fn finds_leaves(rt: HostRuntime) -> Result<(), Fail> {
     for (scheme, root) in ROOTS {
         let root = root.ppn();
         assert_eq!(rt; lookup(&mut memory, scheme, root, Va(0x3fffff)), leaf);
-        assert_eq!(rt;
-            lookup(&mut memory, scheme, root, Va(0x400000)),
-            Found::NoLeaf
-        );
-        assert_eq!(rt;
-            lookup(&mut memory, scheme, FrameNo(4).ppn(), Va(0)),
-            Found::Outside
-        );
+        let beside = lookup(&mut memory, scheme, root, Va(0x400000));
+        assert_eq!(rt; beside, Found::NoLeaf);
+        let outside = lookup(&mut memory, scheme, FrameNo(4).ppn(), Va(0));
+        assert_eq!(rt; outside, Found::Outside);
     }
     Ok(())
 }

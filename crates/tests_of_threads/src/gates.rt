@@ -14,11 +14,7 @@ use std::test::Fail;
 fn number_of(name: &[u64], call: Call<'_>) -> u64 {
     let (kind, first, second): (u64, u64, u64) = match call {
         Call::Load { address, width } => (1, address, width),
-        Call::Store {
-            address,
-            width: _,
-            value,
-        } => (2, address, value),
+        Call::Store { address, value, .. } => (2, address, value),
         Call::Fork { list } => (3, list as u64, 0),
         Call::Mmap { length, file, .. } => (4, length, file as u64),
         Call::Munmap { address, length } => (5, address, length),
@@ -30,10 +26,8 @@ fn number_of(name: &[u64], call: Call<'_>) -> u64 {
         number = number.wrapping_mul(1_000_003).wrapping_add(part);
     }
     for part in name {
-        number = number
-            .wrapping_mul(1_000_003)
-            .wrapping_add(*part)
-            .wrapping_add(1);
+        number = number.wrapping_mul(1_000_003).wrapping_add(*part);
+        number = number.wrapping_add(1);
     }
     number.max(1)
 }
@@ -185,15 +179,7 @@ fn no_lock_is_held_at_a_gate(rt: HostRuntime) -> Result<(), Fail> {
         ended: AtomicU64::new(0),
         gave_up: AtomicU64::new(0),
     };
-    let (ended, _) = run_pool(
-        &rt,
-        rt.alloc(),
-        &script,
-        lists.as_slice(),
-        starts.as_slice(),
-        2,
-        &gate,
-    )?;
+    let (ended, _) = run_pool(&rt, rt.alloc(), &script, &lists, &starts, 2, &gate)?;
     assert_eq!(rt; ended.len(), 8);
     assert_eq!(rt; gate.ended.load(Ordering::SeqCst), 4);
     assert_eq!(rt; gate.gave_up.load(Ordering::SeqCst), 0);

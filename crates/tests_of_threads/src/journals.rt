@@ -43,15 +43,7 @@ fn has_reply<R: Threads + Wait + Sync>(
     };
     let lists = lend_lists(alloc, &script)?;
     let starts = lend_starts(alloc, &script)?;
-    let (ended, _) = run_pool(
-        rt,
-        alloc,
-        &script,
-        lists.as_slice(),
-        starts.as_slice(),
-        harts,
-        &OpenGate,
-    )?;
+    let (ended, _) = run_pool(rt, alloc, &script, &lists, &starts, harts, &OpenGate)?;
     for finished in &ended {
         if finished.name.as_slice() == name {
             return Ok(

@@ -1,51 +1,79 @@
-// Tests how many calls of a process a hart makes before it takes the next one: on one hart, a hook (`Order`, a struct) sees
-// eight of the one process, eight of the other, and so on.
+// Tests how many calls of a process a hart makes before it takes the next one, and which one it takes: on one hart, a hook
+// (`Turns`, a struct) sees eight calls of each process in turn, so that none waits until another ends.
 
 use audit_player::{Reader, Writer, play_threads_with};
 use hart_threads::Gate;
 use process_model::Call;
+use std::alloc::{AllocError, Global};
 use std::sync::atomic::{AtomicU64, Ordering};
 use std::test::Fail;
 
-/// A hook that keeps the order of calls as a number with a bit for each: 1 for a call of process 1, else 0. The last call is
-/// in bit 0.
+/// A hook that keeps the turns as a number with two hexadecimal digits for each, the last turn lowest: one more than the number
+/// of the process, and how many calls it made.
 #[derive(Drop)]
-struct Order {
-    calls: AtomicU64,
+struct Turns {
+    turns: AtomicU64,
 }
 
-impl Gate for Order {
+impl Gate for Turns {
     fn enter(&self, _hart: usize, name: &[u64], _call: Call<'_>) {
-        let bit = match name {
-            [1] => 1,
+        let process = match name {
+            [number] => number.wrapping_add(1),
             _ => 0,
         };
-        let calls = self.calls.load(Ordering::SeqCst);
-        self.calls
-            .store(calls.wrapping_mul(2).wrapping_add(bit), Ordering::SeqCst);
+        let turns = self.turns.load(Ordering::SeqCst);
+        let turns = if turns / 16 % 16 == process {
+            turns.wrapping_add(1)
+        } else {
+            let front = turns.wrapping_mul(256);
+            front.wrapping_add(process.wrapping_mul(16).wrapping_add(1))
+        };
+        self.turns.store(turns, Ordering::SeqCst);
     }
 
     fn leave(&self, _hart: usize, _name: &[u64], _call: Call<'_>) {}
 }
 
-/// A file for threads of two processes, each with 23 loads and the exit at the end of its list: three turns of eight calls.
-const PAIR: &str =
-    "image 0x1000:0x1000:rw:-\npool 64 4\nlist 0\nload 0x1000 1\nload 0x1000 1\nload 0x1000 1\nload 0x1000 1\nload 0x1000 1\nload 0x1000 1\nload 0x1000 1\nload 0x1000 1\nload 0x1000 1\nload 0x1000 1\nload 0x1000 1\nload 0x1000 1\nload 0x1000 1\nload 0x1000 1\nload 0x1000 1\nload 0x1000 1\nload 0x1000 1\nload 0x1000 1\nload 0x1000 1\nload 0x1000 1\nload 0x1000 1\nload 0x1000 1\nload 0x1000 1\nstart 0 0\nstart 0 0\n";
+/// A file for threads of so many processes, each with so many loads and the exit at the end of its list.
+fn file(alloc: Global, processes: usize, loads: usize) -> Result<String, AllocError> {
+    let mut text = String::from_str(alloc, "image 0x1000:0x1000:rw:-\npool 64 4\nlist 0\n")?;
+    for _ in 0..loads {
+        text.push_str("load 0x1000 1\n")?;
+    }
+    for _ in 0..processes {
+        text.push_str("start 0 0\n")?;
+    }
+    Ok(text)
+}
 
 #[test]
-fn a_turn_is_eight_calls(rt: HostRuntime) -> Result<(), Fail> {
-    let gate = Order {
-        calls: AtomicU64::new(0),
-    };
-    let mut text = Vec::new(rt.alloc());
-    let mut reader = Reader::new(PAIR.as_bytes());
-    let mut writer = Writer::new(&mut text);
-    let result = play_threads_with(&rt, rt.alloc(), &mut reader, &mut writer, 1, &gate);
-    assert_eq!(rt; result, Ok(()));
-    assert_eq!(rt;
-        text.as_slice(),
-        b"process 0 calls 24 exit 0\nprocess 1 calls 24 exit 0\nfree 54 of 54\n".as_slice()
-    );
-    assert_eq!(rt; gate.calls.load(Ordering::SeqCst), 0x00ff_00ff_00ff);
+fn a_turn_is_eight_calls_of_each(rt: HostRuntime) -> Result<(), Fail> {
+    let rows = [
+        (
+            2,
+            23,
+            "process 0 calls 24 exit 0\nprocess 1 calls 24 exit 0\nfree 54 of 54\n",
+            0x1828_1828_1828,
+        ),
+        (
+            3,
+            15,
+            "process 0 calls 16 exit 0\nprocess 1 calls 16 exit 0\nprocess 2 calls 16 exit 0\nfree 54 of 54\n",
+            0x1828_3818_2838,
+        ),
+    ];
+    for (processes, loads, wanted, turns) in rows {
+        let gate = Turns {
+            turns: AtomicU64::new(0),
+        };
+        let file = file(rt.alloc(), processes, loads)?;
+        let mut text = Vec::new(rt.alloc());
+        let mut reader = Reader::new(file.as_bytes());
+        let mut writer = Writer::new(&mut text);
+        let result = play_threads_with(&rt, rt.alloc(), &mut reader, &mut writer, 1, &gate);
+        assert_eq!(rt; result, Ok(()));
+        assert_eq!(rt; text.as_slice(), wanted.as_bytes());
+        assert_eq!(rt; gate.turns.load(Ordering::SeqCst), turns);
+    }
     Ok(())
 }

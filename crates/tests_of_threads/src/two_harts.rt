@@ -56,10 +56,8 @@ fn two_harts_are_two_threads(rt: HostRuntime) -> Result<(), Fail> {
     let mut writer = Writer::new(&mut text);
     let result = play_threads_with(&rt, rt.alloc(), &mut reader, &mut writer, 2, &gate);
     assert_eq!(rt; result, Ok(()));
-    assert_eq!(rt;
-        text.as_slice(),
-        b"process 0 calls 3 exit 0\nprocess 1 calls 3 exit 0\nfree 54 of 54\n".as_slice()
-    );
+    let want = "process 0 calls 3 exit 0\nprocess 1 calls 3 exit 0\nfree 54 of 54\n";
+    assert_eq!(rt; text.as_slice(), want.as_bytes());
     assert_eq!(rt; gate.others_left.load(Ordering::SeqCst), 1);
     assert_eq!(rt; gate.gave_up.load(Ordering::SeqCst), 0);
     Ok(())

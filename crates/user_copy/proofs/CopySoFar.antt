@@ -9,7 +9,7 @@ use Rattle.std.proofs.lemmas.Bool.{and_parts, cases_eq, cases_lt, not-true, not-
 use Rattle.std.proofs.lemmas.List.{length-append}
 use Rattle.address_space.specs.Agreement.{IsFrameOfPage, IsSpace, same_body}
 use Rattle.address_space.specs.Steps.{CanWrite}
-use Rattle.fault_rules.specs.Allowed.{can_reside, denied_otherwise}
+use Rattle.fault_rules.proofs.Allowed.{can_reside, denied_otherwise}
 use Rattle.fault_rules.specs.MadeResident.{CanMakeResident, is_shared_by, moves_for, moves_from, resident_reads}
 use Rattle.fault_rules.specs.PageService.{body_at, Moment, StoreModel}
 use Rattle.fault_rules.specs.Serves.{is_ready, IsEnd, served_moves}
@@ -25,7 +25,7 @@ use Rattle.process_model.specs.PageMap.{get}
 use Rattle.process_model.specs.PageMoves.{files_after, PageMove}
 use Rattle.process_model.specs.Process.{Page, Process, regions}
 use Rattle.process_model.specs.Regions.{copy_rule, file, image, keeps_stores, Region, region_at, Source, zeros}
-use Rattle.process_model.specs.ResidenceLaws.{made_settles, no_alignment, same_rule, SettlesPage, stays_resident}
+use Rattle.process_model.proofs.ResidenceLaws.{made_settles, no_alignment, same_rule, SettlesPage, stays_resident}
 use Rattle.process_model.specs.Residence.{can_complete, is_resident, is_resident_page, made_resident, made_resident_from, parts_from, region_on, stored, taken_over_unless, with_page}
 use Rattle.process_model.specs.declared.reply.Refusal.{Refusal}
 use Rattle.sv39_entry.specs.Address.{page_of}

@@ -5,14 +5,14 @@ use Rattle.std.proofs.lemmas.Bool.{cases_eq}
 use Rattle.std.proofs.lemmas.Grind.{common_steps}
 use Rattle.std.proofs.lemmas.List.{drop_at, drop_more, length-take-le, map-append, take_at}
 use Rattle.process_model.specs.Bytes.{numbers_from, write_bytes}
-use Rattle.process_model.specs.CopyRuns.{length-write_bytes}
-use Rattle.process_model.specs.CopySplits.{numbers_split}
+use Rattle.process_model.proofs.CopyRuns.{length-write_bytes}
+use Rattle.process_model.proofs.CopySplits.{numbers_split}
 use Rattle.process_model.specs.Files.{File}
 use Rattle.process_model.specs.Insertion.{inserted_here, inserted_other}
 use Rattle.process_model.specs.PageMap.{get}
 use Rattle.process_model.specs.Process.{Page, Process, regions}
 use Rattle.process_model.specs.Regions.{region_at}
-use Rattle.process_model.specs.ResidenceLaws.{made_settles}
+use Rattle.process_model.proofs.ResidenceLaws.{made_settles}
 use Rattle.process_model.specs.Residence.{can_complete, initial_page, leaves_mark, made_resident, made_resident_from, region_on, region_page, stored, taken_over, taken_over_unless, with_page}
 use Rattle.sv39_entry.specs.Address.{page_of}
 use Rattle.sv39_entry.specs.declared.access.Access.{Access}

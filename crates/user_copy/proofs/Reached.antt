@@ -5,15 +5,15 @@ use Rattle.std.proofs.Common.{◌≡◌, ℕ, Bool, false, true, not, ◌||◌, 
 use Rattle.std.proofs.lemmas.Bool.{and_parts, leb-false}
 use Rattle.address_space.specs.Agreement.{IsSpace, same_body}
 use Rattle.address_space.specs.Steps.{CanRead, CanWrite}
-use Rattle.fault_rules.specs.Allowed.{can_reside}
+use Rattle.fault_rules.proofs.Allowed.{can_reside}
 use Rattle.fault_rules.specs.MadeResident.{CanMakeResident}
 use Rattle.fault_rules.specs.PageService.{body_at, Moment, StoreModel}
 use Rattle.fault_rules.specs.Serves.{IsEnd}
 use Rattle.fault_rules.specs.declared.service.Served.TheVariants as served
-use Rattle.process_model.specs.GrantLaws.{none_true}
+use Rattle.process_model.proofs.GrantLaws.{none_true}
 use Rattle.process_model.specs.PageMap.{get}
 use Rattle.process_model.specs.Process.{Page, Process, regions}
-use Rattle.process_model.specs.ResidenceLaws.{made_settles, no_alignment}
+use Rattle.process_model.proofs.ResidenceLaws.{made_settles, no_alignment}
 use Rattle.process_model.specs.Regions.{copy_rule, copy_tests, keeps_stores, Region, region_at}
 use Rattle.process_model.specs.Residence.{is_resident, is_resident_page, made_resident, region_on}
 use Rattle.sv39_entry.specs.Address.{page_of}

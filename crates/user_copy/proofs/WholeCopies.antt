@@ -14,8 +14,8 @@ use Rattle.fault_rules.specs.PageService.{body_at, Moment, StoreModel}
 use Rattle.frame_store.specs.Laws.{KeepsSeats}
 use Rattle.process_model.specs.Bytes.{numbers_from}
 use Rattle.process_model.specs.Copies.{Copied, copied_in, copied_out, copy_begun, next_in, reached_in}
-use Rattle.process_model.specs.CopyRuns.{more_in, more_out, run_in, run_in_stops, run_out, run_out_stops, so_far}
-use Rattle.process_model.specs.CopySplits.{copied_in_split, copied_out_split, numbers_split}
+use Rattle.process_model.proofs.CopyRuns.{more_in, more_out, run_in, run_in_stops, run_out, run_out_stops, so_far}
+use Rattle.process_model.proofs.CopySplits.{copied_in_split, copied_out_split, numbers_split}
 use Rattle.process_model.specs.Environment.{Environment, Progress}
 use Rattle.process_model.specs.Files.{File}
 use Rattle.process_model.specs.Frames.{resident_need}

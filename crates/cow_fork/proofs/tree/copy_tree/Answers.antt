@@ -2,10 +2,10 @@ use Rattle.std.proofs.Common.{◌≡◌, ◌+◌, ◌||◌, Some, [], ◌∷◌,
 use Rattle.std.specs.Prelude.{is_some, IsSome}
 use Rattle.frame_store.specs.Laws.{fits_after}
 use Rattle.process_model.specs.PageMap as pages
-use Rattle.process_model.specs.OrderLaws.{leafy_at}
+use Rattle.process_model.proofs.OrderLaws.{leafy_at}
 use Rattle.process_model.specs.Process.{Process, regions}
 use Rattle.process_model.specs.Regions.{region_at}
-use Rattle.process_model.specs.ValueSets.{none_in}
+use Rattle.process_model.proofs.ValueSets.{none_in}
 use Rattle.table_walk.specs.Tables.{leaf_node, Tables, with_leaf}
 use Rattle.table_walk.specs.LastTables.{last_of_scheme}
 use Rattle.table_walk.specs.LowPages.{tables_of_scheme}

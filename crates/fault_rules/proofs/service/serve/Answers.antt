@@ -1,6 +1,6 @@
 use Rattle.std.proofs.Common.{◌≡◌, ap, arith, refl, sym, subst, ◌∙◌, Err, Result, Some}
 use Rattle.address_space.specs.Agreement.{body_of, IsSpace}
-use Rattle.fault_rules.specs.Allowed.{can_reside, denied_otherwise}
+use Rattle.fault_rules.proofs.Allowed.{can_reside, denied_otherwise}
 use Rattle.fault_rules.specs.MadeResident.{CanMakeResident}
 use Rattle.fault_rules.specs.PageService.{served_as}
 use Rattle.fault_rules.specs.Serves.{IsEnd, served_moves}

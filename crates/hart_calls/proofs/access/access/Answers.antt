@@ -1,7 +1,7 @@
 use Rattle.std.proofs.Common.{◌≡◌, true, ap, sym, ◌∙◌, subst, refl, inl, inr}
 use Rattle.address_space.specs.Accesses.{request_of, gives_leaf}
 use Rattle.address_space.specs.Agreement.{body_of}
-use Rattle.fault_rules.specs.Allowed.{can_reside}
+use Rattle.fault_rules.proofs.Allowed.{can_reside}
 use Rattle.fault_rules.specs.MadeResident.{is_shared_by}
 use Rattle.fault_rules.specs.declared.service.Served.TheVariants as served
 use Rattle.address_space.specs.Steps.{RunsDry}

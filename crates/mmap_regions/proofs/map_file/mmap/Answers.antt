@@ -7,7 +7,7 @@ use Rattle.address_space.specs.Layouts.{LaysOut}
 use Rattle.address_space.specs.Steps.{CanReplaceLayout, mapped_with}
 use Rattle.sv39_entry.specs.Schemes.{of_scheme}
 use Rattle.table_walk.specs.Tables.{Tables}
-use Rattle.process_model.specs.ReleaseLaws.{pages_for_is}
+use Rattle.process_model.proofs.ReleaseLaws.{pages_for_is}
 use Rattle.mmap_regions.specs.MmapEffect.{address_of_mapped}
 use Rattle.mmap_regions.proofs.Mappings.{as_many, bad_argument, full, granted, no_room, not_writable, place_below, relays, with_mapping}
 use Rattle.mmap_regions.proofs.map_file.mmap.Given.{Over}

@@ -1,7 +1,7 @@
 use Rattle.std.proofs.Common.{rules, ◌≡◌, ◌+◌, ◌<◌, ◌≤◌, ◌-◌, ap, subst, sym, ◌∙◌, length, arith}
 use Rattle.std.proofs.lemmas.List.{length-map}
 use Rattle.address_space.specs.Layouts.{region_of}
-use Rattle.process_model.specs.ReleaseLaws.{pages_for_is}
+use Rattle.process_model.proofs.ReleaseLaws.{pages_for_is}
 use Rattle.process_model.specs.Bytes.{pages_for}
 use Rattle.sv39_entry.specs.Schemes.{of_scheme, trapframe_page}
 use Rattle.mmap_regions.proofs.Places.{blank, Searched, mapping_at, lowest_found, none_found, search_begins, search_finds, search_goes_on}

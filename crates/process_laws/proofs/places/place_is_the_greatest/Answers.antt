@@ -1,4 +1,4 @@
-use Rattle.process_model.specs.Places.{place_fits, none_above}
+use Rattle.process_model.proofs.Places.{place_fits, none_above}
 use Rattle.process_laws.proofs.places.place_is_the_greatest.Goals as goal
 
 pub returns : goal.returns

@@ -1,5 +1,5 @@
 use Rattle.process_model.specs.Process.{regions}
-use Rattle.process_model.specs.ResidenceLaws.{no_alignment}
+use Rattle.process_model.proofs.ResidenceLaws.{no_alignment}
 use Rattle.user_copy.proofs.copying.reach.Goals as goal
 
 pub returns : goal.returns

@@ -1,7 +1,7 @@
 use Rattle.std.proofs.Common.{◌≡◌, [], ap, map, sym, ◌∙◌, subst, ◌<◌, ◌≤◌, arith}
 use Rattle.address_space.specs.Layouts.{Layout, region_of}
 use Rattle.process_model.specs.Bytes.{pages_for}
-use Rattle.process_model.specs.ReleaseLaws.{pages_for_is}
+use Rattle.process_model.proofs.ReleaseLaws.{pages_for_is}
 use Rattle.address_space.proofs.RegionEnds.{below_heap, below_mappings, heap_low, no_regions}
 use Rattle.address_space.proofs.layout.Layout.end.Goals as goal
 use Rattle.sv39_entry.specs.Schemes.{trapframe_page}

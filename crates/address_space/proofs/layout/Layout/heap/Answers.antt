@@ -1,6 +1,6 @@
 use Rattle.std.proofs.Common.{◌≡◌, refl, sym, ap, ◌∙◌}
 use Rattle.address_space.specs.Layouts.{Layout}
-use Rattle.process_model.specs.ReleaseLaws.{pages_for_is}
+use Rattle.process_model.proofs.ReleaseLaws.{pages_for_is}
 use Rattle.address_space.proofs.layout.Layout.heap.Goals as goal
 
 pub returns : goal.returns

@@ -2,7 +2,7 @@ use Rattle.std.proofs.Common.{◌≡◌, ℕ, Some, ◌&&◌, false, true, refl,
 use Rattle.std.specs.Prelude.{is_ok, option_map}
 use Rattle.std.proofs.lemmas.Result.{err_from_is_err_and}
 use Rattle.frame_store.specs.Laws.{fits_after}
-use Rattle.process_model.specs.OrderLaws.{leafy_at}
+use Rattle.process_model.proofs.OrderLaws.{leafy_at}
 use Rattle.process_model.specs.Process.{Page, Process, regions}
 use Rattle.process_model.specs.Regions.{region_at}
 use Rattle.table_walk.specs.Tables.{Tables, walk_leaf, leaf_node}

@@ -3,7 +3,7 @@ use Rattle.frame_store.specs.View.{View}
 use Rattle.process_model.specs.declared.reply.ScalarReply.TheVariants.{Value}
 use Rattle.process_model.specs.declared.reply.Reply.TheVariants.{Scalar}
 use Rattle.address_space.specs.Accesses.{request_of}
-use Rattle.address_space.specs.PendingAccess.{agrees_pending}
+use Rattle.address_space.proofs.PendingAccess.{agrees_pending}
 use Rattle.address_space.proofs.DroppedLeaf.{takes_none}
 use Rattle.address_space.proofs.UserAnswers.{answers_load, answers_store, fault_answer, granted, misaligned, on_frame, still_agrees}
 use Rattle.address_space.proofs.space.Space.user_access.Goals as goal

@@ -1,6 +1,6 @@
 use Rattle.std.proofs.Common.{◌<◌, ◌∙◌, None, ap, refl, sym, subst}
 use Rattle.std.specs.Vec.{vec_len}
-use Rattle.address_space.specs.PendingAccess.{agrees_pending}
+use Rattle.address_space.proofs.PendingAccess.{agrees_pending}
 use Rattle.process_model.specs.declared.reply.Refusal.TheVariants.{BadArgument}
 use Rattle.hart_machine.specs.Buffers.{buffer_of}
 use Rattle.hart_machine.specs.declared.machine.Machine.{Machine}

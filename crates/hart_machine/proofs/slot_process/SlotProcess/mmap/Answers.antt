@@ -1,7 +1,7 @@
 use Rattle.std.proofs.Common.{◌∙◌, ℕ, None, ap, refl, sym}
 use Rattle.std.specs.Prelude.{Err, Result}
 use Rattle.std.proofs.lemmas.Result.{err_from_is_err_and}
-use Rattle.address_space.specs.PendingAccess.{agrees_pending}
+use Rattle.address_space.proofs.PendingAccess.{agrees_pending}
 use Rattle.mmap_regions.specs.MmapEffect.{process_mapped}
 use Rattle.process_model.specs.Mappings.{mapped}
 use Rattle.process_model.specs.declared.reply.Refusal.{Refusal}

@@ -1,7 +1,7 @@
 use Rattle.std.proofs.Common.{◌≡◌, ◌+◌, ◌∙◌, None, ap, refl, sym}
 use Rattle.std.specs.Prelude.{Err}
 use Rattle.std.proofs.lemmas.Result.{err_from_is_err_and}
-use Rattle.address_space.specs.PendingAccess.{agrees_pending}
+use Rattle.address_space.proofs.PendingAccess.{agrees_pending}
 use Rattle.hart_machine.proofs.MarkedCalls.{munmap_changes, munmap_keeps}
 use Rattle.hart_machine.proofs.Released.{ceil, tells}
 use Rattle.hart_machine.proofs.Watched.{same_tenant}

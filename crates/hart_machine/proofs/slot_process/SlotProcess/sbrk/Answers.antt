@@ -2,7 +2,7 @@ use Rattle.std.proofs.Common.{◌∙◌, ℕ, ℤ, None, ap, refl, subst, sym, w
 use Rattle.std.specs.Prelude.{Err, Result}
 use Rattle.std.proofs.lemmas.Int.{to_z-of_z}
 use Rattle.std.proofs.lemmas.Result.{err_from_is_err_and}
-use Rattle.address_space.specs.PendingAccess.{agrees_pending}
+use Rattle.address_space.proofs.PendingAccess.{agrees_pending}
 use Rattle.lazy_growth.specs.SbrkResults.{answer_of, size_before}
 use Rattle.lazy_growth.specs.SbrkEffect.{Resizes}
 use Rattle.process_model.specs.Heap.{sbrk_result}

@@ -1,6 +1,6 @@
 use Rattle.std.proofs.Common.{◌≡◌, ◌<◌, ◌∙◌, Some, ap, not, refl, subst, true}
-use Rattle.address_space.specs.PendingAccess.{agrees_pending}
-use Rattle.fault_rules.specs.Allowed.{can_reside}
+use Rattle.address_space.proofs.PendingAccess.{agrees_pending}
+use Rattle.fault_rules.proofs.Allowed.{can_reside}
 use Rattle.fault_rules.specs.MadeResident.{is_shared_by}
 use Rattle.fault_rules.specs.declared.service.Served.TheVariants as served
 use Rattle.process_model.specs.Process as model

@@ -7,18 +7,12 @@ use Rattle.std.specs.List.{list_all}
 use Rattle.std.proofs.lemmas.Bool.{and_parts}
 use Rattle.std.proofs.lemmas.Option.{same_Some}
 use Rattle.process_model.specs.Bytes.{pages_for}
-use Rattle.process_model.specs.GrantLaws.{place_fits as place_passes}
-use Rattle.process_model.specs.MappingRows.{apart_sides}
+use Rattle.process_model.proofs.GrantLaws.{place_fits as place_passes}
+use Rattle.process_model.proofs.MappingRows.{apart_sides}
 use Rattle.process_model.specs.Regions.{Region, end_of}
 use Rattle.process_model.specs.Process.{Process}
-use Rattle.process_model.specs.Mappings.{fits_at, is_apart, greatest, places, mapping_place}
+use Rattle.process_model.specs.Mappings.{Fits, fits_at, is_apart, greatest, places, mapping_place}
 use Rattle.sv39_entry.specs.Schemes.{trapframe_page}
-
--- `pages` pages from page `first` on are above the heap, below the trapframe, and meet no mapping: what `fits_at` tests
-pub record Fits (p : Process) (pages first : ℕ) : Type 0 where
-  pub above : pages_for p.size ≤ first
-  pub below : first + pages ≤ trapframe_page p.scheme
-  pub apart : (i : ℕ) (m : Region) → slice_get p.mappings i ≡ Some m → (first + pages ≤ m.first) ⊎ (end_of m ≤ first)
 
 le_of : (a b : ℕ) → nat_le a b ≡ true → a ≤ b
 le_of a b e = grind arith

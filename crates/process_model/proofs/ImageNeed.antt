@@ -14,7 +14,7 @@ use Rattle.process_model.specs.ImageProcess.{load_pages, page_numbers, page_run}
 use Rattle.process_model.specs.Order.{InRow, IsPlaced}
 use Rattle.process_model.specs.PageMap.{count}
 use Rattle.process_model.specs.declared.limits.TheConstants.{GUARD_PAGES, STACK_PAGES}
-use Rattle.process_model.specs.ValueSets.{AreCounted, div_near, div_up, first_last, last_first, none_counted, run_counted, same_count, values}
+use Rattle.process_model.proofs.ValueSets.{AreCounted, div_near, div_up, first_last, last_first, none_counted, run_counted, same_count, values}
 use Rattle.sv39_entry.specs.Address.{page_of}
 use Rattle.sv39_entry.specs.Schemes.{of_scheme, trampoline_page, trapframe_page}
 use Rattle.sv39_entry.specs.declared.scheme.Scheme.{Scheme}

@@ -12,7 +12,7 @@ use Rattle.process_model.specs.Copies.{Copied, byte_of, byte_of_page, next_in, n
 use Rattle.process_model.specs.Insertion.{inserted_here, put_again, put_back}
 use Rattle.process_model.specs.PageMap.{PageMap, get}
 use Rattle.process_model.specs.Process.{Page, Process, regions}
-use Rattle.process_model.specs.ResidenceLaws.{granted_again, reached_again, reached_at_once, reached_serves, resident_again, stays_resident}
+use Rattle.process_model.proofs.ResidenceLaws.{granted_again, reached_again, reached_at_once, reached_serves, resident_again, stays_resident}
 use Rattle.process_model.specs.Regions.{copy_rule}
 use Rattle.process_model.specs.Residence.{is_resident, stored, with_page}
 use Rattle.sv39_entry.specs.Address.{page_of}

@@ -6,14 +6,14 @@ use Rattle.std.specs.List.{list_all}
 use Rattle.std.proofs.lemmas.Bool.{and_parts, leb-true}
 use Rattle.process_model.specs.Bytes.{pages_for}
 use Rattle.process_model.specs.Files.{File}
-use Rattle.process_model.specs.GrantLaws.{good_mapping, new_mapping, size_granted}
+use Rattle.process_model.proofs.GrantLaws.{good_mapping, new_mapping, size_granted}
 use Rattle.process_model.specs.Heap.{resized, size_refusal, without_pages}
-use Rattle.process_model.specs.MappingRows.{above_limit, instead_row, unmapped_each, with_each, with_mapping_row}
+use Rattle.process_model.proofs.MappingRows.{above_limit, instead_row, unmapped_each, with_each, with_mapping_row}
 use Rattle.process_model.specs.Mappings.{back_of, fits_at, front_of, is_apart, is_bad_mapping, mapping_around, mapping_of, with_instead, with_mapping}
 use Rattle.process_model.specs.Order.{HasLeaves, HasOrder, IsMapping, Row}
 use Rattle.process_model.specs.PageMap.{NumberSet, PageMap}
 use Rattle.process_model.specs.Process.{Page, Pending, Process, heap_of, regions}
-use Rattle.process_model.specs.RegionRows.{each_append, each_as, each_at, row_append, row_least, row_lower}
+use Rattle.process_model.proofs.RegionRows.{each_append, each_as, each_at, row_append, row_least, row_lower}
 use Rattle.process_model.specs.Regions.{makes_leaf, Region, region_at}
 use Rattle.sv39_entry.specs.Address.{page_of}
 use Rattle.sv39_entry.specs.Schemes.{trapframe_page}

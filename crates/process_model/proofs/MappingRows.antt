@@ -10,8 +10,8 @@ use Rattle.std.proofs.lemmas.Option.{same_Some}
 use Rattle.process_model.specs.Heap.{heap_limit}
 use Rattle.process_model.specs.Mappings.{back_of, front_of, is_apart, mapping_around, moved_along, with_instead, with_mapping}
 use Rattle.process_model.specs.Order.{EachRegion, IsInReach, IsMapping, Row}
-use Rattle.process_model.specs.RegionRows.{each_append, held, here, here_or_later, holds, in_first, none_in_first, not_held, own_rights}
-use Rattle.process_model.specs.RegionRows.{passed, row_append, row_outside, row_within, SameRights}
+use Rattle.process_model.proofs.RegionRows.{each_append, held, here, here_or_later, holds, in_first, none_in_first, not_held, own_rights}
+use Rattle.process_model.proofs.RegionRows.{passed, row_append, row_outside, row_within, SameRights}
 use Rattle.process_model.specs.Regions.{Region, Source, end_of, file, image, region_at, zeros}
 use Rattle.sv39_entry.specs.Schemes.{trapframe_page}
 use Rattle.sv39_entry.specs.declared.scheme.Scheme.{Scheme}

@@ -5,7 +5,7 @@ use Rattle.std.specs.Prelude.{zip}
 use Rattle.std.proofs.lemmas.List.Sums.{fold-append}
 use Rattle.process_model.specs.Environment.{Environment, Progress}
 use Rattle.process_model.specs.Bytes.{numbers_from}
-use Rattle.process_model.specs.CopyRuns.{more_in, more_out}
+use Rattle.process_model.proofs.CopyRuns.{more_in, more_out}
 use Rattle.process_model.specs.Copies.{copied_in, copied_out, copy_begun, next_in, next_out}
 
 -- consecutive numbers: the first m, then the n after them

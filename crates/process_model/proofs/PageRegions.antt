@@ -5,14 +5,14 @@ use Rattle.std.specs.Prelude.{nat_abs, nat_le}
 use Rattle.std.specs.List.{list_all}
 use Rattle.std.proofs.lemmas.Bool.{and_parts}
 use Rattle.process_model.specs.Bytes.{pages_for}
-use Rattle.process_model.specs.GrantLaws.{size_granted}
+use Rattle.process_model.proofs.GrantLaws.{size_granted}
 use Rattle.process_model.specs.Heap.{size_refusal}
-use Rattle.process_model.specs.MappingRows.{above_limit, around_at, instead_at, with_mapping_at}
+use Rattle.process_model.proofs.MappingRows.{above_limit, around_at, instead_at, with_mapping_at}
 use Rattle.process_model.specs.Mappings.{back_of, fits_at, front_of, is_apart, mapping_around, with_instead, with_mapping}
 use Rattle.process_model.specs.Order.{HasOrder}
 use Rattle.process_model.specs.Process.{Process, heap_of, regions}
-use Rattle.process_model.specs.RegionRows.{first_or_second, held, here, here_or_later, holds, in_first, none_in_first, not_held, own_rights}
-use Rattle.process_model.specs.RegionRows.{passed, row_outside, row_within, SameRights}
+use Rattle.process_model.proofs.RegionRows.{first_or_second, held, here, here_or_later, holds, in_first, none_in_first, not_held, own_rights}
+use Rattle.process_model.proofs.RegionRows.{passed, row_outside, row_within, SameRights}
 use Rattle.process_model.specs.Regions.{Region, holds_page, region_at}
 use Rattle.sv39_entry.specs.Address.{page_of}
 use Rattle.sv39_entry.specs.Schemes.{trapframe_page}

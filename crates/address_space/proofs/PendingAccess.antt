@@ -2,7 +2,7 @@
 -- whether it was served), or with none.
 use Rattle.std.specs.Prelude.{ℕ, Option}
 use Rattle.frame_store.specs.View.{View}
-use Rattle.process_model.specs.OrderLaws.{same_order}
+use Rattle.process_model.proofs.OrderLaws.{same_order}
 use Rattle.process_model.specs.Process as of_model
 use Rattle.process_model.specs.Process.{Process}
 use Rattle.table_walk.specs.Tables.{Tables}

@@ -6,7 +6,7 @@ use Rattle.std.proofs.lemmas.Option.{same_Some}
 use Rattle.address_space.specs.Agreement.{Body, IsSpace}
 use Rattle.fault_rules.specs.MadeResident.{CanMakeResident}
 use Rattle.process_model.specs.Bytes.{first_true}
-use Rattle.process_model.specs.GrantLaws.{none_true}
+use Rattle.process_model.proofs.GrantLaws.{none_true}
 use Rattle.process_model.specs.Process.{Process, regions}
 use Rattle.process_model.specs.Regions.{copy_rule, copy_tests, first_rule, is_aligned, lacks_right, Region, region_at, right_rule}
 use Rattle.sv39_entry.specs.Address.{page_of}
