@@ -5,6 +5,7 @@
 mod memory;
 mod outcome;
 mod run;
+mod runs;
 mod unit;
 
 pub use memory::SparseMemory;

@@ -1,11 +1,11 @@
 // `SparseMemory`: a struct, physical memory by single words and runs of words, at any address; a `Words` for walks.
 
 ghost use Rattle.std.specs.Prelude.{◌≡◌, ℕ, None, OnErr, OnOk};
-ghost use Rattle.std.specs.List.{list_any};
-ghost use Rattle.mmu.specs.Words.{added, is_in, written};
+ghost use Rattle.mmu.specs.Words.{added, written};
 ghost use Rattle.mmu.specs.Sparse.{word_of};
 
 use crate::run::Run;
+use crate::runs::Runs;
 use std::alloc::{AllocError, Global};
 use std::collections::HashMap;
 use table_walk::Words;
@@ -15,7 +15,7 @@ use table_walk::Words;
 #[derive(Drop)]
 pub struct SparseMemory {
     words: HashMap<u64, u64>,
-    runs: Vec<Run>,
+    runs: Runs,
 }
 
 impl SparseMemory {
@@ -25,7 +25,7 @@ impl SparseMemory {
     {
         SparseMemory {
             words: HashMap::new(alloc),
-            runs: Vec::new(alloc),
+            runs: Runs::new(alloc),
         }
     }
 
@@ -35,15 +35,9 @@ impl SparseMemory {
     {
         match self.words.get(&number) {
             Some(word) => Some(*word),
-            None if self.is_in_run(number) => Some(0),
+            None if self.runs.has(number) => Some(0),
             None => None,
         }
-    }
-
-    fn is_in_run(&self, number: u64) -> bool
-        ensures { result ≡ list_any (λ r. is_in r number) self.now.runs.items }
-    {
-        self.runs.iter().any(|run| run.has(number))
     }
 
     /// Writes a word.
@@ -68,7 +62,7 @@ impl SparseMemory {
         ensures ok { OnOk result ((n : ℕ) → word_of self.new n ≡ added (word_of self.old) first end n) }
         ensures err { OnErr result ((n : ℕ) → word_of self.new n ≡ word_of self.old n) }
     {
-        self.runs.push(Run { first, end }).map_err(AllocError::from)
+        self.runs.add(Run { first, end })
     }
 
     /// Removes all words.
