@@ -149,7 +149,7 @@ def check_columns(check, player, document, block):
     """A script with its answers in a column beside it, with comments behind them."""
     number, _, lines = block
     rows = [re.split(r"  +", re.sub(r"  +# .*", "", it)) for it in lines]
-    script, shown = "\n".join(it[0] for it in rows), [it[1] if len(it) > 1 else "" for it in rows]
+    script, shown = "\n".join(it[0] for it in rows), [it[1].removeprefix("=> ") if len(it) > 1 else "" for it in rows]
     answers = player.answers.get(script)
     if answers is None:
         text = player.ask("xv6lab", "run -", script + "\n")
@@ -159,6 +159,16 @@ def check_columns(check, player, document, block):
         return
     for place, (line, answer, wanted) in enumerate(zip(script.splitlines(), shown, answers)):
         check.claim(document.path, number + 1 + place, answer == wanted, f"`{line}` is answered {wanted}")
+
+
+def check_copied(check, player, document, block):
+    """A script that a reader may copy with its answers and comments: `check` finds none that differs."""
+    number, _, lines = block
+    text = player.ask("xv6lab", "check -", "\n".join(lines) + "\n")
+    if text is None:
+        check.left_out += 1
+        return
+    check.claim(document.path, number + 1, re.fullmatch(r"1 file, \d+ answers, 0 differ\n", text), f"of this script `xv6lab check` prints: {text}")
 
 
 def check_heredoc(check, player, document, block, answers):
@@ -183,8 +193,10 @@ def check_blocks(check, player, documents):
                     check_commands(check, player, document, block)
                 elif lines and "<<'END'" in lines[0] and "END" in lines:
                     check_heredoc(check, player, document, block, document.blocks[place + 1])
-                elif not block[1] and any(re.match(r"boot \d.*  ok", it) for it in lines):
+                elif not block[1] and any(re.match(r"boot \d.*  (=> )?ok", it) for it in lines):
                     check_columns(check, player, document, block)
+                    if any(" => " in it for it in lines):
+                        check_copied(check, player, document, block)
                 elif not block[1] and 2 * known > len(lines):
                     for at, line in enumerate(lines, block[0] + 1):
                         check.claim(document.path, at, line.strip() in player.printed, f"no stored run prints `{line.strip()}`")

@@ -1,5 +1,3 @@
-pub mod Ends
-pub mod Drops
 pub mod Pieces
 pub mod Rows
 pub mod Causes

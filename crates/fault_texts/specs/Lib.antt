@@ -1,5 +1,4 @@
 pub mod Causes
-pub mod Columns
 pub mod Counts
 pub mod Limits
 pub mod Mistakes

@@ -1,7 +1,7 @@
 -- Where the column of a mistake lies: in the line (`IsOfLine`), or in a field that begins at a column (`IsOfField`).
 use Rattle.std.specs.Prelude.{ℕ, ◌+◌, ◌≤◌, List, length, Option, Some, None}
-use Rattle.fault_texts.specs.Columns.{IsColumn}
-use Rattle.fault_texts.specs.declared.mistake.Mistake.{Mistake}
+use Rattle.line_fields.specs.Columns.{IsColumn}
+use Rattle.line_fields.specs.declared.mistake.Mistake.{Mistake}
 
 -- a column from this one on, at most so many bytes later
 abbrev pub IsFrom : ℕ → ℕ → Option ℕ → Type 0

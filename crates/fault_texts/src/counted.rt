@@ -6,9 +6,7 @@ ghost use Rattle.script_reader.specs.Rows.{seen};
 ghost use Rattle.fault_texts.specs.Counts.{is_right};
 ghost use Rattle.fault_texts.specs.Mistakes.{IsOfLine};
 
-use crate::mistake::Mistake;
-use crate::places::{field_at, field_count};
-use crate::quoting::quoted;
+use line_fields::{Mistake, field_at, field_count, quoted};
 use script_language::{Keyword, Tail};
 use script_reader::Row;
 use std::alloc::{AllocError, Global};

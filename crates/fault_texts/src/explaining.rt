@@ -14,10 +14,8 @@ ghost use Rattle.fault_texts.specs.Refused.{after_word};
 use crate::counted::wrong_count;
 use crate::field_forms::refused_field;
 use crate::limit_texts::{no_room, outside_limits};
-use crate::mistake::Mistake;
 use crate::near_words::unknown_word;
-use crate::places::Place;
-use crate::quoting::quoted;
+use line_fields::{Mistake, Place, quoted};
 use script_language::{Cause, Keyword, LONGEST_LINE, LONGEST_SCRIPT};
 use script_reader::{Draft, Row, first_field};
 use std::alloc::{AllocError, Global};
@@ -27,12 +25,11 @@ fn too_long(alloc: Global, line: &[u8]) -> Result<Option<Mistake>, AllocError>
     ensures found { IfOk result (λ m. is_none m ≡ nat_le (length line.now) LONGEST_LINE) }
     ensures column { IfOk result (λ m. IfSome m (λ m. IsOfLine line.now m)) }
 {
-    let length = line.len();
-    if length <= LONGEST_LINE {
+    if line.len() <= LONGEST_LINE {
         return Ok(None);
     }
     let text = format!(in alloc;
-        "this line has {length} bytes, and may have at most {LONGEST_LINE}"
+        "this line has more than {LONGEST_LINE} bytes, the most that it may have"
     )?;
     Ok(Some(Mistake::of_line(text)))
 }
@@ -68,7 +65,9 @@ fn out_of_order(
     }
     let text = if draft.in_order(Keyword::Boot) {
         let quote = quoted(alloc, row.text)?;
-        format!(in alloc; "{quote} needs a machine: \"boot\" must stand before it")?
+        format!(in alloc;
+            "{quote} needs a machine: a line such as \"boot 1 64 4 full\" must stand before it"
+        )?
     } else if row.word == Keyword::Boot {
         String::from_str(alloc, "this is a second \"boot\", and a script has one")?
     } else {

@@ -6,15 +6,13 @@ ghost use Rattle.script_language.specs.Fields.{value_of, values_of};
 ghost use Rattle.script_language.specs.Lines.{fields_of};
 ghost use Rattle.script_reader.specs.Rows.{seen};
 ghost use Rattle.fault_texts.specs.Causes.{OfField};
-ghost use Rattle.fault_texts.specs.Columns.{IsEndOf, StandsAt};
+ghost use Rattle.line_fields.specs.Columns.{IsEndOf, StandsAt};
 ghost use Rattle.fault_texts.specs.Mistakes.{IsOfField, IsOfLine};
 
-use crate::mistake::Mistake;
-use crate::places::Place;
-use crate::quoting::quoted;
 use crate::segment_forms::wrong_segment;
+use line_fields::{Mistake, Place, is_negative_form, is_number_form, quoted, wrong_number};
 use script_language::{Cause, FieldKind};
-use script_reader::{Row, decimal_value, first_field, hexadecimal_value, read_value};
+use script_reader::{Row, first_field, hexadecimal_value, read_value};
 use std::alloc::{AllocError, Global};
 
 /// A field of a line that is refused, and the kind by which it is read.
@@ -67,42 +65,6 @@ fn first_refused<'a>(
     Ok(None)
 }
 
-/// Whether a field has the form of a number of any size: decimal digits, or `0x` and hexadecimal digits.
-fn is_number_form(field: &[u8]) -> bool {
-    match field {
-        [b'0', b'x', digits @ ..] => {
-            !digits.is_empty() && digits.iter().all(|digit| hexadecimal_value(*digit) < 16)
-        }
-        _ => !field.is_empty() && field.iter().all(|digit| decimal_value(*digit) < 10),
-    }
-}
-
-/// Whether a field is `-` and what has the form of a number.
-fn is_negative_form(field: &[u8]) -> bool {
-    match field {
-        [b'-', magnitude @ ..] => is_number_form(magnitude),
-        _ => false,
-    }
-}
-
-/// Returns what is wrong with a field, or a part of one, that is no number below 2^64.
-///
-/// # Errors
-/// `AllocError`: host memory was refused.
-pub fn wrong_number(alloc: Global, field: &[u8]) -> Result<String, AllocError> {
-    let quote = quoted(alloc, field)?;
-    if is_number_form(field) {
-        let most = u64::MAX;
-        format!(in alloc; "{quote} is too large: a number is at most {most}")
-    } else if is_negative_form(field) {
-        format!(in alloc; "{quote} is negative, and this number is at least 0")
-    } else {
-        format!(in alloc;
-            "{quote} is no number: write decimal digits, or 0x and hexadecimal digits"
-        )
-    }
-}
-
 fn wrong_signed(alloc: Global, field: &[u8]) -> Result<String, AllocError> {
     let quote = quoted(alloc, field)?;
     if is_number_form(field) || is_negative_form(field) {
@@ -130,7 +92,7 @@ fn wrong_entry(alloc: Global, field: &[u8]) -> Result<String, AllocError> {
         return wrong_number(alloc, number);
     }
     let quote = quoted(alloc, field)?;
-    format!(in alloc; "{quote} is no buffer entry: write @ and its number, as @0")
+    format!(in alloc; "{quote} is no TLB entry: write @ and its number, as @0")
 }
 
 /// What is wrong with a field that must be one of two words.

@@ -7,16 +7,9 @@ mod explaining;
 mod field_forms;
 mod image_texts;
 mod limit_texts;
-mod mistake;
 mod near_words;
-mod places;
-mod quoting;
 mod segment_forms;
 
 pub use counted::field_names;
 pub use explaining::{explain, explain_end, explain_length, find_mistake};
-pub use field_forms::wrong_number;
 pub use image_texts::explain_image;
-pub use mistake::Mistake;
-pub use places::{Place, field_at, field_count};
-pub use quoting::quoted;

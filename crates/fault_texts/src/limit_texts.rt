@@ -11,8 +11,7 @@ ghost use Rattle.script_reader.specs.Rows.{seen};
 ghost use Rattle.fault_texts.specs.Limits.{boots, has_room_for};
 ghost use Rattle.fault_texts.specs.Mistakes.{IsOfLine};
 
-use crate::mistake::Mistake;
-use crate::places::field_at;
+use line_fields::{Mistake, field_at};
 use process_model::{
     Config, FEWEST_FRAMES, LONGEST_COPY, LONGEST_FILE, MOST_FILES, MOST_FRAMES, MOST_HARTS,
     MOST_SLOTS, is_width, kernel_frames,

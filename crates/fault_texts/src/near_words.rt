@@ -6,9 +6,7 @@ ghost use Rattle.script_language.specs.Lines.{fields_of};
 ghost use Rattle.fault_texts.specs.Mistakes.{IsOfLine};
 ghost use Rattle.fault_texts.specs.Unknown.{is_unknown};
 
-use crate::mistake::Mistake;
-use crate::places::field_at;
-use crate::quoting::quoted;
+use line_fields::{Mistake, field_at, quoted};
 use script_reader::Row;
 use std::alloc::{AllocError, Global};
 use std::str;
@@ -17,9 +15,9 @@ use strsim::osa_distance;
 /// The most letters of a field for which a near word is looked for: no longer field is near to one.
 const LONGEST_NEAR: usize = 16;
 
-/// The most edits by which a field of this many letters is near to a word: two, or a third of its letters.
+/// The most edits by which a field of this many letters is near to a word: one, or a third of its letters.
 fn most_edits(letters: usize) -> usize {
-    (letters / 3).max(2)
+    (letters / 3).max(1)
 }
 
 /// The number of edits from a field to a word: letters put in, left out, replaced, or swapped with the next. `None`: they are not
@@ -65,6 +63,10 @@ fn nearest_word(alloc: Global, field: &[u8]) -> Result<Option<&'static [u8]>, Al
 fn advice(alloc: Global, field: &[u8]) -> Result<String, AllocError> {
     if Row::find_for_threads(field).is_some() {
         return String::from_str(alloc, "it is a word of files for \"xv6vm threads\"");
+    }
+    if matches!(field, b"regions" | b"vmprint" | b"tlb" | b"frames") {
+        let text = "it asks about the machine, which \"xv6lab show\" and \"xv6lab repl\" answer";
+        return String::from_str(alloc, text);
     }
     match nearest_word(alloc, field)? {
         Some(word) => {

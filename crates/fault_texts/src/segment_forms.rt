@@ -1,13 +1,11 @@
 // `wrong_segment`: what is wrong with a field that is no segment, `VADDR:MEMSZ:FLAGS:HEX`, and in which of its parts.
 
 ghost use Rattle.std.specs.Prelude.{◌≤◌, length, IfOk, IfSome};
-ghost use Rattle.fault_texts.specs.Columns.{IsPart};
+ghost use Rattle.line_fields.specs.Columns.{IsPart};
 ghost use Rattle.fault_texts.specs.Mistakes.{IsOfField};
 
-use crate::field_forms::{wrong_hex, wrong_number};
-use crate::mistake::Mistake;
-use crate::places::Place;
-use crate::quoting::quoted;
+use crate::field_forms::wrong_hex;
+use line_fields::{Mistake, Place, quoted, wrong_number};
 use script_reader::{first_piece, number};
 use std::alloc::{AllocError, Global};
 

@@ -1,7 +1,7 @@
 // `CheckLines`: answers are compared with those that the lines expect, and files for threads are judged; and `BareLines`: lines are
 // printed without answers.
 
-ghost use Rattle.std.specs.Prelude.{IfOk};
+ghost use Rattle.std.specs.Prelude.{◌≡◌, IfOk};
 ghost use Rattle.line_player.specs.Answers.{HasPlayed};
 ghost use Rattle.line_player.specs.PlayedLines.{Played};
 
@@ -10,10 +10,12 @@ use crate::fault::Fault;
 use crate::lab::Reading;
 use crate::mistakes::{Place, tell_end, tell_refused};
 use crate::play::{Listener, each_line};
+use crate::run::tell_unexpected;
 use crate::screen::Screen;
 use crate::threads::{begins_for_threads, judge, read_rest};
+use answer_texts::{Before, explain_answer};
 use line_player::{LinePlayer, LineReply};
-use std::alloc::Global;
+use std::alloc::{AllocError, Global};
 use std::fmt;
 use std::io::{BufReader, Read};
 
@@ -23,22 +25,72 @@ pub struct Tally {
     pub files: u64,
     pub answers: u64,
     pub differ: u64,
+    /// How many files were refused, or could not be read.
+    pub refused: u64,
+}
+
+/// What was counted of one file, as text: for example `12 answers, 1 differs`.
+#[derive(Clone, Copy, PartialEq, Eq, Debug)]
+pub struct Counts {
+    answers: u64,
+    differ: u64,
+    refused: u64,
+}
+
+impl Tally {
+    /// Nothing was counted yet.
+    pub const NOTHING: Tally = Tally {
+        files: 0,
+        answers: 0,
+        differ: 0,
+        refused: 0,
+    };
+
+    /// Returns what was counted, but for the number of files.
+    pub fn counts(self) -> Counts {
+        Counts {
+            answers: self.answers,
+            differ: self.differ,
+            refused: self.refused,
+        }
+    }
+
+    /// Returns both together.
+    pub fn with(self, other: Tally) -> Tally
+        ensures refused { result.refused ≡ 0 → (self.refused ≡ 0) × (other.refused ≡ 0) }
+    {
+        Tally {
+            files: self.files.saturating_add(other.files),
+            answers: self.answers.saturating_add(other.answers),
+            differ: self.differ.saturating_add(other.differ),
+            refused: self.refused.saturating_add(other.refused),
+        }
+    }
+}
+
+/// For example `41 answers, 0 differ`, and `, 1 refused` if a file was refused.
+impl fmt::Display for Counts {
+    fn fmt<W: fmt::Write>(&self, f: &mut fmt::Formatter<W>) -> fmt::Result {
+        let Counts {
+            answers,
+            differ,
+            refused,
+        } = *self;
+        let answer_word = if answers == 1 { "answer" } else { "answers" };
+        write!(f, "{answers} {answer_word}, {differ} differ")?;
+        if refused > 0 {
+            write!(f, ", {refused} refused")?;
+        }
+        Ok(())
+    }
 }
 
 /// For example `3 files, 41 answers, 0 differ`.
 impl fmt::Display for Tally {
     fn fmt<W: fmt::Write>(&self, f: &mut fmt::Formatter<W>) -> fmt::Result {
-        let Tally {
-            files,
-            answers,
-            differ,
-        } = *self;
+        let (files, counts) = (self.files, self.counts());
         let file_word = if files == 1 { "file" } else { "files" };
-        let answer_word = if answers == 1 { "answer" } else { "answers" };
-        write!(
-            f,
-            "{files} {file_word}, {answers} {answer_word}, {differ} differ"
-        )
+        write!(f, "{files} {file_word}, {counts}")
     }
 }
 
@@ -47,20 +99,55 @@ impl fmt::Display for Tally {
 pub struct CheckLines<'a> {
     pub alloc: Global,
     pub file: &'a str,
-    /// What was counted so far, of this script and of those before it.
+    /// What was counted so far.
     pub tally: Tally,
-    /// Whether a line of this script differed.
-    pub differed: bool,
+    /// Whether a refusal that no line expects ends the check.
+    pub strict: bool,
 }
 
-/// Returns bytes as text.
-fn shown(bytes: &[u8]) -> &str {
-    std::str::from_utf8(bytes).unwrap_or("?")
-}
+impl<'a> CheckLines<'a> {
+    /// Returns a check of a script of which nothing was read.
+    pub fn new(alloc: Global, file: &'a str, strict: bool) -> CheckLines<'a> {
+        CheckLines {
+            alloc,
+            file,
+            tally: Tally {
+                files: 1,
+                ..Tally::NOTHING
+            },
+            strict,
+        }
+    }
 
-impl CheckLines<'_> {
-    /// Counts an answer that was expected, and prints the line if it is the first of its script that differs. A line without an
-    /// answer answers `nothing`.
+    /// Returns why an answer is no plain success, if it is none and another than the expected one.
+    fn note(
+        &self,
+        player: &LinePlayer,
+        before: &Before,
+        line: &[u8],
+        reply: LineReply,
+        expected: &[u8],
+    ) -> Result<Option<String>, AllocError>
+        requires played { (s : Played) × HasPlayed player.now s }
+    {
+        if reply != LineReply::Text || player.answer() == expected {
+            return Ok(None);
+        }
+        explain_answer(self.alloc, player, before, line)
+    }
+
+    /// Prints why an answer is no plain success, if it is none.
+    fn tell_why<S: Screen>(&self, screen: &mut S, note: Option<String>) -> Result<(), Fault>
+        ensures whole { IfOk result (λ _. S.whole screen.old → S.whole screen.new) }
+    {
+        match note {
+            Some(note) => screen.out(format!(in self.alloc; "  why      {note}\n")?.as_str()),
+            None => Ok(()),
+        }
+    }
+
+    /// Counts an answer that was expected, and prints the line if it is the first of its script that differs, with why its answer is
+    /// no plain success. A line without an answer answers `nothing`.
     fn compare<S: Screen>(
         &mut self,
         screen: &mut S,
@@ -68,23 +155,30 @@ impl CheckLines<'_> {
         line: &[u8],
         expected: &[u8],
         answer: &[u8],
-    ) -> Result<(), Fault> {
+        note: Option<String>,
+    ) -> Result<(), Fault>
+        ensures whole { IfOk result (λ _. S.whole screen.old → S.whole screen.new) }
+    {
         self.tally.answers = self.tally.answers.saturating_add(1);
         if answer == expected {
             return Ok(());
         }
         self.tally.differ = self.tally.differ.saturating_add(1);
-        if self.differed {
+        if self.tally.differ > 1 {
             return Ok(());
         }
-        self.differed = true;
-        let (line, expected, answer) = (shown(line), shown(expected), shown(answer));
-        let text = if expected == "?" {
-            format!(in self.alloc; "{place}: blank: {line}\n")?
-        } else {
-            format!(in self.alloc; "{place}: {line}\n  expected {expected}\n  answered {answer}\n")?
-        };
-        screen.out(text.as_str())
+        let line = String::from_utf8_lossy(self.alloc, line)?;
+        let line = line.as_str();
+        if expected == b"?".as_slice() {
+            return screen.out(format!(in self.alloc; "{place}: blank: {line}\n")?.as_str());
+        }
+        let expected = String::from_utf8_lossy(self.alloc, expected)?;
+        let answer = String::from_utf8_lossy(self.alloc, answer)?;
+        let (expected, answer) = (expected.as_str(), answer.as_str());
+        screen.out(format!(in self.alloc;
+            "{place}: {line}\n  expected {expected}\n  answered {answer}\n"
+        )?.as_str())?;
+        self.tell_why(screen, note)
     }
 }
 
@@ -101,17 +195,22 @@ impl Listener for CheckLines<'_> {
             file: self.file,
             line: number,
         };
+        let before = Before::line(self.alloc, player, given.line)?;
         let reply = player.line(given.line)?;
         if let LineReply::Refused(cause) = reply {
             return tell_refused(self.alloc, screen, place, player, given.line, cause);
         }
+        if self.strict {
+            tell_unexpected(self.alloc, screen, place, player, &before, given)?;
+        }
         let Some(expected) = given.answer else {
             return Ok(());
         };
+        let note = self.note(player, &before, given.line, reply, expected)?;
         if reply == LineReply::Text {
-            return self.compare(screen, place, given.line, expected, player.answer());
+            return self.compare(screen, place, given.line, expected, player.answer(), note);
         }
-        self.compare(screen, place, given.line, expected, b"nothing")
+        self.compare(screen, place, given.line, expected, b"nothing", note)
     }
 
     fn end<S: Screen>(
@@ -146,10 +245,8 @@ impl Reading for CheckLines<'_> {
 }
 
 /// Prints a script without the answers that its lines expect.
-#[derive(Drop)]
-pub struct BareLines {
-    pub alloc: Global,
-}
+#[derive(Clone, Copy, Debug)]
+pub struct BareLines;
 
 impl Listener for BareLines {
     fn line<S: Screen>(
@@ -159,8 +256,8 @@ impl Listener for BareLines {
         _number: u64,
         line: &[u8],
     ) -> Result<(), Fault> {
-        let text = shown(split(line).line);
-        screen.out(format!(in self.alloc; "{text}\n")?.as_str())
+        screen.out_bytes(split(line).line)?;
+        screen.out("\n")
     }
 
     fn end<S: Screen>(

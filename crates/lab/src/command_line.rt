@@ -1,6 +1,7 @@
 // `CommandLine` (struct): a parsed command line of `xv6lab`: its task (`Task`, enum) with its files; `parse` makes one.
 
 use crate::fault::Fault;
+use crate::run::Telling;
 use clap::{Arg, ArgAction, ArgMatches, Command};
 use std::alloc::{AllocError, Global};
 use version::VERSION;
@@ -9,9 +10,10 @@ use version::VERSION;
 #[derive(Clone, Copy, PartialEq, Eq, Debug)]
 pub enum Task {
     /// Plays a script and prints each line with its answer.
-    Run,
-    /// Plays scripts and compares the answers with those that their lines expect; judges files for threads.
-    Check,
+    Run(Telling),
+    /// Plays scripts and compares the answers with those that their lines expect; judges files for threads. If so, stops at a
+    /// refusal that no line expects.
+    Check(bool),
     /// Prints a script without the answers that its lines expect.
     Bare,
     /// Plays a script and prints what happens on each line; as one JSON object a line, if so.
@@ -57,6 +59,27 @@ fn json<'a>(alloc: Global, help: &'a str) -> Arg<'a> {
         .help(help)
 }
 
+/// Returns the flag `--strict`.
+fn strict<'a>(alloc: Global) -> Arg<'a> {
+    Arg::new(alloc, "strict")
+        .long("strict")
+        .action(ArgAction::SetTrue)
+        .help("Stop at the first refusal that no => ANSWER expects")
+}
+
+/// Returns the word `run`.
+fn run<'a>(alloc: Global) -> Result<Command<'a>, AllocError> {
+    let explain = Arg::new(alloc, "explain")
+        .long("explain")
+        .action(ArgAction::SetTrue)
+        .help("Tell below each answer that is no plain success why, and which line would be right");
+    Command::new(alloc, "run")
+        .about("Play a script and print each line with its answer")
+        .arg(file(alloc, SCRIPT))?
+        .arg(explain)?
+        .arg(strict(alloc))
+}
+
 /// Returns the word `check`.
 fn check<'a>(alloc: Global) -> Result<Command<'a>, AllocError> {
     let files = Arg::new(alloc, "FILE")
@@ -71,13 +94,14 @@ fn check<'a>(alloc: Global) -> Result<Command<'a>, AllocError> {
     Command::new(alloc, "check")
         .about("Compare answers: a line may end with => ANSWER")
         .arg(files)?
-        .arg(bare)
+        .arg(bare)?
+        .arg(strict(alloc))
 }
 
 /// Returns the word `trace`.
 fn trace<'a>(alloc: Global) -> Result<Command<'a>, AllocError> {
     Command::new(alloc, "trace")
-        .about("See what happens on each line: regions, rules, walks, buffers, frames")
+        .about("See what happens on each line: regions, rules, walks, TLBs, frames")
         .arg(file(alloc, SCRIPT))?
         .arg(json(alloc, "Print one JSON object a line"))
 }
@@ -96,7 +120,7 @@ fn draw<'a>(alloc: Global) -> Result<Command<'a>, AllocError> {
         .action(ArgAction::SetTrue)
         .help("Write a page (HTML) to step from line to line, in place of a picture (SVG)");
     Command::new(alloc, "draw")
-        .about("Draw the machine after the last line: regions, pages, tables, frames, buffers")
+        .about("Draw the machine after the last line: regions, pages, tables, frames, TLBs")
         .arg(file(alloc, SCRIPT))?
         .arg(out)?
         .arg(steps)
@@ -119,9 +143,6 @@ fn elf<'a>(alloc: Global) -> Result<Command<'a>, AllocError> {
 
 /// Returns the form of the command line.
 fn command<'a>(alloc: Global) -> Result<Command<'a>, AllocError> {
-    let run = Command::new(alloc, "run")
-        .about("Play a script and print each line with its answer")
-        .arg(file(alloc, SCRIPT))?;
     let show = Command::new(alloc, "show")
         .about("Play a script that may also ask: regions S, vmprint S, tlb H, frames")
         .arg(file(alloc, SCRIPT))?;
@@ -134,7 +155,7 @@ fn command<'a>(alloc: Global) -> Result<Command<'a>, AllocError> {
             "Plays scripts against the virtual memory of xv6-riscv, for people. docs/WORKBENCH.md has an example of each word",
         )
         .subcommand_required(true)
-        .subcommand(run)?
+        .subcommand(run(alloc)?)?
         .subcommand(check(alloc)?)?
         .subcommand(trace(alloc)?)?
         .subcommand(draw(alloc)?)?
@@ -147,9 +168,12 @@ fn command<'a>(alloc: Global) -> Result<Command<'a>, AllocError> {
 /// Returns the task of a word, with its flags.
 fn task_of(name: &str, given: &ArgMatches<'_>) -> Task {
     match name {
-        "run" => Task::Run,
+        "run" => Task::Run(Telling {
+            explain: given.get_flag("explain"),
+            strict: given.get_flag("strict"),
+        }),
         "check" if given.get_flag("bare") => Task::Bare,
-        "check" => Task::Check,
+        "check" => Task::Check(given.get_flag("strict")),
         "trace" => Task::Trace(given.get_flag("json")),
         "draw" => Task::Draw(given.get_flag("steps")),
         "show" => Task::Show,

@@ -1,4 +1,5 @@
-// `DrawLines`: the machine is drawn after the last line, or after each.
+// The machine of a script, drawn: `DrawLines` draws it after the last line; `KeptLines` keeps a script that is played to its end, of
+// which `PageLines` then writes a page to step through, on `Paper`.
 
 ghost use Rattle.std.specs.Prelude.{IfOk};
 ghost use Rattle.line_player.specs.Answers.{HasPlayed};
@@ -13,51 +14,47 @@ use line_player::{LinePlayer, LineReply};
 use line_traces::trace_line;
 use pictures::{put_page_end, put_page_start, put_picture, put_step};
 use std::alloc::{AllocError, Global};
+use std::io::Write;
 
-/// Draws the machine after the last line or, if `steps`, after each line in a page to step through.
+/// Plays a line, and returns it without the answer that it expects.
+///
+/// # Errors
+/// `Told`: the line is refused; that was told. `Memory`: the host is out of memory. `Io`: printing failed.
+fn played<'a, S: Screen>(
+    alloc: Global,
+    screen: &mut S,
+    place: Place<'_>,
+    player: &mut LinePlayer,
+    line: &'a [u8],
+) -> Result<&'a [u8], Fault>
+    requires played { (s : Played) × HasPlayed player.old s }
+    ensures played { IfOk result (λ _. (s : Played) × HasPlayed player.new s) }
+    ensures whole { IfOk result (λ _. S.whole screen.old → S.whole screen.new) }
+{
+    let bare = split(line).line;
+    if let LineReply::Refused(cause) = player.line(bare)? {
+        tell_refused(alloc, screen, place, player, bare, cause)?;
+    }
+    Ok(bare)
+}
+
+/// Draws the machine after the last line.
 #[derive(Drop)]
 pub struct DrawLines<'a> {
     alloc: Global,
     file: &'a str,
-    steps: bool,
-    /// What was drawn so far: at the end a picture (SVG) or a page (HTML).
+    /// The picture (SVG), at the end.
     pub text: String,
 }
 
 impl<'a> DrawLines<'a> {
-    /// Begins the page, if it is to be one.
-    ///
-    /// # Errors
-    /// `AllocError`: the host is out of memory.
-    pub fn new(alloc: Global, file: &'a str, steps: bool) -> Result<DrawLines<'a>, AllocError> {
-        let mut text = String::new(alloc);
-        if steps {
-            put_page_start(&mut text, file)?;
-        }
-        Ok(DrawLines {
+    /// Returns a drawing of a script of which nothing was read.
+    pub fn new(alloc: Global, file: &'a str) -> DrawLines<'a> {
+        DrawLines {
             alloc,
             file,
-            steps,
-            text,
-        })
-    }
-
-    /// Plays a line, and returns how it was answered; draws what happened on it, if the page is to have it.
-    fn step(
-        &mut self,
-        player: &mut LinePlayer,
-        number: u64,
-        line: &[u8],
-    ) -> Result<LineReply, AllocError>
-        requires played { (s : Played) × HasPlayed player.old s }
-        ensures played { IfOk result (λ _. (s : Played) × HasPlayed player.new s) }
-    {
-        if !self.steps {
-            return player.line(line);
+            text: String::new(alloc),
         }
-        let trace = trace_line(self.alloc, player, number, line)?;
-        put_step(&mut self.text, &trace, player.machine())?;
-        Ok(trace.reply)
     }
 }
 
@@ -69,14 +66,11 @@ impl Listener for DrawLines<'_> {
         number: u64,
         line: &[u8],
     ) -> Result<(), Fault> {
-        let bare = split(line).line;
-        if let LineReply::Refused(cause) = self.step(player, number, bare)? {
-            let place = Place {
-                file: self.file,
-                line: number,
-            };
-            return tell_refused(self.alloc, screen, place, player, bare, cause);
-        }
+        let place = Place {
+            file: self.file,
+            line: number,
+        };
+        played(self.alloc, screen, place, player, line)?;
         Ok(())
     }
 
@@ -87,10 +81,137 @@ impl Listener for DrawLines<'_> {
         lines: u64,
     ) -> Result<(), Fault> {
         tell_end(self.alloc, screen, self.file, player, lines)?;
-        match player.machine() {
-            Some(machine) if !self.steps => put_picture(&mut self.text, machine)?,
-            _ => put_page_end(&mut self.text)?,
+        if let Some(machine) = player.machine() {
+            put_picture(&mut self.text, machine)?;
         }
         Ok(())
+    }
+}
+
+/// Keeps the lines of a script, without the answers that they expect, and plays them.
+#[derive(Drop)]
+pub struct KeptLines<'a> {
+    alloc: Global,
+    file: &'a str,
+    /// The lines so far, each with its line feed.
+    pub text: Vec<u8>,
+}
+
+impl<'a> KeptLines<'a> {
+    /// Returns what is kept of a script of which nothing was read.
+    pub fn new(alloc: Global, file: &'a str) -> KeptLines<'a> {
+        KeptLines {
+            alloc,
+            file,
+            text: Vec::new(alloc),
+        }
+    }
+}
+
+impl Listener for KeptLines<'_> {
+    fn line<S: Screen>(
+        &mut self,
+        screen: &mut S,
+        player: &mut LinePlayer,
+        number: u64,
+        line: &[u8],
+    ) -> Result<(), Fault> {
+        let place = Place {
+            file: self.file,
+            line: number,
+        };
+        let bare = played(self.alloc, screen, place, player, line)?;
+        self.text.extend_from_slice(bare)?;
+        self.text.push(b'\n').map_err(AllocError::from)?;
+        Ok(())
+    }
+
+    fn end<S: Screen>(
+        &mut self,
+        screen: &mut S,
+        player: &LinePlayer,
+        lines: u64,
+    ) -> Result<(), Fault> {
+        tell_end(self.alloc, screen, self.file, player, lines)
+    }
+}
+
+/// Where a page is written.
+#[derive(Drop)]
+pub enum Paper<'a, W> {
+    /// Standard output.
+    Screen,
+    /// A file, with its path.
+    File(&'a str, W),
+}
+
+/// Writes a page to step through, line by line.
+#[derive(Drop)]
+pub struct PageLines<'a, W> {
+    alloc: Global,
+    paper: Paper<'a, W>,
+    /// What is written next.
+    text: String,
+}
+
+impl<'a, W: Write + Drop> PageLines<'a, W> {
+    /// Returns a page of which nothing was written.
+    pub fn new(alloc: Global, paper: Paper<'a, W>) -> PageLines<'a, W> {
+        PageLines {
+            alloc,
+            paper,
+            text: String::new(alloc),
+        }
+    }
+
+    /// Writes what is to be written next.
+    fn flush<S: Screen>(&mut self, screen: &mut S) -> Result<(), Fault>
+        ensures whole { IfOk result (λ _. S.whole screen.old → S.whole screen.new) }
+    {
+        match &mut self.paper {
+            Paper::Screen => screen.out(self.text.as_str())?,
+            Paper::File(name, file) => {
+                if let Err(error) = file.write_all(self.text.as_bytes()) {
+                    return Err(Fault::File(String::from_str(self.alloc, name)?, error));
+                }
+            }
+        }
+        self.text.clear();
+        Ok(())
+    }
+
+    /// Writes the beginning of a page with a title.
+    ///
+    /// # Errors
+    /// `File`, `Io`: writing failed. `Memory`: the host is out of memory.
+    pub fn begin<S: Screen>(&mut self, screen: &mut S, title: &str) -> Result<(), Fault>
+        ensures whole { IfOk result (λ _. S.whole screen.old → S.whole screen.new) }
+    {
+        put_page_start(&mut self.text, title)?;
+        self.flush(screen)
+    }
+}
+
+impl<W: Write + Drop> Listener for PageLines<'_, W> {
+    fn line<S: Screen>(
+        &mut self,
+        screen: &mut S,
+        player: &mut LinePlayer,
+        number: u64,
+        line: &[u8],
+    ) -> Result<(), Fault> {
+        let trace = trace_line(self.alloc, player, number, split(line).line)?;
+        put_step(&mut self.text, &trace, player.machine())?;
+        self.flush(screen)
+    }
+
+    fn end<S: Screen>(
+        &mut self,
+        screen: &mut S,
+        _player: &LinePlayer,
+        _lines: u64,
+    ) -> Result<(), Fault> {
+        put_page_end(&mut self.text)?;
+        self.flush(screen)
     }
 }

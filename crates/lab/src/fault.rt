@@ -1,6 +1,6 @@
 // `Fault` (enum): why the program ends early, with the text that it prints on standard error and its exit status.
 
-ghost use Rattle.std.specs.Prelude.{◌≤◌};
+ghost use Rattle.std.specs.Prelude.{◌≤◌, IfOk};
 
 use crate::screen::Screen;
 use clap::error::ErrorKind;
@@ -48,7 +48,9 @@ impl Fault {
     ///
     /// # Errors
     /// `Io`: printing failed. `Memory`: the host is out of memory.
-    pub fn tell<S: Screen>(&self, alloc: Global, screen: &mut S) -> Result<(), Fault> {
+    pub fn tell<S: Screen>(&self, alloc: Global, screen: &mut S) -> Result<(), Fault>
+        ensures whole { IfOk result (λ _. S.whole screen.old → S.whole screen.new) }
+    {
         match self {
             Fault::Told => Ok(()),
             Fault::CommandLine(error) if error.exit_code() == 0 => {

@@ -1,10 +1,10 @@
 // `do_words`: does what a command line of `xv6lab` says, with the files and the standard input of a `Host`.
 
-ghost use Rattle.std.specs.Prelude.{◌≤◌};
+ghost use Rattle.std.specs.Prelude.{◌≡◌, ◌≤◌, IfOk};
 
 use crate::check::{BareLines, CheckLines, Tally};
 use crate::command_line::{CommandLine, Task};
-use crate::draw::DrawLines;
+use crate::draw::{DrawLines, KeptLines, PageLines, Paper};
 use crate::elf::ElfLine;
 use crate::fault::Fault;
 use crate::play::{Listener, each_line};
@@ -27,7 +27,8 @@ pub trait Reading {
         alloc: Global,
         reader: R,
         screen: &mut S,
-    ) -> Result<(), Fault>;
+    ) -> Result<(), Fault>
+        ensures whole { IfOk result (λ _. S.whole screen.old → S.whole screen.new) };
 }
 
 /// The lines of a script are given to a listener.
@@ -66,7 +67,9 @@ impl<F: Files, I: Read + Drop> Host<'_, F, I> {
         screen: &mut S,
         name: &str,
         reading: &mut T,
-    ) -> Result<(), Fault> {
+    ) -> Result<(), Fault>
+        ensures whole { IfOk result (λ _. S.whole screen.old → S.whole screen.new) }
+    {
         let alloc = self.alloc;
         if name == "-" {
             return match self.input.take() {
@@ -93,51 +96,85 @@ impl<F: Files, I: Read + Drop> Host<'_, F, I> {
         screen: &mut S,
         name: &str,
         listener: &mut L,
-    ) -> Result<(), Fault> {
+    ) -> Result<(), Fault>
+        ensures whole { IfOk result (λ _. S.whole screen.old → S.whole screen.new) }
+    {
         self.give(screen, name, &mut Played { listener })
     }
 
-    /// Compares the answers of scripts with those that their lines expect, and prints how many differ. Of a file for threads, which expects
-    /// none, it tells whether its processes may fork for ever.
+    /// Compares the answers of a script with those that its lines expect, and returns what was counted. A script that is refused, or
+    /// cannot be read, is told and counted as refused.
     ///
     /// # Errors
-    /// `Told`: an answer differs, or a file is refused.
-    fn check<S: Screen>(&mut self, screen: &mut S, files: &[String]) -> Result<(), Fault> {
-        let alloc = self.alloc;
-        let mut tally = Tally {
-            files: 0,
-            answers: 0,
-            differ: 0,
+    /// `Memory`: the host is out of memory. `Io`: printing failed.
+    fn check_file<S: Screen>(
+        &mut self,
+        screen: &mut S,
+        strict: bool,
+        file: &str,
+    ) -> Result<Tally, Fault>
+        ensures whole { IfOk result (λ tally. tally.refused ≡ 0 → S.whole screen.old → S.whole screen.new) }
+    {
+        let mut checked = CheckLines::new(self.alloc, file, strict);
+        let fault = match self.give(screen, file, &mut checked) {
+            Ok(()) => return Ok(checked.tally),
+            Err(fault) => fault,
         };
-        for file in files {
-            let mut checked = CheckLines {
-                alloc,
-                file: file.as_str(),
-                tally,
-                differed: false,
-            };
-            self.give(screen, file.as_str(), &mut checked)?;
-            tally = checked.tally;
-            tally.files = tally.files.saturating_add(1);
+        match fault {
+            Fault::Told => {}
+            Fault::File(..) | Fault::Read(..) => fault.tell(self.alloc, screen)?,
+            _ => return Err(fault),
         }
-        screen.out(format!(in alloc; "{tally}\n")?.as_str())?;
-        if tally.differ > 0 {
+        Ok(Tally {
+            refused: 1,
+            ..checked.tally
+        })
+    }
+
+    /// Compares the answers of scripts with those that their lines expect, and prints of each, if there are several, and of all
+    /// together how many differ. Of a file for threads, which expects none, it tells whether its processes may fork for ever.
+    ///
+    /// # Errors
+    /// `Told`: an answer differs, or a file is refused or cannot be read. `Memory`: the host is out of memory. `Io`: printing failed.
+    fn check<S: Screen>(
+        &mut self,
+        screen: &mut S,
+        strict: bool,
+        files: &[String],
+    ) -> Result<(), Fault>
+        ensures whole { IfOk result (λ _. S.whole screen.old → S.whole screen.new) }
+    {
+        let alloc = self.alloc;
+        let mut total = Tally::NOTHING;
+        'files: for file in files {
+            let tally = self.check_file(screen, strict, file.as_str())?;
+            if files.len() > 1 {
+                let (name, counts) = (file.as_str(), tally.counts());
+                screen.out(format!(in alloc; "{name}: {counts}\n")?.as_str())?;
+            }
+            total = total.with(tally);
+        }
+        screen.out(format!(in alloc; "{total}\n")?.as_str())?;
+        if total.differ > 0 || total.refused > 0 {
             return Err(Fault::Told);
         }
         Ok(())
     }
 
     /// Prints scripts without the answers that their lines expect.
-    fn bare<S: Screen>(&mut self, screen: &mut S, files: &[String]) -> Result<(), Fault> {
-        let alloc = self.alloc;
-        for file in files {
-            self.play(screen, file.as_str(), &mut BareLines { alloc })?;
+    fn bare<S: Screen>(&mut self, screen: &mut S, files: &[String]) -> Result<(), Fault>
+        ensures whole { IfOk result (λ _. S.whole screen.old → S.whole screen.new) }
+    {
+        'files: for file in files {
+            self.play(screen, file.as_str(), &mut BareLines)?;
         }
         Ok(())
     }
 
-    /// Writes what was drawn to a file, or to standard output for `-`.
-    fn write<S: Screen>(&self, screen: &mut S, out: &str, text: &str) -> Result<(), Fault> {
+    /// Writes a picture to a file, or to standard output for `-`.
+    fn write<S: Screen>(&self, screen: &mut S, out: &str, text: &str) -> Result<(), Fault>
+        ensures whole { IfOk result (λ _. S.whole screen.old → S.whole screen.new) }
+    {
         if out == "-" {
             return screen.out(text);
         }
@@ -147,31 +184,72 @@ impl<F: Files, I: Read + Drop> Host<'_, F, I> {
         }
     }
 
-    /// Draws the machine of a script, and writes what was drawn if the script is played to its end.
+    /// Returns where the page of a script goes: a new file in place of any that is there, or standard output for `-`.
+    fn paper<'a>(&self, out: &'a str) -> Result<Paper<'a, F::File>, Fault> {
+        if out == "-" {
+            return Ok(Paper::Screen);
+        }
+        match fs::create(self.files, out) {
+            Ok(file) => Ok(Paper::File(out, file)),
+            Err(error) => Err(Fault::File(String::from_str(self.alloc, out)?, error)),
+        }
+    }
+
+    /// Writes a page to step through a script, line by line as each is played. Before that the script is played to its end, so that
+    /// nothing is written of one that is refused.
+    fn draw_steps<S: Screen>(&mut self, screen: &mut S, file: &str, out: &str) -> Result<(), Fault>
+        ensures whole { IfOk result (λ _. S.whole screen.old → S.whole screen.new) }
+    {
+        let alloc = self.alloc;
+        let mut kept = KeptLines::new(alloc, file);
+        self.play(screen, file, &mut kept)?;
+        let mut page = PageLines::new(alloc, self.paper(out)?);
+        page.begin(screen, file)?;
+        each_line(alloc, kept.text.as_slice(), screen, &mut page)
+    }
+
+    /// Draws the machine of a script, after its last line or after each, if the script is played to its end.
     fn draw<S: Screen>(
         &mut self,
         screen: &mut S,
         steps: bool,
         file: &str,
         out: &str,
-    ) -> Result<(), Fault> {
-        let mut drawn = DrawLines::new(self.alloc, file, steps)?;
+    ) -> Result<(), Fault>
+        ensures whole { IfOk result (λ _. S.whole screen.old → S.whole screen.new) }
+    {
+        if out == file && out != "-" {
+            let text = format!(in self.alloc;
+                "{out} is the script, and stays as it is; name another file after -o\n"
+            )?;
+            screen.err(text.as_str())?;
+            return Err(Fault::Told);
+        }
+        if steps {
+            return self.draw_steps(screen, file, out);
+        }
+        let mut drawn = DrawLines::new(self.alloc, file);
         self.play(screen, file, &mut drawn)?;
         self.write(screen, out, drawn.text.as_str())
     }
 
     /// Does what a command line says.
-    fn do_all<S: Screen>(&mut self, screen: &mut S, words: &CommandLine) -> Result<(), Fault> {
+    fn do_all<S: Screen>(&mut self, screen: &mut S, words: &CommandLine) -> Result<(), Fault>
+        ensures whole { IfOk result (λ _. S.whole screen.old → S.whole screen.new) }
+    {
         let (alloc, file) = (self.alloc, words.file());
         match words.task {
-            Task::Run => self.play(screen, file, &mut RunLines { alloc, file }),
-            Task::Check => self.check(screen, words.files.as_slice()),
+            Task::Run(telling) => {
+                let mut listener = RunLines::new(alloc, file, telling);
+                self.play(screen, file, &mut listener)
+            }
+            Task::Check(strict) => self.check(screen, strict, words.files.as_slice()),
             Task::Bare => self.bare(screen, words.files.as_slice()),
             Task::Trace(json) => self.play(screen, file, &mut TraceLines { alloc, file, json }),
             Task::Draw(steps) => self.draw(screen, steps, file, words.out.as_str()),
             Task::Show => self.play(screen, file, &mut ShowLines { alloc, file }),
             Task::Repl => {
-                let mut listener = ReplLines::new(alloc, screen)?;
+                let mut listener = ReplLines::new(alloc, self.files, screen)?;
                 self.play(screen, "-", &mut listener)
             }
             Task::Mmu(json) => self.give(screen, file, &mut AnswerLines { json }),
@@ -180,25 +258,38 @@ impl<F: Files, I: Read + Drop> Host<'_, F, I> {
     }
 }
 
-/// Does what a command line says, the program's name first, and tells on the screen why it ends early. Returns the exit status: 0; 1 if
-/// a script is refused, an answer differs, or the host fails; 2 if the command line is wrong.
+/// Tells why the program ends, and returns its status, which is not 0 if that fails.
+fn told<S: Screen>(alloc: Global, screen: &mut S, fault: &Fault) -> u8
+    ensures low { result ≤ 2 }
+    ensures whole { result ≡ 0 → S.whole screen.old → S.whole screen.new }
+{
+    match fault.tell(alloc, screen) {
+        Ok(()) => fault.status(),
+        // Printing fails too: only the exit status tells.
+        Err(_) => fault.status().max(1),
+    }
+}
+
+/// Does what a command line says, the program's name first, and tells on the screen why it ends early. Returns the exit status: 0, only
+/// if all that was to be printed was; 1 if a script is refused, an answer differs, or the host fails; 2 if the command line is wrong.
 pub fn do_words<F: Files, I: Read + Drop, S: Screen>(
     mut host: Host<'_, F, I>,
     screen: &mut S,
     words: &[String],
 ) -> u8
-    ensures { result ≤ 2 }
+    ensures low { result ≤ 2 }
+    ensures whole { result ≡ 0 → S.whole screen.old → S.whole screen.new }
 {
-    let done = match CommandLine::parse(host.alloc, words) {
-        Ok(words) => host.do_all(screen, &words),
-        Err(fault) => Err(fault),
+    let alloc = host.alloc;
+    let words = match CommandLine::parse(alloc, words) {
+        Ok(words) => words,
+        Err(fault) => return told(alloc, screen, &fault),
     };
-    match done {
+    match host.do_all(screen, &words) {
         Ok(()) => 0,
-        Err(fault) => {
-            // If printing fails too, only the exit status tells.
-            let _ = fault.tell(host.alloc, screen);
-            fault.status()
-        }
+        Err(fault) => match told(alloc, screen, &fault) {
+            0 => 1,
+            status => status,
+        },
     }
 }

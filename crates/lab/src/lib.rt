@@ -14,6 +14,7 @@ mod fault;
 mod lab;
 mod looks;
 mod mistakes;
+mod plain;
 mod play;
 mod reference;
 mod repl;

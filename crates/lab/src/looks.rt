@@ -4,13 +4,15 @@ ghost use Rattle.hart_machine.specs.BufferEntries.{IsInWorld};
 ghost use Rattle.process_model.specs.World.{World};
 
 use hart_machine::Machine;
-use line_traces::{RegionLine, buffer_of, frame_page};
+use line_traces::{buffer_of, frame_page};
+use machine_views::RegionLine;
 use script_reader::{first_field, number};
 use std::alloc::AllocError;
 use walk_lines::{TableLine, TableTitle, table_entries};
 
 /// What is told of a question before a machine was booted.
-pub const NO_MACHINE: &str = "this needs a machine: \"boot\" must stand before it";
+pub const NO_MACHINE: &str =
+    "this needs a machine: a line such as \"boot 1 64 4 full\" must stand before it";
 
 /// A question about the machine.
 #[derive(Clone, Copy, PartialEq, Eq, Debug)]

@@ -1,11 +1,13 @@
 // Why a script is refused, told on standard error as `FILE:LINE:COLUMN: TEXT`.
 
+ghost use Rattle.std.specs.Prelude.{IfOk};
 ghost use Rattle.line_player.specs.Answers.{HasPlayed};
 ghost use Rattle.line_player.specs.PlayedLines.{Played};
 
 use crate::fault::Fault;
 use crate::screen::Screen;
-use fault_texts::{Mistake, explain, explain_end};
+use fault_texts::{explain, explain_end};
+use line_fields::Mistake;
 use line_player::LinePlayer;
 use script_language::Cause;
 use script_reader::trim_return;
@@ -44,7 +46,9 @@ pub fn tell_refused<S: Screen>(
     player: &LinePlayer,
     line: &[u8],
     cause: Cause,
-) -> Result<(), Fault> {
+) -> Result<(), Fault>
+    ensures whole { IfOk result (λ _. S.whole screen.old → S.whole screen.new) }
+{
     let mistake = explain(alloc, player.draft(), trim_return(line), cause)?;
     screen.err(told(alloc, place, &mistake)?.as_str())?;
     Err(Fault::Told)
@@ -59,6 +63,7 @@ pub fn tell_end<S: Screen>(
     lines: u64,
 ) -> Result<(), Fault>
     requires played { (s : Played) × HasPlayed player.now s }
+    ensures whole { IfOk result (λ _. S.whole screen.old → S.whole screen.new) }
 {
     if player.machine().is_some() {
         return Ok(());

@@ -5,8 +5,10 @@ ghost use Rattle.line_player.specs.Answers.{HasPlayed};
 ghost use Rattle.line_player.specs.PlayedLines.{Played};
 
 use crate::fault::Fault;
+use crate::plain::plain_line;
 use crate::screen::Screen;
 use line_player::LinePlayer;
+use script_language::LONGEST_LINE;
 use std::alloc::Global;
 use std::io::{BufRead, BufReader, Read};
 
@@ -21,7 +23,8 @@ pub trait Listener {
         line: &[u8],
     ) -> Result<(), Fault>
         requires played { (s : Played) × HasPlayed player.old s }
-        ensures played { IfOk result (λ _. (s : Played) × HasPlayed player.new s) };
+        ensures played { IfOk result (λ _. (s : Played) × HasPlayed player.new s) }
+        ensures whole { IfOk result (λ _. S.whole screen.old → S.whole screen.new) };
 
     /// Does what is to be done after the last line; `lines` is how many there were.
     fn end<S: Screen>(
@@ -30,7 +33,13 @@ pub trait Listener {
         player: &LinePlayer,
         lines: u64,
     ) -> Result<(), Fault>
-        requires played { (s : Played) × HasPlayed player.now s };
+        requires played { (s : Played) × HasPlayed player.now s }
+        ensures whole { IfOk result (λ _. S.whole screen.old → S.whole screen.new) };
+
+    /// Returns whether no line more is to be read.
+    fn is_over(&self) -> bool {
+        false
+    }
 }
 
 /// Returns a line without its line feed.
@@ -41,7 +50,11 @@ pub fn without_feed(line: &[u8]) -> &[u8] {
     }
 }
 
-/// Reads the next line with its line feed, and returns how many bytes it has: 0 at the end.
+/// The most bytes that are read of one line: those of the longest line, a carriage return, a line feed, and one more.
+const LONGEST_READ: u64 = LONGEST_LINE as u64 + 3;
+
+/// Reads the next line with its line feed, and returns how many bytes it has: 0 at the end. Of a line that is too long, its first
+/// `LONGEST_READ` bytes.
 ///
 /// # Errors
 /// `Read`: the reader failed. `Memory`: the host is out of memory.
@@ -49,7 +62,8 @@ pub fn read_line<R: Read + Drop>(
     reader: &mut BufReader<R>,
     line: &mut Vec<u8>,
 ) -> Result<usize, Fault> {
-    reader.read_until(b'\n', line).map_err(Fault::of_reading)
+    let mut front = reader.by_ref().take(LONGEST_READ);
+    front.read_until(b'\n', line).map_err(Fault::of_reading)
 }
 
 /// Reads a script to its end and gives each of its lines to the listener, with a player that has taken no line at first.
@@ -61,18 +75,25 @@ pub fn each_line<R: Read + Drop, S: Screen, L: Listener>(
     reader: R,
     screen: &mut S,
     listener: &mut L,
-) -> Result<(), Fault> {
+) -> Result<(), Fault>
+    ensures whole { IfOk result (λ _. S.whole screen.old → S.whole screen.new) }
+{
     let mut player = LinePlayer::new(alloc)?;
     let mut reader = BufReader::new(alloc, reader)?;
     let mut line = Vec::new(alloc);
     let mut lines = 0;
     'lines: for number in 1..u64::MAX {
+        if listener.is_over() {
+            break;
+        }
         line.clear();
         if read_line(&mut reader, &mut line)? == 0 {
             break;
         }
         lines = number;
-        listener.line(screen, &mut player, number, without_feed(line.as_slice()))?;
+        let text = plain_line(alloc, without_feed(line.as_slice()))?;
+        listener.line(screen, &mut player, number, text.as_slice())?;
     }
-    listener.end(screen, &player, lines)
+    listener.end(screen, &player, lines)?;
+    Ok(())
 }

@@ -1,5 +1,5 @@
-// `ReplLines`: each line is answered at once. A faulty line is forgotten with its error; `?` tells the lines, `undo` takes the last
-// back, and questions about the machine are answered.
+// `ReplLines`: each line is answered at once. A faulty line is forgotten with its error; `?` and `help` tell the lines, `undo` takes
+// the last back, `save` writes those that were taken to a file, `quit` ends, and questions about the machine are answered.
 
 ghost use Rattle.std.specs.Prelude.{◌≡◌, ◌-◌, ◌<◌, IfOk, length, map, take};
 ghost use Rattle.line_player.specs.Answers.{HasPlayed};
@@ -10,25 +10,36 @@ use crate::fault::Fault;
 use crate::looks::{Asked, Look, NO_MACHINE, look_of, put_look};
 use crate::play::Listener;
 use crate::screen::Screen;
+use answer_texts::{Before, explain_answer};
 use fault_texts::{explain, field_names};
 use line_player::{LinePlayer, LineReply};
-use line_traces::image_note;
 use script_language::Cause;
-use script_reader::{Row, trim_return};
+use script_reader::{Row, first_field, trim_return};
 use std::alloc::{AllocError, Global};
+use std::fs;
+use std::rt::Files;
 
 /// What is printed, on standard error, when a line may be typed.
 const PROMPT: &str = "> ";
 
+/// What is printed, on standard error, before the first line may be typed.
+const BANNER: &str =
+    "Each line of a script is answered at once; ? tells the lines, quit or Ctrl-D ends.\n";
+
 /// What `?` tells of the lines that are no lines of a script.
-const OWN_LINES: &str = "  regions SLOT\n  vmprint SLOT\n  tlb HART\n  frames\n  undo\n  ?\n";
+const OWN_LINES: &str =
+    "  regions SLOT\n  vmprint SLOT\n  tlb HART\n  frames\n  undo\n  save FILE\n  help, ?\n  quit\n";
 
 /// Answers each line at once.
 #[derive(Drop)]
-pub struct ReplLines {
+pub struct ReplLines<'a, F: Files> {
     alloc: Global,
+    /// Where `save` writes.
+    files: &'a F,
     /// The lines that were taken, of which `undo` takes the last back.
     taken: Vec<Vec<u8>>,
+    /// Whether `quit` was typed.
+    over: bool,
 }
 
 /// Returns a player that has taken these lines, and no others.
@@ -45,21 +56,56 @@ fn replayed(alloc: Global, lines: &[Vec<u8>]) -> Result<LinePlayer, AllocError>
     Ok(player)
 }
 
-impl ReplLines {
+impl<'a, F: Files> ReplLines<'a, F> {
     /// Asks for the first line.
     ///
     /// # Errors
     /// `Io`: printing failed.
-    pub fn new<S: Screen>(alloc: Global, screen: &mut S) -> Result<ReplLines, Fault> {
+    pub fn new<S: Screen>(
+        alloc: Global,
+        files: &'a F,
+        screen: &mut S,
+    ) -> Result<ReplLines<'a, F>, Fault>
+        ensures whole { IfOk result (λ _. S.whole screen.old → S.whole screen.new) }
+    {
+        screen.err(BANNER)?;
         screen.err(PROMPT)?;
         Ok(ReplLines {
             alloc,
+            files,
             taken: Vec::new(alloc),
+            over: false,
         })
     }
 
+    /// Writes the lines that were taken to a new file, as a script.
+    fn save<S: Screen>(&self, screen: &mut S, name: &str) -> Result<(), Fault>
+        ensures whole { IfOk result (λ _. S.whole screen.old → S.whole screen.new) }
+    {
+        if name.is_empty() {
+            return screen.out("save FILE: the name of a new file is missing\n");
+        }
+        if fs::open(self.files, name).is_ok() {
+            return screen.out(format!(in self.alloc;
+                "{name} is there already, and stays as it is; name another file\n"
+            )?.as_str());
+        }
+        let mut text = Vec::new(self.alloc);
+        'lines: for line in self.taken.as_slice() {
+            text.extend_from_slice(line.as_slice())?;
+            text.push(b'\n').map_err(AllocError::from)?;
+        }
+        let count = self.taken.len();
+        match fs::write(self.files, name, text.as_slice()) {
+            Ok(()) => screen.out(format!(in self.alloc; "{count} lines are in {name}\n")?.as_str()),
+            Err(error) => screen.out(format!(in self.alloc; "{name}: {error}\n")?.as_str()),
+        }
+    }
+
     /// Prints the words of lines with their fields.
-    fn tell_lines<S: Screen>(&self, screen: &mut S) -> Result<(), Fault> {
+    fn tell_lines<S: Screen>(&self, screen: &mut S) -> Result<(), Fault>
+        ensures whole { IfOk result (λ _. S.whole screen.old → S.whole screen.new) }
+    {
         let mut text = String::new(self.alloc);
         for row in Row::all().as_slice() {
             let word = std::str::from_utf8(row.text).unwrap_or("?");
@@ -81,6 +127,7 @@ impl ReplLines {
         ensures undone { IfOk result (λ _. 0 < length self.old.taken.items →
             (self.new.taken.items ≡ take (length self.old.taken.items - 1) self.old.taken.items)
             × HasPlayed player.new (played_lines nothing_played (map (λ line. line.items) self.new.taken.items))) }
+        ensures whole { IfOk result (λ _. S.whole screen.old → S.whole screen.new) }
     {
         let Some(last) = self.taken.pop() else {
             return screen.out("there is no line to take back\n");
@@ -93,6 +140,7 @@ impl ReplLines {
     /// Prints the answer to a question about the machine.
     fn look<S: Screen>(&self, screen: &mut S, player: &LinePlayer, look: Look) -> Result<(), Fault>
         requires played { (s : Played) × HasPlayed player.now s }
+        ensures whole { IfOk result (λ _. S.whole screen.old → S.whole screen.new) }
     {
         let Some(machine) = player.machine() else {
             return screen.out(format!(in self.alloc; "{NO_MACHINE}\n")?.as_str());
@@ -109,7 +157,9 @@ impl ReplLines {
         player: &LinePlayer,
         line: &[u8],
         cause: Cause,
-    ) -> Result<(), Fault> {
+    ) -> Result<(), Fault>
+        ensures whole { IfOk result (λ _. S.whole screen.old → S.whole screen.new) }
+    {
         let mistake = explain(self.alloc, player.draft(), trim_return(line), cause)?;
         let text = mistake.text.as_str();
         let told = match mistake.column {
@@ -134,7 +184,9 @@ impl ReplLines {
     ) -> Result<(), Fault>
         requires played { (s : Played) × HasPlayed player.old s }
         ensures played { IfOk result (λ _. (s : Played) × HasPlayed player.new s) }
+        ensures whole { IfOk result (λ _. S.whole screen.old → S.whole screen.new) }
     {
+        let before = Before::line(self.alloc, player, line)?;
         match player.line(line)? {
             LineReply::Refused(cause) => self.tell(screen, player, line, cause),
             LineReply::Nothing => {
@@ -145,8 +197,8 @@ impl ReplLines {
                 self.keep(line)?;
                 let answer = std::str::from_utf8(player.answer()).unwrap_or("?");
                 screen.out(format!(in self.alloc; "{answer}\n")?.as_str())?;
-                match image_note(self.alloc, player, line)? {
-                    Some(note) => screen.out(format!(in self.alloc; "{note}\n")?.as_str()),
+                match explain_answer(self.alloc, player, &before, line)? {
+                    Some(note) => screen.out(format!(in self.alloc; "  {note}\n")?.as_str()),
                     None => Ok(()),
                 }
             }
@@ -162,10 +214,22 @@ impl ReplLines {
     ) -> Result<(), Fault>
         requires played { (s : Played) × HasPlayed player.old s }
         ensures played { IfOk result (λ _. (s : Played) × HasPlayed player.new s) }
+        ensures whole { IfOk result (λ _. S.whole screen.old → S.whole screen.new) }
     {
+        if let Some((b"save", name)) = first_field(line) {
+            let name = std::str::from_utf8(name.trim_ascii()).unwrap_or("");
+            return self.save(screen, name);
+        }
         match line.trim_ascii() {
-            b"?" => self.tell_lines(screen),
+            b"?" | b"help" => self.tell_lines(screen),
             b"undo" => self.undo(screen, player),
+            b"quit" => {
+                self.over = true;
+                Ok(())
+            }
+            b"exit" => screen.out(
+                "`exit HART STATUS` ends a process; `quit` or Ctrl-D ends `repl`\n",
+            ),
             _ => match look_of(line) {
                 Asked::No => self.play(screen, player, line),
                 Asked::Yes(look) => self.look(screen, player, look),
@@ -177,7 +241,7 @@ impl ReplLines {
     }
 }
 
-impl Listener for ReplLines {
+impl<F: Files> Listener for ReplLines<'_, F> {
     fn line<S: Screen>(
         &mut self,
         screen: &mut S,
@@ -186,7 +250,14 @@ impl Listener for ReplLines {
         line: &[u8],
     ) -> Result<(), Fault> {
         self.answer(screen, player, split(line).line)?;
+        if self.over {
+            return Ok(());
+        }
         screen.err(PROMPT)
+    }
+
+    fn is_over(&self) -> bool {
+        self.over
     }
 
     fn end<S: Screen>(
@@ -195,6 +266,9 @@ impl Listener for ReplLines {
         _player: &LinePlayer,
         _lines: u64,
     ) -> Result<(), Fault> {
+        if self.over {
+            return Ok(());
+        }
         screen.err("\n")
     }
 }

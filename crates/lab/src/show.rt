@@ -9,7 +9,7 @@ use crate::fault::Fault;
 use crate::looks::{Asked, Look, NO_MACHINE, look_of, put_look};
 use crate::mistakes::{Place, tell_end};
 use crate::play::Listener;
-use crate::run::run_line;
+use crate::run::{ANSWERS_ALONE, run_line};
 use crate::screen::Screen;
 use line_player::LinePlayer;
 use std::alloc::Global;
@@ -23,7 +23,9 @@ pub struct ShowLines<'a> {
 
 impl ShowLines<'_> {
     /// Tells what is wrong with a line that asks a question, and returns `Told`.
-    fn tell<S: Screen>(&self, screen: &mut S, place: Place<'_>, text: &str) -> Result<(), Fault> {
+    fn tell<S: Screen>(&self, screen: &mut S, place: Place<'_>, text: &str) -> Result<(), Fault>
+        ensures whole { IfOk result (λ _. S.whole screen.old → S.whole screen.new) }
+    {
         screen.err(format!(in self.alloc; "{place}:1: {text}\n")?.as_str())?;
         Err(Fault::Told)
     }
@@ -38,11 +40,13 @@ impl ShowLines<'_> {
         look: Look,
     ) -> Result<(), Fault>
         requires played { (s : Played) × HasPlayed player.now s }
+        ensures whole { IfOk result (λ _. S.whole screen.old → S.whole screen.new) }
     {
         let Some(machine) = player.machine() else {
             return self.tell(screen, place, NO_MACHINE);
         };
-        let line = std::str::from_utf8(line).unwrap_or("?");
+        let line = String::from_utf8_lossy(self.alloc, line)?;
+        let line = line.as_str();
         let mut text = format!(in self.alloc; "{line}\n")?;
         put_look(&mut text, machine, look)?;
         screen.out(text.as_str())
@@ -63,7 +67,14 @@ impl Listener for ShowLines<'_> {
             line: number,
         };
         match look_of(bare) {
-            Asked::No => run_line(self.alloc, screen, place, player, bare),
+            Asked::No => run_line(
+                self.alloc,
+                screen,
+                place,
+                player,
+                split(line),
+                ANSWERS_ALONE,
+            ),
             Asked::Wrong(text) => self.tell(screen, place, text),
             Asked::Yes(look) => self.look(screen, place, player, bare, look),
         }

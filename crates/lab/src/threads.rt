@@ -1,6 +1,8 @@
 // Files for threads, which `check` takes too: `begins_for_threads` tells one from a script, and `judge` tells its first fault, or
 // warns if its processes may fork for ever.
 
+ghost use Rattle.std.specs.Prelude.{IfOk};
+
 use crate::fault::Fault;
 use crate::mistakes::Place;
 use crate::play::{read_line, without_feed};
@@ -69,7 +71,9 @@ fn tell_fault<S: Screen>(
     file: &str,
     line: u64,
     cause: Cause,
-) -> Result<(), Fault> {
+) -> Result<(), Fault>
+    ensures whole { IfOk result (λ _. S.whole screen.old → S.whole screen.new) }
+{
     let place = Place { file, line };
     let text = format!(in alloc;
         "{place}: refused, {cause}: see \"Files for threads\" in docs/SCRIPTS.md\n"
@@ -88,7 +92,9 @@ pub fn judge<S: Screen>(
     screen: &mut S,
     file: &str,
     bytes: &[u8],
-) -> Result<(), Fault> {
+) -> Result<(), Fault>
+    ensures whole { IfOk result (λ _. S.whole screen.old → S.whole screen.new) }
+{
     let script = match ThreadScript::read(alloc, bytes) {
         Ok(script) => script,
         Err(ScriptError::Memory) => return Err(Fault::Memory),

@@ -24,7 +24,9 @@ pub struct TraceLines<'a> {
 
 impl TraceLines<'_> {
     /// Prints what happened on a line.
-    fn print<S: Screen>(&self, screen: &mut S, trace: &LineTrace) -> Result<(), Fault> {
+    fn print<S: Screen>(&self, screen: &mut S, trace: &LineTrace) -> Result<(), Fault>
+        ensures whole { IfOk result (λ _. S.whole screen.old → S.whole screen.new) }
+    {
         let mut text = String::new(self.alloc);
         if self.json {
             text.push_str(serde_json::to_string(self.alloc, trace)?.as_str())?;

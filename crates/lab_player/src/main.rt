@@ -19,8 +19,19 @@ struct Record {
 }
 
 impl Screen for Record {
+    ghost use Rattle.std.specs.Prelude.{⊤};
+
+    ghost whole = { λ screen. ⊤ };
+
     fn out(&mut self, text: &str) -> Result<(), Fault> {
         self.out.push_str(text)?;
+        Ok(())
+    }
+
+    /// Records what is no text as U+FFFD.
+    fn out_bytes(&mut self, bytes: &[u8]) -> Result<(), Fault> {
+        let text = String::from_utf8_lossy(*self.out.allocator(), bytes)?;
+        self.out.push_str(text.as_str())?;
         Ok(())
     }
 

@@ -30,11 +30,11 @@ pub record HasPlayed (x : LinePlayer) (s : model.Played) : Type 0 where
   -- each answer fits
   pub room : longest_text ≤ vec_capacity x.answer
 
--- the reply, with the text that the player has, is the model's
+-- the reply, with the text that the player has, is the model's; without a text in the model the player has none
 abbrev pub IsReply : LineReply → List ℕ → model.Reply → Type 0
-IsReply reply.Nothing text Nothing = Unit {0}
+IsReply reply.Nothing text Nothing = text ≡ []
 IsReply reply.Text text (Text t) = text ≡ t
-IsReply (reply.Refused c) text (Refused d) = c ≡ d
+IsReply (reply.Refused c) text (Refused d) = (c ≡ d) × (text ≡ [])
 IsReply _ text _ = ⊥
 
 pub record Answers (x : LinePlayer) (r : LineReply) (a : Answer) : Type 0 where

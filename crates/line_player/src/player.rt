@@ -1,7 +1,7 @@
 // `LinePlayer`, a struct: what the lines of a script so far declared, and the machine once one was booted; and `LineReply`, an enum, how a
 // line was answered.
 
-ghost use Rattle.std.specs.Prelude.{◌≡◌, [], IfOk, IfSome, OnErr, Some};
+ghost use Rattle.std.specs.Prelude.{◌≡◌, [], IfOk, IfSome, is_some, OnErr, Some};
 ghost use Rattle.hart_machine.specs.BufferEntries.{IsInWorld};
 ghost use Rattle.process_model.specs.World.{World};
 ghost use Rattle.script_language.specs.declared.script.Item.TheVariants as item;
@@ -64,10 +64,11 @@ impl LinePlayer {
         })
     }
 
-    /// Returns the machine, once one was booted.
+    /// Returns the machine, once one was booted; `None` before that.
     #[tactic(auto, using(crate::proofs::Still::in_world))]
     pub fn machine(&self) -> Option<&Machine>
         requires played { (s : played.Played) × HasPlayed self.now s }
+        ensures booted { (s : played.Played) → HasPlayed self.now s → is_some result ≡ is_some s.world }
         ensures world { (s : played.Played) → HasPlayed self.now s → IfSome result (λ m. (w : World) × (s.world ≡ Some w) × IsInWorld m.now w) }
         ensures some { IfSome result (λ m. (w : World) × IsInWorld m.now w) }
     {

@@ -1,9 +1,13 @@
 // `AccessLine`: a user access with the region that grants it or the rule that denies it; and `reason`, why an access faults
 // that a region grants.
 
-use crate::regions::RegionLine;
+ghost use Rattle.std.specs.Prelude.{◌≡◌, ℕ, Some, is_none};
+ghost use Rattle.sv39_entry.specs.Word.{access_allowed};
+ghost use Rattle.line_traces.specs.Reasons.{IsGrantedLeaf, is_served};
+
 use crate::walks::WalkLine;
 use hart_machine::Machine;
+use machine_views::{RegionLine, access_name};
 use serde::Serialize;
 use std::fmt;
 use sv39_entry::{Access, Entry, EntryFlags, Kind, Rule, Va};
@@ -31,15 +35,6 @@ pub struct AccessLine {
     /// The first rule that denies the access; none if the region grants it.
     #[serde(skip_serializing_if = "Option::is_none")]
     pub rule: Option<RuleLine>,
-}
-
-/// Returns the name of an access, as a line begins.
-pub fn access_name(access: Access) -> &'static str {
-    match access {
-        Access::Fetch => "fetch",
-        Access::Load => "load",
-        Access::Store => "store",
-    }
 }
 
 impl AccessLine {
@@ -112,14 +107,19 @@ impl fmt::Display for AccessLine {
 }
 
 /// Returns why an access faults that the regions grant: by the word of the leaf that it uses, and by how many references the
-/// leaf's frame has. `None` if the leaf permits it.
-pub fn reason(access: Access, leaf: Option<u64>, references: Option<u16>) -> Option<&'static str> {
+/// leaf's frame has. `None` exactly if the leaf permits it.
+#[tactic(auto, using(crate::proofs::Reasons::is_cow, crate::proofs::Reasons::is_dirty, crate::proofs::Reasons::lets_granted))]
+pub fn reason(access: Access, leaf: Option<u64>, references: Option<u16>) -> Option<&'static str>
+    ensures served { is_none result ≡ is_served access leaf }
+    ensures permitted { (word : ℕ) → leaf ≡ Some word → IsGrantedLeaf access word → is_none result ≡ access_allowed access word }
+{
     let Some(word) = leaf else {
         return Some("the page has no leaf: to serve the fault is to give it a frame");
     };
     let entry = Entry::from_word(word);
-    if access != Access::Store {
-        return None;
+    match access {
+        Access::Fetch | Access::Load => return None,
+        Access::Store => {}
     }
     if entry.has(EntryFlags::COW) {
         return Some(match references {

@@ -6,8 +6,8 @@ ghost use Rattle.process_model.specs.World.{World};
 use crate::buffers::buffer_of;
 use crate::frames::{FrameChanges, changed_frames};
 use crate::leaves::{LeafChange, changed_leaves, leaves_of};
-use crate::places::HartPlace;
 use hart_machine::Machine;
+use machine_views::HartPlace;
 use serde::Serialize;
 use std::alloc::{AllocError, Global};
 use walk_lines::{BufferLine, TableEntry};
@@ -122,7 +122,12 @@ impl Snapshot {
             return Ok(Vec::new(alloc));
         }
         let leaves = leaves_at(alloc, machine, now)?;
-        changed_leaves(alloc, machine, self.leaves.as_slice(), leaves.as_slice())
+        changed_leaves(
+            alloc,
+            machine.scheme(),
+            self.leaves.as_slice(),
+            leaves.as_slice(),
+        )
     }
 
     /// Returns the entries of the hart's buffer, if they are others.

@@ -1,7 +1,8 @@
 // `FrameChanges`: which frames a line took and gave back, and of which it changed the references.
 
-ghost use Rattle.std.specs.Prelude.{◌≡◌, ◌↔◌, ◌<◌, ◌^◌, IfSome, IsSome};
+ghost use Rattle.std.specs.Prelude.{◌≡◌, ◌↔◌, ◌<◌, ◌^◌, ◌++◌, [], ◌∷◌, IfOk, IfSome, IsSome, OnOk, filter, map};
 ghost use Rattle.sv39_entry.specs.Frame.{ppn_of};
+ghost use Rattle.line_traces.specs.Frames.{given_back_pages, is_given_back, is_recounted, is_taken, page_of, recounts, taken_pages};
 
 use process_model::Report;
 use serde::Serialize;
@@ -45,16 +46,23 @@ pub fn frame_page(number: usize) -> Option<Hex>
     }
 }
 
-/// Returns what a line changed of the frames, by the reference counts of all frames before and after it.
+/// Returns what a line changed of the frames, by the reference counts of all frames before and after it: of the first 2^16 that
+/// both lists have, each list in ascending order.
 ///
 /// # Errors
 /// `AllocError`: the host is out of memory.
+#[tactic(auto, using(crate::proofs::FrameSteps::counts_none))]
 pub fn changed_frames(
     alloc: Global,
     before: &[u16],
     after: &[u16],
     report: Report,
-) -> Result<FrameChanges, AllocError> {
+) -> Result<FrameChanges, AllocError>
+    ensures taken { IfOk result (λ x. x.taken.items ≡ taken_pages before.now after.now) }
+    ensures given_back { IfOk result (λ x. x.given_back.items ≡ given_back_pages before.now after.now) }
+    ensures recounted { IfOk result (λ x. x.recounted.items ≡ recounts before.now after.now) }
+    ensures accounts { IfOk result (λ x. (x.free ≡ report.free) × (x.held ≡ report.held) × (x.shared ≡ report.shared)) }
+{
     let mut changes = FrameChanges {
         taken: Vec::new(alloc),
         given_back: Vec::new(alloc),
@@ -63,21 +71,25 @@ pub fn changed_frames(
         held: report.held,
         shared: report.shared,
     };
-    for (number, (old, new)) in before.iter().zip(after.iter()).enumerate() {
-        if let Some(frame) = frame_page(number) {
-            changes.add(Recount {
-                frame,
-                before: *old,
-                after: *new,
-            })?;
-        }
+    let count = before.len().min(after.len()).min(1 << 16);
+    'frames: for number in 0..count {
+        changes.add(Recount {
+            frame: Hex(FrameNo(number as u16).ppn()),
+            before: before[number],
+            after: after[number],
+        })?;
     }
     Ok(changes)
 }
 
 impl FrameChanges {
     /// Adds a frame to the list to which it belongs.
-    fn add(&mut self, it: Recount) -> Result<(), AllocError> {
+    fn add(&mut self, it: Recount) -> Result<(), AllocError>
+        ensures taken { OnOk result (self.new.taken.items ≡ self.old.taken.items ++ map page_of (filter is_taken (it ∷ []))) }
+        ensures given_back { OnOk result (self.new.given_back.items ≡ self.old.given_back.items ++ map page_of (filter is_given_back (it ∷ []))) }
+        ensures recounted { OnOk result (self.new.recounted.items ≡ self.old.recounted.items ++ filter is_recounted (it ∷ [])) }
+        ensures accounts { (self.new.free ≡ self.old.free) × (self.new.held ≡ self.old.held) × (self.new.shared ≡ self.old.shared) }
+    {
         match (it.before, it.after) {
             (0, 0) => {}
             (0, _) => self.taken.push(it.frame)?,

@@ -1,14 +1,16 @@
 // `LeafChange`: a leaf that a line changed; `leaves_of`, the leaves of a process; and `changed_leaves`, those that
 // differ.
 
+ghost use Rattle.std.specs.Prelude.{◌≡◌, IfOk};
 ghost use Rattle.hart_machine.specs.BufferEntries.{IsInWorld};
 ghost use Rattle.process_model.specs.World.{World};
+ghost use Rattle.line_traces.specs.Leaves.{come, gone, is_same, leaf_at, leaf_changes};
 
 use hart_machine::Machine;
 use serde::Serialize;
 use std::alloc::{AllocError, Global};
 use std::fmt;
-use sv39_entry::{Entry, Kind};
+use sv39_entry::{Entry, Kind, Scheme};
 use walk_lines::{Hex, LeafLine, TableEntry, table_entries};
 
 /// A leaf that a line changed: what it was and what it is; none if there was none, or is none.
@@ -46,50 +48,81 @@ pub fn leaves_of(
 }
 
 /// Returns the leaf of a page in a list of leaves; `None` if it has none.
-fn leaf_at(leaves: &[TableEntry], page: u64) -> Option<LeafLine> {
-    leaves
-        .iter()
-        .find(|leaf| leaf.page == page)
-        .map(|leaf| LeafLine::of(leaf.level, leaf.word))
+fn leaf_at(leaves: &[TableEntry], page: u64) -> Option<TableEntry>
+    ensures { result ≡ leaf_at leaves.now page }
+{
+    leaves.iter().copied().find(|leaf| leaf.page == page)
 }
 
-/// Adds the leaves of one list that the other has otherwise; `lost` says that they are those from before the line, of which only the
-/// ones that are gone are added.
-fn add_changes(
-    changes: &mut Vec<LeafChange>,
-    machine: &Machine,
-    leaves: &[TableEntry],
-    others: &[TableEntry],
-    lost: bool,
-) -> Result<(), AllocError> {
-    for leaf in leaves {
-        let this = Some(LeafLine::of(leaf.level, leaf.word));
-        let other = leaf_at(others, leaf.page);
-        if other == this || (lost && other.is_some()) {
-            continue;
-        }
-        changes.push(LeafChange {
-            address: Hex(leaf.first_address(machine.scheme()).0),
-            before: if lost { this } else { other },
-            after: if lost { other } else { this },
-        })?;
+/// Whether there is a leaf, of the same level and with the same word as another.
+fn is_same(other: Option<TableEntry>, leaf: TableEntry) -> bool
+    ensures { result ≡ is_same other leaf }
+{
+    match other {
+        Some(other) => other.level == leaf.level && other.word == leaf.word,
+        None => false,
     }
-    Ok(())
 }
 
-/// Returns the leaves that differ between two lists of leaves, those before a line and those after it.
+/// Returns the change of the page of a leaf from before a line; `None` if the page has a leaf after it.
+#[tactic(auto, unfolding(crate::specs::Leaves::gone))]
+fn gone(scheme: Scheme, after: &[TableEntry], leaf: TableEntry) -> Option<LeafChange>
+    ensures { result ≡ gone scheme after.now leaf }
+{
+    match leaf_at(after, leaf.page) {
+        Some(_) => None,
+        None => Some(LeafChange {
+            address: Hex(leaf.first_address(scheme).0),
+            before: Some(LeafLine::of(leaf.level, leaf.word)),
+            after: None,
+        }),
+    }
+}
+
+/// Returns the change of the page of a leaf from after a line; `None` if the page had the same leaf before it.
+#[tactic(auto, unfolding(crate::specs::Leaves::come))]
+fn come(scheme: Scheme, before: &[TableEntry], leaf: TableEntry) -> Option<LeafChange>
+    ensures { result ≡ come scheme before.now leaf }
+{
+    let old = leaf_at(before, leaf.page);
+    if is_same(old, leaf) {
+        return None;
+    }
+    let before = match old {
+        Some(old) => Some(LeafLine::of(old.level, old.word)),
+        None => None,
+    };
+    Some(LeafChange {
+        address: Hex(leaf.first_address(scheme).0),
+        before,
+        after: Some(LeafLine::of(leaf.level, leaf.word)),
+    })
+}
+
+/// Returns the leaves that differ between two lists of leaves, those before a line and those after it: first the leaves that are
+/// gone, then those that came or are others.
 ///
 /// # Errors
 /// `AllocError`: the host is out of memory.
 pub fn changed_leaves(
     alloc: Global,
-    machine: &Machine,
+    scheme: Scheme,
     before: &[TableEntry],
     after: &[TableEntry],
-) -> Result<Vec<LeafChange>, AllocError> {
+) -> Result<Vec<LeafChange>, AllocError>
+    ensures { IfOk result (λ changes. changes.items ≡ leaf_changes scheme before.now after.now) }
+{
     let mut changes = Vec::new(alloc);
-    add_changes(&mut changes, machine, before, after, true)?;
-    add_changes(&mut changes, machine, after, before, false)?;
+    'lost: for leaf in before {
+        if let Some(change) = gone(scheme, after, *leaf) {
+            changes.push(change)?;
+        }
+    }
+    'found: for leaf in after {
+        if let Some(change) = come(scheme, before, *leaf) {
+            changes.push(change)?;
+        }
+    }
     Ok(changes)
 }
 

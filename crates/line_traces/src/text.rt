@@ -65,9 +65,9 @@ fn put_leaves(out: &mut String, leaves: &[LeafChange]) -> Result<(), AllocError>
 /// Puts the entries of a buffer, one a line.
 fn put_buffer(out: &mut String, hart: usize, entries: &[BufferLine]) -> Result<(), AllocError> {
     if entries.is_empty() {
-        return writeln!(out, "        buffer of hart {hart}: empty");
+        return writeln!(out, "        TLB of hart {hart}: empty");
     }
-    writeln!(out, "        buffer of hart {hart}:")?;
+    writeln!(out, "        TLB of hart {hart}:")?;
     for entry in entries {
         writeln!(out, "          {entry}")?;
     }

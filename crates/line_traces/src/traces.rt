@@ -7,12 +7,12 @@ ghost use Rattle.line_player.specs.PlayedLines.{next_answer, Played};
 ghost use Rattle.process_model.specs.World.{World};
 
 use crate::changes::{Changes, Snapshot};
-use crate::notes::image_note;
-use crate::places::HartPlace;
 use crate::request_traces::RequestTrace;
 use crate::requests::{hart_of, request_of};
+use answer_texts::{Before as SeenBefore, explain_answer};
 use hart_machine::Machine;
 use line_player::{LinePlayer, LineReply};
+use machine_views::HartPlace;
 use script_language::{Command, Item};
 use script_reader::{LineFault, line_item, trim_return};
 use serde::Serialize;
@@ -37,7 +37,7 @@ pub struct LineTrace {
     /// Its access or its fill, if it makes one and is not refused.
     #[serde(skip_serializing_if = "Option::is_none")]
     pub request: Option<RequestTrace>,
-    /// Which check its image fails, if it is refused for that.
+    /// Why it was refused, its process was ended or a copy stopped, and which line would be right.
     #[serde(skip_serializing_if = "Option::is_none")]
     pub note: Option<String>,
     /// What is other after the line, if it is a step and there is a machine.
@@ -167,6 +167,21 @@ fn look_after(
     }
 }
 
+/// Returns why a line was answered otherwise than by plain success; of a fault the request tells that.
+fn note_of(
+    alloc: Global,
+    player: &LinePlayer,
+    before: &SeenBefore,
+    line: &[u8],
+) -> Result<Option<String>, AllocError>
+    requires played { (s : Played) × HasPlayed player.now s }
+{
+    if player.answer().starts_with(b"fault") {
+        return Ok(None);
+    }
+    explain_answer(alloc, player, before, line)
+}
+
 /// Plays the next line, without its end, and returns what happens on it; `number` is that of the line. What happens is that of
 /// `LinePlayer::line`.
 ///
@@ -184,6 +199,7 @@ pub fn trace_line(
     ensures answered { IfOk result (λ trace. (s : Played) → HasPlayed player.old s → Answers player.new trace.reply (next_answer s line.now)) }
     ensures number { IfOk result (λ trace. trace.line ≡ number) }
 {
+    let seen_before = SeenBefore::line(alloc, player, line)?;
     let before = look_before(alloc, player, line)?;
     let reply = player.line(line)?;
     let seen = look_after(alloc, player, reply, before)?;
@@ -194,7 +210,7 @@ pub fn trace_line(
         reply,
         before: seen.before,
         request: seen.request,
-        note: image_note(alloc, player, line)?,
+        note: note_of(alloc, player, &seen_before, line)?,
         changes: seen.changes,
     })
 }

@@ -4,7 +4,7 @@
 ghost use Rattle.mmu_lines.specs.Requests.{IsError};
 
 use crate::outcomes::OutcomeLine;
-use fault_texts::Mistake;
+use line_fields::Mistake;
 use serde::Serialize;
 use std::alloc::AllocError;
 use std::fmt;

@@ -1,6 +1,7 @@
 // `MmuPlayer`: a struct, a reference MMU that answers lines.
 
-ghost use Rattle.std.specs.Prelude.{◌≡◌, IfOk, MatchOption, map};
+ghost use Rattle.std.specs.Prelude.{◌≡◌, ℕ, [], IfOk, MatchOption, None, map};
+ghost use Rattle.mmu.specs.Sparse.{word_of};
 ghost use Rattle.mmu_lines.specs.Lines.{IsNothing};
 ghost use Rattle.mmu_lines.specs.Outcomes.{outcome_line};
 ghost use Rattle.mmu_lines.specs.Requests.{IsAnswer, IsDone, numbered_line};
@@ -28,7 +29,11 @@ pub struct MmuPlayer {
 
 impl MmuPlayer {
     /// Returns a player without memory, with satp 0 (Bare) and an empty TLB.
-    pub fn new(alloc: Global) -> MmuPlayer {
+    pub fn new(alloc: Global) -> MmuPlayer
+        ensures memory { (n : ℕ) → word_of result.unit.memory n ≡ None }
+        ensures satp { result.unit.satp ≡ 0 }
+        ensures buffer { result.unit.buffer ≡ [] }
+    {
         MmuPlayer {
             alloc,
             unit: Mmu::new(alloc),

@@ -11,7 +11,7 @@ ghost use Rattle.sv39_entry.specs.declared.access.Mode.{Mode};
 
 use crate::line_word::{ALL, Word};
 use crate::requests::Request;
-use fault_texts::{Mistake, Place, field_at, field_count, quoted, wrong_number};
+use line_fields::{Mistake, Place, field_at, field_count, quoted, wrong_number};
 use mmu::Width;
 use script_reader::number;
 use std::alloc::{AllocError, Global};

@@ -5,7 +5,8 @@ ghost use Rattle.process_model.specs.World.{World};
 
 use crate::cells::{SPACE, put_row};
 use hart_machine::Machine;
-use line_traces::{HartPlace, buffer_of};
+use line_traces::buffer_of;
+use machine_views::HartPlace;
 use std::alloc::AllocError;
 
 /// Puts where a hart is, and its buffer, and returns the height below them.
@@ -21,7 +22,7 @@ pub fn put_hart(out: &mut String, machine: &Machine, hart: usize, y: u64) -> Res
     let mut y = put_row(out, y, "head", key.as_str(), text.as_str())?;
     let entries = buffer_of(alloc, machine, hart)?;
     if entries.is_empty() {
-        y = put_row(out, y, "folded", "", "buffer (TLB): empty")?;
+        y = put_row(out, y, "folded", "", "TLB: empty")?;
     }
     for entry in entries.as_slice() {
         let number = entry.number;

@@ -2,6 +2,7 @@
 #![tactic(auto)]
 
 use lab::{Fault, Host, Screen, do_words};
+use std::io::Write;
 use std::process::ExitCode;
 use std::{env, io};
 
@@ -12,8 +13,17 @@ struct Console<'a> {
 }
 
 impl Screen for Console<'_> {
+    ghost use Rattle.std.specs.Prelude.{⊤};
+
+    // what the system prints is its own
+    ghost whole = { λ console. ⊤ };
+
     fn out(&mut self, text: &str) -> Result<(), Fault> {
         print!(self.rt; "{text}").map_err(Fault::Io)
+    }
+
+    fn out_bytes(&mut self, bytes: &[u8]) -> Result<(), Fault> {
+        io::writer(self.rt).write_all(bytes).map_err(Fault::Io)
     }
 
     fn err(&mut self, text: &str) -> Result<(), Fault> {

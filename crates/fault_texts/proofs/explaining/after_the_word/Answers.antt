@@ -4,7 +4,7 @@ use Rattle.script_language.specs.Script.{in_order}
 use Rattle.script_language.specs.declared.script.Cause.TheVariants as cause
 use Rattle.script_reader.specs.Rows.{seen}
 use Rattle.fault_texts.proofs.Causes.{wrong_number_of_fields}
-use Rattle.fault_texts.proofs.Ends.{end_after}
+use Rattle.line_fields.proofs.Ends.{end_after}
 use Rattle.fault_texts.proofs.Found.{none_if}
 use Rattle.fault_texts.proofs.Refusals.{found_wrong, wrong_order, wrong_count, wrong_number, wrong_field, wrong_limits, no_room}
 use Rattle.fault_texts.proofs.Rooms.{room_for}

@@ -3,7 +3,7 @@ use Rattle.script_language.specs.Fields.{kinds_for}
 use Rattle.script_language.specs.Lines.{fields_of}
 use Rattle.script_reader.specs.Rows.{seen}
 use Rattle.fault_texts.proofs.Awaits.{awaits_next, next_kind, right_count}
-use Rattle.fault_texts.proofs.Ends.{end_after, end_of_end}
+use Rattle.line_fields.proofs.Ends.{end_after, end_of_end}
 use Rattle.fault_texts.proofs.field_forms.first_refused.Goals as goal
 
 pub fields-preserved : goal.fields-preserved

@@ -3,7 +3,7 @@ use Rattle.script_language.specs.Fields.{kinds_for, values_of}
 use Rattle.script_language.specs.Lines.{fields_of}
 use Rattle.script_reader.specs.Rows.{seen}
 use Rattle.fault_texts.specs.Causes.{OfField}
-use Rattle.fault_texts.specs.Columns.{IsEndOf}
+use Rattle.line_fields.specs.Columns.{IsEndOf}
 use Rattle.fault_texts.proofs.Awaits.{Awaits}
 use Rattle.fault_texts.proofs.field_forms.first_refused.Given as goal
 

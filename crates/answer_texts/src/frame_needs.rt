@@ -1,0 +1,81 @@
+// How many frames a line takes that was refused for want of frames: a start, an exec, a fork, the service of a fault.
+
+ghost use Rattle.hart_machine.specs.BufferEntries.{IsInWorld};
+ghost use Rattle.process_model.specs.World.{World};
+
+use audit_player::lend;
+use exec_segments::{Image, start_frames};
+use hart_machine::Machine;
+use script_language::OwnedImage;
+use std::alloc::{AllocError, Global};
+use sv39_entry::{Entry, Kind, Scheme, Va};
+use walk_lines::{TableEntry, table_entries, walk_entries};
+
+/// Returns how many frames the service of a fault at an address takes, of the process in a slot: one for the page, and one for each
+/// page table that is missing on the way to it.
+pub fn service_need(machine: &Machine, slot: usize, va: Va) -> usize
+    requires world { (w : World) × IsInWorld machine.now w }
+{
+    let Some(root) = machine.root(slot) else {
+        return 1;
+    };
+    let mut words = machine.words();
+    let entries = walk_entries(&mut words, machine.scheme(), root.ppn(), va);
+    let Some(last) = entries.as_slice().last() else {
+        return 1;
+    };
+    match last.word.map(|word| Entry::from_word(word).kind()) {
+        Some(Kind::Invalid) => (last.level as usize).saturating_add(1),
+        _ => 1,
+    }
+}
+
+/// Returns how many frames a start of an image takes; 0 if the image is bad.
+pub fn start_need(scheme: Scheme, image: &OwnedImage) -> usize {
+    match Image::judged(scheme, lend(image)) {
+        Ok(image) => start_frames(&image),
+        Err(_) => 0,
+    }
+}
+
+/// Returns how many page tables of a level above 0, below the root, have a leaf below them.
+fn tables_with_leaves(entries: &[TableEntry], pages: u64) -> usize {
+    let mut count: usize = 0;
+    let mut last = None;
+    'entries: for entry in entries {
+        let table = entry.page.checked_div(pages);
+        if entry.level == 0 && table != last {
+            count = count.saturating_add(1);
+            last = table;
+        }
+    }
+    count
+}
+
+/// Returns how many frames a fork of the process in a slot takes: one for the child's trapframe, and one for each page table that has
+/// a page below it.
+///
+/// # Errors
+/// `AllocError`: the host is out of memory.
+pub fn fork_need(alloc: Global, machine: &Machine, slot: usize) -> Result<usize, AllocError>
+    requires world { (w : World) × IsInWorld machine.now w }
+{
+    let Some(root) = machine.root(slot) else {
+        return Ok(0);
+    };
+    let mut words = machine.words();
+    let entries = table_entries(alloc, &mut words, machine.scheme(), root.ppn())?;
+    let entries = entries.as_slice();
+    let lower = tables_with_leaves(entries, 1 << 9);
+    let upper = tables_with_leaves(entries, 1 << 18);
+    let top = match machine.scheme() {
+        Scheme::Sv39 => 0,
+        Scheme::Sv48 => tables_with_leaves(entries, 1 << 27),
+    };
+    Ok(
+        lower
+            .saturating_add(upper)
+            .saturating_add(top)
+            .saturating_add(2),
+    )
+}

@@ -1,0 +1,2 @@
+pub mod Drops
+pub mod Ends

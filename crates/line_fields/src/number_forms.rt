@@ -1,0 +1,41 @@
+// `is_number_form`, `is_negative_form`: which fields look like numbers; `wrong_number`: what is wrong with one that is none.
+
+use crate::quoting::quoted;
+use script_reader::{decimal_value, hexadecimal_value};
+use std::alloc::{AllocError, Global};
+
+/// Returns whether a field has the form of a number of any size: decimal digits, or `0x` and hexadecimal digits.
+pub fn is_number_form(field: &[u8]) -> bool {
+    match field {
+        [b'0', b'x', digits @ ..] => {
+            !digits.is_empty() && digits.iter().all(|digit| hexadecimal_value(*digit) < 16)
+        }
+        _ => !field.is_empty() && field.iter().all(|digit| decimal_value(*digit) < 10),
+    }
+}
+
+/// Returns whether a field is `-` and what has the form of a number.
+pub fn is_negative_form(field: &[u8]) -> bool {
+    match field {
+        [b'-', magnitude @ ..] => is_number_form(magnitude),
+        _ => false,
+    }
+}
+
+/// Returns what is wrong with a field, or a part of one, that is no number below 2^64.
+///
+/// # Errors
+/// `AllocError`: host memory was refused.
+pub fn wrong_number(alloc: Global, field: &[u8]) -> Result<String, AllocError> {
+    let quote = quoted(alloc, field)?;
+    if is_number_form(field) {
+        let most = u64::MAX;
+        format!(in alloc; "{quote} is too large: a number is at most {most}")
+    } else if is_negative_form(field) {
+        format!(in alloc; "{quote} is negative, and this number is at least 0")
+    } else {
+        format!(in alloc;
+            "{quote} is no number: write decimal digits, or 0x and hexadecimal digits"
+        )
+    }
+}
