@@ -1,0 +1,122 @@
+-- Which page table entries (PTEs) a hart may hold for a virtual address at a moment (`IsHeld`): each that a walk may have read, if no
+-- fence has covered it since (`IsCovered`). No event says when a hart caches: this is what any hart may hold. (The standard, 4.2.1, SFENCE.VMA;
+-- 4.3.1, global mappings; 4.3.2, the walk; 3.7.2, PMP and caches; chapter 5, Svnapot.)
+use Rattle.std.specs.Prelude.{◌≡◌, ◌⊎◌, ℕ, Bool, true, false, suc, ◌+◌, ◌*◌, ◌/◌, ◌^◌, ◌||◌, ◌&&◌, ◌≤◌, Option, None, Some, List, ◌∷◌}
+use Rattle.std.specs.List.{Contains}
+use Rattle.sv39_entry.specs.Address.{has, page_of, vpn}
+use Rattle.sv39_entry.specs.Satp.{asid, root_ppn}
+use Rattle.sv39_entry.specs.Word.{ppn}
+use Rattle.sv39_entry.specs.declared.access.Access.TheVariants as access
+use Rattle.sv39_entry.specs.declared.address.Va.{Va}
+use Rattle.sv39_entry.specs.declared.entry.Kind.TheVariants.{Invalid, Leaf, Pointer}
+use Rattle.walk_rules.specs.Addresses.{is_canonical, reach, top_of}
+use Rattle.walk_rules.specs.Kinds.{is_napot, kind_in}
+use Rattle.walk_rules.specs.Pmp.{pmp_permits}
+use Rattle.walk_rules.specs.declared.extensions.Extensions.{Extensions}
+use Rattle.walk_rules.specs.declared.pmp.PmpEntry.{PmpEntry}
+use Rattle.walk_rules.specs.declared.status.Privilege.TheVariants as privilege
+use Rattle.access_history.specs.History.{First, IsPast, memory_at, pmps_at, satp_at}
+use Rattle.access_history.specs.declared.event.Event.{Event}
+use Rattle.access_history.specs.declared.event.Event.TheVariants.{Store, WriteSatp, WritePmp, Fence}
+
+-- a virtual address is valid under satp: canonical, or any under Bare
+abbrev pub IsAddress : ℕ → ℕ → Type 0
+IsAddress satp va = (top : ℕ) → top_of satp ≡ Some top → is_canonical top va ≡ true
+
+-- a PTE that a walk read: its level, the physical page number of its table, in which it stands at the index of the address, its word, and the
+-- ASID under which it was read. It is global if it has V and G, or a pointer on the way to it has (4.3.1)
+pub record Read : Type 0 where
+  pub level : ℕ
+  pub table : ℕ
+  pub word : ℕ
+  pub asid : ℕ
+  pub global : Bool
+
+abbrev pub read_of : ℕ → ℕ → ℕ → ℕ → Bool → Read
+read_of level table word space global = record { level = level; table = table; word = word; asid = space; global = global }
+
+-- ---- what a fence covers (4.2.1)
+
+-- rs2 = x0 covers each address space; with an ASID, a fence covers what is of that ASID and not global
+abbrev pub IsInSpace : Option ℕ → Read → Type 0
+IsInSpace None r = Unit {0}
+IsInSpace (Some space) r = (r.asid ≡ space) × (r.global ≡ false)
+
+-- after a moment, and up to another, a store made the word in a read's place a leaf
+abbrev pub BecameLeaf : Extensions → First → ℕ → List Event → List Event → Read → Type 0
+BecameLeaf x f va h past r =
+    (e : Event) × (k : List Event) × (w : ℕ) × IsPast h (e ∷ k) × IsPast k past
+    × (memory_at f.memory (e ∷ k) r.table (vpn (page_of va) r.level) ≡ Some w) × (kind_in x r.level w ≡ Leaf)
+
+-- rs1 = x0 covers PTEs of each address and level. With a valid address, a fence covers a leaf that maps it; and an invalid PTE for it, in whose
+-- place a leaf was stored before the fence (own choice: 4.2.1 speaks of stores to leaf PTEs). It never covers a pointer
+abbrev pub IsInReach : Extensions → First → ℕ → Option Va → List Event → Read → List Event → Type 0
+IsInReach x f va None h r past = Unit {0}
+IsInReach x f va (Some a) h r past =
+    IsAddress (satp_at f.satp h) a.0 × (a.0 / 2 ^ reach r.level r.word ≡ va / 2 ^ reach r.level r.word)
+    × ((kind_in x r.level r.word ≡ Leaf) ⊎ ((kind_in x r.level r.word ≡ Invalid) × BecameLeaf x f va h past r))
+
+-- an event at a moment covers a read of a value of an earlier one: it orders that read before it and removes it from caches. Only fences do
+abbrev pub IsCovered : Extensions → First → ℕ → Event → List Event → Read → List Event → Type 0
+IsCovered x f va (Store p i w) h r past = ⊥
+IsCovered x f va (WriteSatp w) h r past = ⊥
+IsCovered x f va (WritePmp n e) h r past = ⊥
+IsCovered x f va (Fence a s) h r past = IsInSpace s r × IsInReach x f va a h r past
+
+-- no event after one moment, up to another, covers a read of it
+pub data IsKept (x : Extensions) (f : First) (va : ℕ) (r : Read) : List Event → List Event → Type 0 where
+  now : {h : List Event} → IsKept x f va r h h
+  next : {h past : List Event} {e : Event} → IsKept x f va r h past → (IsCovered x f va e h r past → ⊥) → IsKept x f va r (e ∷ h) past
+
+-- ---- what a walk may read
+
+-- at a moment a read's place had its word. Or, at level 0, the word is a NAPOT leaf that the place of one of the 16 PTEs of its group had:
+-- one of them may be cached for all (chapter 5)
+abbrev pub HadWord : Extensions → First → ℕ → List Event → Read → Type 0
+HadWord x f va past r =
+    (memory_at f.memory past r.table (vpn (page_of va) r.level) ≡ Some r.word)
+    ⊎ ((x.svnapot ≡ true) × (r.level ≡ 0) × (is_napot 0 r.word ≡ true) × (kind_in x 0 r.word ≡ Leaf)
+    × ((index : ℕ) × (index / 16 ≡ vpn (page_of va) 0 / 16) × (memory_at f.memory past r.table index ≡ Some r.word)))
+
+-- PMP permits to read the PTE at an index of a table, an 8-byte load of S-mode, by the entries as they were at a moment since the last fence
+-- of everything (3.7.1, 3.7.2)
+abbrev pub MayPassRead : First → List Event → ℕ → ℕ → Type 0
+MayPassRead f h table index =
+    (es : List PmpEntry) × Contains (pmps_at f.pmp h) es × (pmp_permits es privilege.Supervisor access.Load (table * 4096 + index * 8) 8 ≡ true)
+
+-- a walk that is at a read's table at a moment may read its word, of that moment or a past one: implicit reads are not ordered after stores but
+-- by fences (4.2.1, 4.1.11)
+pub record MayRead (x : Extensions) (f : First) (va : ℕ) (h : List Event) (r : Read) (past : List Event) : Type 0 where
+  pub had : HadWord x f va past r
+  pub kept : IsKept x f va r h past
+  -- satp translates by tables that have this level, and the address is canonical
+  pub active : (top : ℕ) × (top_of (satp_at f.satp h) ≡ Some top) × (is_canonical top va ≡ true) × (r.level ≤ top)
+  pub allowed : MayPassRead f h r.table (vpn (page_of va) r.level)
+  pub under : r.asid ≡ asid (satp_at f.satp h)
+
+-- a PTE makes what it maps global: V and G
+abbrev pub has_global : ℕ → Bool
+has_global w = has w 0 && has w 5
+
+-- the walk begins at a read's table
+pub record IsAtRoot (f : First) (h : List Event) (r : Read) : Type 0 where
+  pub highest : top_of (satp_at f.satp h) ≡ Some r.level
+  pub root : r.table ≡ root_ppn (satp_at f.satp h)
+  pub global : r.global ≡ has_global r.word
+
+-- the walk goes on at a read's table, by a pointer of this ASID or a global one
+pub record IsBelow (x : Extensions) (f : First) (h : List Event) (above r : Read) : Type 0 where
+  pub pointer : kind_in x above.level above.word ≡ Pointer
+  pub serves : (above.asid ≡ asid (satp_at f.satp h)) ⊎ (above.global ≡ true)
+  pub within : (top : ℕ) × (top_of (satp_at f.satp h) ≡ Some top) × (above.level ≤ top)
+  pub next_level : above.level ≡ suc r.level
+  pub table : r.table ≡ ppn above.word
+  pub global : r.global ≡ (above.global || has_global r.word)
+
+-- at the first moment a hart may hold a read, of a word of the second: a walk reads it, from the root or by a pointer that the hart may hold at
+-- that time; or the hart held it before, and no event since covers it
+pub data IsHeld (x : Extensions) (f : First) (va : ℕ) : List Event → Read → List Event → Type 0 where
+  at_root : {h past : List Event} {r : Read} → MayRead x f va h r past → IsAtRoot f h r → IsHeld x f va h r past
+  below : {h past since : List Event} {above r : Read} → IsHeld x f va h above since → MayRead x f va h r past → IsBelow x f h above r
+      → IsHeld x f va h r past
+  stays : {h past : List Event} {r : Read} {e : Event} → IsHeld x f va h r past → (IsCovered x f va e h r past → ⊥) → IsHeld x f va (e ∷ h) r past

@@ -1,0 +1,6 @@
+pub mod Examples
+pub mod Harts
+pub mod Held
+pub mod History
+pub mod Permits
+pub mod Walks

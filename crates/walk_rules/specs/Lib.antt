@@ -1,0 +1,4 @@
+pub mod Addresses
+pub mod Kinds
+pub mod Pmp
+pub mod Rights
