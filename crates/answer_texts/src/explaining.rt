@@ -74,12 +74,33 @@ fn explain_refusal(
     }
 }
 
+/// Tells what the service of a fault does, which takes so many frames.
+fn put_service(
+    text: &mut String,
+    hart: usize,
+    needed: usize,
+    free: usize,
+) -> Result<(), AllocError> {
+    if needed > free {
+        return write!(
+            text,
+            "its service takes {needed} frames, free: {free}, so `fix {hart}` ends the process"
+        );
+    }
+    write!(
+        text,
+        "`fix {hart}` serves the fault, then give the line again"
+    )
+}
+
 /// Why an access faulted: a rule denies it, or its page is not resident for it.
 fn explain_fault(
     alloc: Global,
     machine: &Machine,
     command: &Command,
-) -> Result<Option<String>, AllocError> {
+) -> Result<Option<String>, AllocError>
+    requires world { (w : World) × IsInWorld machine.now w }
+{
     let Some(hart) = CommandWord::of(command).hart else {
         return Ok(None);
     };
@@ -105,10 +126,17 @@ fn explain_fault(
             put_denial(&mut text, rule, &denied)?;
             write!(&mut text, ": its service, `fix {hart}`, ends the process")?;
         }
-        _ => write!(
-            &mut text,
-            "the process may make this access, and its page is not ready for it: `fix {hart}` serves the fault, then give the line again"
-        )?,
+        _ => {
+            write!(
+                &mut text,
+                "the process may make this access, and its page is not ready for it: "
+            )?;
+            let (needed, free) = (
+                service_need(machine, slot, access.va),
+                machine.report().free,
+            );
+            put_service(&mut text, hart, needed, free)?;
+        }
     }
     Ok(Some(text))
 }

@@ -8,11 +8,22 @@ use exec_segments::{Image, start_frames};
 use hart_machine::Machine;
 use script_language::OwnedImage;
 use std::alloc::{AllocError, Global};
-use sv39_entry::{Entry, Kind, Scheme, Va};
+use sv39_entry::{Entry, EntryFlags, FrameNo, Kind, Scheme, Va};
 use walk_lines::{TableEntry, table_entries, walk_entries};
 
+/// How many frames the service of a page with this leaf takes: one if it is copy-on-write and its frame has another reference.
+fn leaf_need(machine: &Machine, leaf: Entry) -> usize {
+    let Some(frame) = FrameNo::from_ppn(leaf.ppn()) else {
+        return 0;
+    };
+    match machine.counts().get(frame.0 as usize) {
+        Some(count) if leaf.has(EntryFlags::COW) && *count > 1 => 1,
+        _ => 0,
+    }
+}
+
 /// Returns how many frames the service of a fault at an address takes, of the process in a slot: one for the page, and one for each
-/// page table that is missing on the way to it.
+/// page table that is missing on the way to it; of a page in memory one if it is to be copied, else none.
 pub fn service_need(machine: &Machine, slot: usize, va: Va) -> usize
     requires world { (w : World) × IsInWorld machine.now w }
 {
@@ -24,9 +35,14 @@ pub fn service_need(machine: &Machine, slot: usize, va: Va) -> usize
     let Some(last) = entries.as_slice().last() else {
         return 1;
     };
-    match last.word.map(|word| Entry::from_word(word).kind()) {
-        Some(Kind::Invalid) => (last.level as usize).saturating_add(1),
-        _ => 1,
+    let Some(word) = last.word else {
+        return 1;
+    };
+    let entry = Entry::from_word(word);
+    match entry.kind() {
+        Kind::Invalid => (last.level as usize).saturating_add(1),
+        Kind::Leaf => leaf_need(machine, entry),
+        Kind::Pointer => 1,
     }
 }
 

@@ -103,7 +103,7 @@ impl Stand {
             ),
             Phase::Enter0 | Phase::Enter1 | Phase::Enter2 => write!(
                 text,
-                "`next {hart}` goes on until it is in the kernel"
+                "`next {hart}` until it is in the kernel, then `leave {hart}`"
             ),
             Phase::Leave1 | Phase::Leave2 => write!(
                 text,
@@ -133,7 +133,7 @@ impl Stand {
             ),
             Phase::Enter0 | Phase::Enter1 | Phase::Enter2 => write!(
                 text,
-                "`next {hart}` goes on until it is there"
+                "`next {hart}` until it is in the kernel"
             ),
             Phase::Leave1 | Phase::Leave2 => write!(
                 text,

@@ -16,6 +16,7 @@ use crate::field_forms::refused_field;
 use crate::limit_texts::{no_room, outside_limits};
 use crate::near_words::unknown_word;
 use line_fields::{Mistake, Place, quoted};
+use process_model::LONGEST_IMAGE;
 use script_language::{Cause, Keyword, LONGEST_LINE, LONGEST_SCRIPT};
 use script_reader::{Draft, Row, first_field};
 use std::alloc::{AllocError, Global};
@@ -29,7 +30,7 @@ fn too_long(alloc: Global, line: &[u8]) -> Result<Option<Mistake>, AllocError>
         return Ok(None);
     }
     let text = format!(in alloc;
-        "this line has more than {LONGEST_LINE} bytes, the most that it may have"
+        "this line has more than {LONGEST_LINE} bytes, the most that it may have; contents of an image take two digits a byte, at most {LONGEST_IMAGE} bytes, and zeros follow up to MEMSZ"
     )?;
     Ok(Some(Mistake::of_line(text)))
 }
