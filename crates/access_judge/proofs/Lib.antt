@@ -1,0 +1,26 @@
+pub mod Bits
+mod Ending
+pub mod Exact
+pub mod FenceNumber
+mod FenceNumbers
+mod FencedReads
+mod KeptReads
+pub mod LatestUse
+pub mod LaterLeaf
+mod Listed
+pub mod ListedOutcomes
+mod Moments
+mod Parts
+pub mod Restart
+mod SearchFinds
+mod SearchKinds
+mod SearchLists
+mod SearchReads
+mod SearchSays
+mod SearchSound
+mod SearchStands
+pub mod TableSays
+pub mod Telling
+pub mod UntilNow
+mod WordVersions
+mod Worked

@@ -1,0 +1,5 @@
+pub mod Findings
+pub mod Judging
+pub mod Listing
+pub mod Log
+pub mod Search

@@ -1,0 +1,123 @@
+// Whether a page table entry serves the access (`judge`): by satp as it is, and by the fences since it was read.
+
+ghost use Rattle.std.specs.Prelude.{◌≡◌, ◌<◌, ◌≤◌, ◌&&◌, length, nat_lt, not};
+ghost use Rattle.sv39_entry.specs.declared.entry.Kind.TheVariants.{Leaf};
+ghost use Rattle.access_history.specs.Held.{reach_in};
+ghost use Rattle.walk_rules.specs.Kinds.{kind_in};
+ghost use Rattle.access_judge.specs.Judging.{IsStep, found_of, item_says};
+ghost use Rattle.access_judge.specs.Search.{address_fence, became_leaf, ended, is_fenced, is_fenced_by, is_kind, is_of_now, space_fence, space_of};
+
+use crate::log::Log;
+use crate::question::Question;
+use crate::saying::say;
+use crate::search::has_level;
+use crate::sink::{Sink, Step};
+use sv39_entry::{Entry, Kind, Satp, Va};
+use walk_rules::reach;
+
+/// Tells what an entry that is no pointer says, if it may serve the access.
+#[tactic(auto, unfolding(crate::specs::Judging::item_says))]
+pub(crate) fn judge<L: Log, S: Sink>(log: &L, question: &Question, step: &Step, sink: &mut S)
+    requires { IsStep (L.past log.now) step.now }
+    ensures { S.gains sink.old (item_says question.now (L.past log.now) (ended (found_of step.now))) sink.new }
+{
+    if is_of_now(log.satp(), question.request.va, step) && !is_fenced(log, question, step) {
+        say(log, question, step, sink);
+    }
+}
+
+/// Whether an entry serves under satp as it is.
+fn is_of_now(satp: Satp, va: Va, step: &Step) -> bool
+    ensures { result ≡ is_of_now satp va.0 (found_of step.now).read }
+{
+    has_level(satp, va, step.level) && (step.asid == satp.asid() || step.global)
+}
+
+/// Whether a fence covers an entry since it was read.
+fn is_fenced<L: Log>(log: &L, question: &Question, step: &Step) -> bool
+    requires { IsStep (L.past log.now) step.now }
+    ensures { result ≡ is_fenced question.now.extensions (L.past log.now).first (L.past log.now).events question.now.request.va.0 (found_of step.now) }
+{
+    let number = last_fence(log, question, step);
+    is_fenced_by(log, question, step, number) || is_fenced_in_space(log, step)
+}
+
+/// Returns the ASID of an entry, `None` if it is global.
+fn space_of(step: &Step) -> Option<u16>
+    ensures { result ≡ space_of (found_of step.now).read }
+{
+    if step.global { None } else { Some(step.asid) }
+}
+
+/// Returns how many low bits of an address a fence leaves alone for an entry.
+fn reach_in(question: &Question, step: &Step) -> u32
+    requires { step.now.level ≤ 4 }
+    ensures { result ≡ reach_in question.now.extensions step.now.level step.now.entry }
+{
+    match question.extensions.kind(step.entry, step.level) {
+        Kind::Leaf => reach(step.entry, step.level),
+        Kind::Invalid | Kind::Pointer => 12 + 9 * step.level,
+    }
+}
+
+/// Returns the number of the last fence with an address that has an entry in its reach. 0: there was none.
+#[tactic(auto, using(crate::proofs::FenceNumber::reaches, crate::proofs::FenceNumber::fence_in_past))]
+fn last_fence<L: Log>(log: &L, question: &Question, step: &Step) -> usize
+    requires { step.now.level ≤ 4 }
+    ensures value { result ≡ address_fence (L.past log.now).first.satp (L.past log.now).events
+        (reach_in question.now.extensions step.now.level step.now.entry) question.now.request.va.0 (space_of (found_of step.now).read) }
+    ensures in_past { result ≤ length (L.past log.now).events }
+{
+    let bits = reach_in(question, step);
+    log.address_fence(bits, question.request.va, space_of(step))
+}
+
+/// Whether a fence of its ASID covers an entry since it was read.
+fn is_fenced_in_space<L: Log>(log: &L, step: &Step) -> bool
+    ensures { result ≡ (not step.now.global && nat_lt step.now.last (space_fence (L.past log.now).events step.now.asid)) }
+{
+    !step.global && step.last < log.space_fence(step.asid)
+}
+
+/// Whether the fence of a number, with an address, covers an entry.
+fn is_fenced_by<L: Log>(log: &L, question: &Question, step: &Step, number: usize) -> bool
+    requires step { IsStep (L.past log.now) step.now }
+    requires number { number ≤ length (L.past log.now).events }
+    ensures { result ≡ is_fenced_by question.now.extensions (L.past log.now).first (L.past log.now).events question.now.request.va.0 (found_of step.now) number }
+{
+    step.last < number
+        && (is_leaf(question, step.entry, step.level) || became_leaf(log, question, step, number))
+}
+
+/// Whether the word in the place of an entry was a leaf at a moment after it and before a fence.
+fn became_leaf<L: Log>(log: &L, question: &Question, step: &Step, number: usize) -> bool
+    requires step { IsStep (L.past log.now) step.now }
+    requires some { 0 < number }
+    requires number { number ≤ length (L.past log.now).events }
+    ensures { result ≡ became_leaf question.now.extensions (L.past log.now).first (L.past log.now).events question.now.request.va.0 (found_of step.now) number }
+{
+    let index = question.request.va.page().index(step.level);
+    let mut moment = number - 1;
+    'words: while let Some(version) = log.word_at(step.ppn, index, moment) {
+        if moment <= step.last {
+            return false;
+        }
+        if is_leaf(question, Entry::from_word(version.word), step.level) {
+            return true;
+        }
+        if version.since == 0 {
+            return false;
+        }
+        moment = version.since - 1;
+    }
+    false
+}
+
+pub(crate) fn is_leaf(question: &Question, entry: Entry, level: u32) -> bool
+    ensures { result ≡ is_kind (kind_in question.now.extensions level entry) Leaf }
+{
+    match question.extensions.kind(entry, level) {
+        Kind::Leaf => true,
+        Kind::Invalid | Kind::Pointer => false,
+    }
+}

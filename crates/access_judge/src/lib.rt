@@ -1,0 +1,23 @@
+//! Judges memory accesses of a RISC-V hart by its history: `outcomes` lists what may come of an access, and `permits` says whether one outcome may.
+//! Both are exactly what `access_history` defines (`Permits`). The history is any type with the trait `Log`; results go to any `Sink` without
+//! allocation (`tell_outcomes`).
+#![tactic(auto)]
+
+mod findings;
+mod judge;
+mod laws;
+mod log;
+mod permitted;
+mod present;
+mod question;
+mod saying;
+mod search;
+mod sink;
+mod way;
+
+pub use findings::Findings;
+pub use laws::{restart_is_exact, search_is_exact, stale_leaf_is_found};
+pub use log::{Log, PastSatp, PastWord};
+pub use permitted::{outcomes, permits, tell_outcomes};
+pub use sink::{Sink, Step};
+pub use way::{Told, Way};

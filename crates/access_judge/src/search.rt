@@ -1,0 +1,368 @@
+// The search: from a table on, through the words that the place of the address's PTE had, to the tables below (`search_table`).
+
+ghost use Rattle.std.specs.Prelude.{◌≡◌, ◌<◌, ◌≤◌, ◌^◌, ◌==◌, ◌&&◌, length, true};
+ghost use Rattle.sv39_entry.specs.declared.access.Access.TheVariants as access;
+ghost use Rattle.walk_rules.specs.declared.status.Privilege.TheVariants as privilege;
+ghost use Rattle.sv39_entry.specs.declared.entry.Kind.TheVariants.{Leaf};
+ghost use Rattle.walk_rules.specs.Addresses.{top_of};
+ghost use Rattle.walk_rules.specs.Kinds.{is_napot, kind_in};
+ghost use Rattle.access_history.specs.Held.{has_global};
+ghost use Rattle.access_judge.specs.Judging.{counts, IsStep, IsTable, entries_say, found_of, group_says, index_at, item_says, pointer_says};
+ghost use Rattle.access_judge.specs.Judging.{stand_of, step_says, IsBelowTable, IsLatestIfSome, table_says, use_if, versions_of, word_says, words_say};
+ghost use Rattle.access_judge.specs.Log.{use_of};
+ghost use Rattle.access_judge.specs.Search.{below_of, found_by, follows, has_level_in, is_kind, is_pointer, is_unread, later, latest, may_pass, place_at, stood, until};
+
+use crate::judge::{is_leaf, judge};
+use crate::log::{Log, PastSatp};
+use crate::present::fails_now;
+use crate::question::{Question, Table, access_fault};
+use crate::sink::{Sink, Step};
+use bitflags::Flags;
+use sv39_entry::{Access, Entry, EntryFlags, Kind, PAGE_SIZE, Satp, Va};
+use walk_rules::{Privilege, is_canonical, reach, top_level};
+
+/// Tells what walks come to from a table on.
+#[cycle(walks)]
+pub(crate) fn search_table<L: Log, S: Sink>(
+    log: &L,
+    question: &Question,
+    table: &Table,
+    sink: &mut S,
+)
+    requires { IsTable (L.past log.now) table.now }
+    ensures { S.gains sink.old (table_says question.now (L.past log.now) (L.uses_of log.now) (stand_of table.now)) sink.new }
+{
+    tell_unread(log, question, table, sink);
+    if is_readable(log, question, table) {
+        search_entries(log, question, table, sink);
+    }
+}
+
+/// Returns the index of the address's PTE in a table.
+fn index_in(question: &Question, table: &Table) -> usize
+    ensures value { result ≡ index_at question.now (stand_of table.now) }
+    ensures small { result < 512 }
+{
+    question.request.va.page().index(table.level)
+}
+
+/// Returns the physical address of the address's PTE in a table.
+fn place_in(question: &Question, table: &Table) -> u64
+    requires { table.now.ppn < 2 ^ 44 }
+    ensures { result ≡ place_at question.now.request.va.0 (stand_of table.now) }
+{
+    table.ppn * PAGE_SIZE + index_in(question, table) as u64 * 8
+}
+
+/// Whether PMP may permit to read the PTE, at the table's moment.
+fn is_readable<L: Log>(log: &L, question: &Question, table: &Table) -> bool
+    requires { IsTable (L.past log.now) table.now }
+    ensures { result ≡ may_pass (L.past log.now).first (until (L.past log.now).events table.now.last) privilege.Supervisor access.Load
+        (place_at question.now.request.va.0 (stand_of table.now)) 8 }
+{
+    let place = place_in(question, table);
+    log.may_pass(table.last, Privilege::Supervisor, Access::Load, place, 8)
+}
+
+/// Whether the PTE is outside memory, or PMP may refuse to read it, now.
+fn is_unread<L: Log>(log: &L, question: &Question, table: &Table) -> bool
+    requires { table.now.ppn < 2 ^ 44 }
+    ensures { result ≡ is_unread (L.past log.now) question.now.request.va.0 (stand_of table.now) }
+{
+    log.word(table.ppn, index_in(question, table)).is_none()
+        || fails_now(
+            log,
+            Privilege::Supervisor,
+            Access::Load,
+            place_in(question, table),
+            8,
+        )
+}
+
+/// Tells of the access fault if the PTE may be unreadable now.
+#[tactic(auto, unfolding(crate::specs::Judging::item_says))]
+fn tell_unread<L: Log, S: Sink>(log: &L, question: &Question, table: &Table, sink: &mut S)
+    requires { IsTable (L.past log.now) table.now }
+    ensures { S.gains sink.old (item_says question.now (L.past log.now) (stood (stand_of table.now))) sink.new }
+{
+    if table.last == log.now() && is_unread(log, question, table) {
+        sink.tell(access_fault(&question.request));
+    }
+}
+
+/// Tells what comes of the PTEs that a walk at a table may read.
+#[cycle(walks)]
+fn search_entries<L: Log, S: Sink>(log: &L, question: &Question, table: &Table, sink: &mut S)
+    requires { IsTable (L.past log.now) table.now }
+    ensures { S.gains sink.old (entries_say question.now (L.past log.now) (L.uses_of log.now) (stand_of table.now)) sink.new }
+{
+    let index = index_in(question, table);
+    search_words(log, question, table, index, false, sink);
+    if has_groups(question, table) {
+        search_group(log, question, table, index / 16 * 16, sink);
+    }
+}
+
+/// Whether one of 16 PTEs may be read for all of them.
+fn has_groups(question: &Question, table: &Table) -> bool
+    ensures { result ≡ (question.now.extensions.svnapot && table.now.level == 0) }
+{
+    question.extensions.svnapot && table.level == 0
+}
+
+/// Tells what comes of the NAPOT leaves in the group of 16 PTEs from an index on.
+#[cycle(walks)]
+fn search_group<L: Log, S: Sink>(
+    log: &L,
+    question: &Question,
+    table: &Table,
+    first: usize,
+    sink: &mut S,
+)
+    requires table { IsTable (L.past log.now) table.now }
+    requires in_frame { first ≤ 496 }
+    ensures { S.gains sink.old (group_says question.now (L.past log.now) (L.uses_of log.now) (stand_of table.now) first) sink.new }
+{
+    'group: for number in 0..16 {
+        search_words(log, question, table, first + number, true, sink);
+    }
+}
+
+/// Tells what comes of the words that a place had; with `napot`, of those that are NAPOT leaves.
+#[cycle(walks)]
+fn search_words<L: Log, S: Sink>(
+    log: &L,
+    question: &Question,
+    table: &Table,
+    index: usize,
+    napot: bool,
+    sink: &mut S,
+)
+    requires table { IsTable (L.past log.now) table.now }
+    requires in_frame { index < 512 }
+    ensures { S.gains sink.old (words_say question.now (L.past log.now) (L.uses_of log.now) (stand_of table.now) napot (versions_of (L.past log.now) (stand_of table.now) index)) sink.new }
+{
+    let mut moment = table.last;
+    'words: while let Some(version) = log.word_at(table.ppn, index, moment) {
+        search_word(
+            log,
+            question,
+            table,
+            index,
+            version.word,
+            moment,
+            napot,
+            sink,
+        );
+        if version.since == 0 {
+            return;
+        }
+        moment = version.since - 1;
+    }
+}
+
+/// Tells what comes of a word that the place of a PTE had until a moment.
+#[cycle(walks)]
+fn search_word<L: Log, S: Sink>(
+    log: &L,
+    question: &Question,
+    table: &Table,
+    index: usize,
+    word: u64,
+    last: usize,
+    napot: bool,
+    sink: &mut S,
+)
+    requires table { IsTable (L.past log.now) table.now }
+    requires last { last ≤ length (L.past log.now).events }
+    ensures { S.gains sink.old (word_says question.now (L.past log.now) (L.uses_of log.now) (stand_of table.now) napot (record { word = word; last = last })) sink.new }
+{
+    let step = step_of(table, index, Entry::from_word(word), last);
+    if counts(question, table, &step, napot) {
+        sink.note(step);
+        search_step(log, question, table, &step, sink);
+    }
+}
+
+/// Tells what comes of a PTE that a walk at a table may read.
+#[cycle(walks)]
+fn search_step<L: Log, S: Sink>(
+    log: &L,
+    question: &Question,
+    table: &Table,
+    step: &Step,
+    sink: &mut S,
+)
+    requires table { IsTable (L.past log.now) table.now }
+    requires step { IsStep (L.past log.now) step.now }
+    requires same { step.now.level ≡ table.now.level }
+    ensures { S.gains sink.old (step_says question.now (L.past log.now) (L.uses_of log.now) (stand_of table.now) (found_of step.now)) sink.new }
+{
+    if is_pointer(question, step) {
+        search_below(log, question, table, step, sink);
+    } else {
+        judge(log, question, step, sink);
+    }
+}
+
+/// Tells what walks come to from the table on to which a pointer leads.
+#[cycle(walks)]
+fn search_below<L: Log, S: Sink>(
+    log: &L,
+    question: &Question,
+    table: &Table,
+    step: &Step,
+    sink: &mut S,
+)
+    requires table { IsTable (L.past log.now) table.now }
+    requires step { IsStep (L.past log.now) step.now }
+    requires same { step.now.level ≡ table.now.level }
+    requires pointer { is_pointer question.now.extensions (found_of step.now) ≡ true }
+    ensures { S.gains sink.old (pointer_says question.now (L.past log.now) (L.uses_of log.now) (stand_of table.now) (found_of step.now)) sink.new }
+{
+    if let Some(below) = table_below(log, question, table, step) {
+        search_table(log, question, &below, sink);
+    }
+}
+
+/// Whether a PTE is a pointer.
+fn is_pointer(question: &Question, step: &Step) -> bool
+    requires { step.now.level ≤ 4 }
+    ensures { result ≡ is_pointer question.now.extensions (found_of step.now) }
+{
+    match question.extensions.kind(step.entry, step.level) {
+        Kind::Pointer => true,
+        Kind::Invalid | Kind::Leaf => false,
+    }
+}
+
+/// Whether a walk at a table may read a PTE, by the fences of its ASID. With `napot` it must be a NAPOT leaf.
+fn counts(question: &Question, table: &Table, step: &Step, napot: bool) -> bool
+    ensures { result ≡ counts question.now (stand_of table.now) napot (found_of step.now) }
+{
+    (!napot || is_napot_leaf(question, step.entry)) && (step.global || table.epoch <= step.last)
+}
+
+/// Returns the table to which a pointer leads, at the latest moment at which it may be followed.
+fn table_below<L: Log>(log: &L, question: &Question, table: &Table, step: &Step) -> Option<Table>
+    requires table { IsTable (L.past log.now) table.now }
+    requires step { IsStep (L.past log.now) step.now }
+    requires same { step.now.level ≡ table.now.level }
+    requires pointer { is_pointer question.now.extensions (found_of step.now) ≡ true }
+    ensures { IsBelowTable (L.past log.now) (below_of (L.uses_of log.now) question.now.request.va.0 (stand_of table.now) (found_of step.now).read) table.now.level result }
+{
+    match latest(log, question.request.va, step, table.epoch) {
+        None => None,
+        Some(root) => Some(Table {
+            level: step.level - 1,
+            ppn: step.entry.ppn(),
+            asid: root.satp.asid(),
+            global: step.global,
+            epoch: table.epoch,
+            last: root.last,
+        }),
+    }
+}
+
+/// How many low bits a NAPOT leaf leaves alone: it maps 64 KiB.
+const NAPOT_REACH: u32 = 16;
+
+/// Whether a PTE in a last table is a NAPOT leaf.
+fn is_napot_leaf(question: &Question, entry: Entry) -> bool
+    ensures { result ≡ (is_napot 0 entry && is_kind (kind_in question.now.extensions 0 entry) Leaf) }
+{
+    reach(entry, 0) == NAPOT_REACH && is_leaf(question, entry, 0)
+}
+
+/// Returns the PTE of a table with a word that memory had until a moment.
+fn step_of(table: &Table, index: usize, entry: Entry, last: usize) -> Step
+    ensures found { found_of result ≡ found_by (stand_of table.now) (record { word = entry; last = last }) }
+    ensures level { result.level ≡ table.now.level }
+    ensures ppn { result.ppn ≡ table.now.ppn }
+    ensures last { result.last ≡ last }
+{
+    Step {
+        level: table.level,
+        ppn: table.ppn,
+        index,
+        entry,
+        last,
+        asid: table.asid,
+        global: table.global || has_global(entry),
+    }
+}
+
+/// Whether a PTE has V and G.
+#[tactic(auto, using(crate::proofs::Bits::flags))]
+fn has_global(entry: Entry) -> bool
+    ensures { result ≡ has_global entry }
+{
+    entry.has(EntryFlags::VALID) && entry.has(EntryFlags::GLOBAL)
+}
+
+/// Of the words that satp had by which a pointer may be followed, returns one of the latest moment.
+fn latest<L: Log>(log: &L, va: Va, step: &Step, epoch: usize) -> Option<PastSatp>
+    ensures { use_if result ≡ latest (follows va.0 step.now.level (found_of step.now).read epoch) (L.uses_of log.now) }
+{
+    match present(log, va, step, epoch) {
+        None => latest_of_all(log, va, step, epoch),
+        found => found,
+    }
+}
+
+/// Returns the first word of satp if it is the present one and the pointer may be followed by it: no other is of a later moment.
+fn present<L: Log>(log: &L, va: Va, step: &Step, epoch: usize) -> Option<PastSatp>
+    ensures { IsLatestIfSome (latest (follows va.0 step.now.level (found_of step.now).read epoch) (L.uses_of log.now)) result }
+{
+    if log.use_count() == 0 {
+        return None;
+    }
+    let root = log.use_at(0);
+    if root.last == log.now() && follows(va, step, epoch, &root) {
+        Some(root)
+    } else {
+        None
+    }
+}
+
+/// Looks at all words that satp had.
+fn latest_of_all<L: Log>(log: &L, va: Va, step: &Step, epoch: usize) -> Option<PastSatp>
+    ensures { use_if result ≡ latest (follows va.0 step.now.level (found_of step.now).read epoch) (L.uses_of log.now) }
+{
+    let mut best: Option<PastSatp> = None;
+    'uses: for number in (0..log.use_count()).rev() {
+        let root = log.use_at(number);
+        if follows(va, step, epoch, &root) {
+            best = Some(later(root, best));
+        }
+    }
+    best
+}
+
+/// Returns the one of the later moment; of the same, the first.
+fn later(root: PastSatp, best: Option<PastSatp>) -> PastSatp
+    ensures { use_of result ≡ later (use_of root) (use_if best) }
+{
+    match best {
+        Some(other) if root.last < other.last => other,
+        _ => root,
+    }
+}
+
+/// Whether walks by a word of satp have tables of a level, and an address is canonical.
+pub(crate) fn has_level(satp: Satp, va: Va, level: u32) -> bool
+    ensures { result ≡ has_level_in (top_of satp) va.0 level }
+{
+    match top_level(satp) {
+        None => false,
+        Some(top) => is_canonical(top, va) && level <= top,
+    }
+}
+
+/// Whether a pointer of an ASID and epoch, or a global one, may be followed by a word that satp had.
+fn follows(va: Va, step: &Step, epoch: usize, root: &PastSatp) -> bool
+    ensures { result ≡ follows va.0 step.now.level (found_of step.now).read epoch (use_of root.now) }
+{
+    has_level(root.satp, va, step.level)
+        && (step.global || (root.satp.asid() == step.asid && root.epoch == epoch))
+}
