@@ -1,0 +1,10 @@
+pub mod FewPlaces
+pub mod FreePmp
+pub mod HartUnion
+pub mod PlainEntries
+pub mod PlainOutcomes
+pub mod PlainReads
+pub mod PlainServing
+pub mod SpaceReads
+pub mod StaleEntry
+pub mod TlbHistories

@@ -1,0 +1,5 @@
+pub mod HartAnswers
+pub mod PlainWalks
+pub mod SpaceWalks
+pub mod TlbEntries
+pub mod TlbExamples
