@@ -1,5 +1,9 @@
-pub mod More
-pub mod Filled
-pub mod Superpages
-pub mod Inside
 pub mod Apart
+pub mod Moments
+pub mod Versions
+pub mod Searching
+pub mod Storing
+pub mod Going
+pub mod Recording
+pub mod Fenced
+pub mod Beginning

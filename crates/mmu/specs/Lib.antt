@@ -1,4 +1,10 @@
 pub mod Words
 pub mod Sparse
-pub mod Outcomes
-pub mod Fills
+pub mod Changing
+pub mod Fencing
+pub mod Protecting
+pub mod Using
+pub mod Recorded
+pub mod Units
+pub mod Laws
+pub mod Pasts

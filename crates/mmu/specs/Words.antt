@@ -1,9 +1,8 @@
 -- A sparse memory as contracts see it: the 64-bit word with each number, which is physical address / 8 (`Numbered`). What a
--- write changes (`written`), what a new run adds (`added`), and how a walk reads it (`memory_of`, `extent_of`).
-use Rattle.std.specs.Prelude.{ℕ, ◌+◌, ◌*◌, ◌^◌, ◌<◌, ◌≤◌, Bool, true, false, ◌&&◌, nat_eq, nat_le, nat_lt, Option, None, Some, is_some}
+-- write changes (`written`), and what a new run adds (`added`).
+use Rattle.std.specs.Prelude.{ℕ, ◌<◌, ◌≤◌, Bool, true, false, ◌&&◌, nat_eq, nat_le, nat_lt, Option, None, Some}
 use Rattle.std.specs.Prelude.{List, length, if◌then◌else◌}
 use Rattle.std.specs.List.{All, AllPairs, AllWithin, list_any}
-use Rattle.table_walk.specs.Memory.{Extent, Memory}
 use Rattle.mmu.specs.declared.run.Run.{Run}
 
 -- the word with each number; None outside the memory
@@ -44,10 +43,3 @@ written m number word n = if nat_eq n number then Some word else m n
 -- what a run of zeros adds: words that were there stay
 abbrev pub added : Numbered → ℕ → ℕ → Numbered
 added m first end n = or_zero (nat_le first n && nat_lt n end) (m n)
-
--- the memory as a walk reads it. A physical address has 56 bits, so a physical page number 44 (the standard, 4.4.1 and 4.5.1)
-abbrev pub memory_of : Numbered → Memory
-memory_of m ppn index = if nat_lt ppn (2 ^ 44) then m (ppn * 512 + index) else None
-
-abbrev pub extent_of : Numbered → Extent
-extent_of m ppn index = is_some (memory_of m ppn index)

@@ -1,1 +1,1 @@
-pub mod NoRequests
+pub mod Meant

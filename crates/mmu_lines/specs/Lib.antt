@@ -1,4 +1,5 @@
-pub mod Outcomes
-pub mod Lines
-pub mod Mistakes
+pub mod Claims
 pub mod Requests
+pub mod Seeking
+pub mod States
+pub mod Writes

@@ -1,45 +1,51 @@
-// `Answer`: an enum, what is answered to a line; `AnswerLine`: a struct, one with the number of its line, for JSON; and `put_answer`:
-// an answer as a line of text.
+// `Answer`: an enum, what is answered to a line; and `put_answer`: an answer as a line of text.
 
 ghost use Rattle.mmu_lines.specs.Requests.{IsError};
 
-use crate::outcomes::OutcomeLine;
+use crate::outcomes::{OutcomeLine, put_outcome};
 use line_fields::Mistake;
-use serde::Serialize;
 use std::alloc::AllocError;
-use std::fmt;
-use walk_lines::{BufferLine, Hex};
+use walk_lines::Hex;
+
+/// What a write of a PMP entry leaves as it was (RISC-V Privileged Architecture 20211203, 3.7.1).
+#[derive(Clone, Copy, PartialEq, Eq, Debug)]
+pub enum Lock {
+    /// Both registers are written.
+    Nothing,
+    /// The address is not written: the entry above is locked, and its A is TOR.
+    Address,
+    /// Neither is written: the entry is locked.
+    All,
+}
 
 /// What is answered to a line.
-#[derive(PartialEq, Eq, Debug, Serialize, Drop)]
-#[serde(rename_all = "lowercase")]
+#[derive(PartialEq, Eq, Debug, Drop)]
 pub enum Answer {
     /// It was done.
     Ok,
+    /// The protocol.
+    Version,
     /// What satp holds.
     Satp(Hex),
+    /// A PMP entry was written, but for what is locked.
+    Locked(Lock),
+    /// A fence has no effect: its address is none under the MODE of satp.
+    NoEffect(Hex),
     /// The outcomes that an access may have.
     Outcomes(Vec<OutcomeLine>),
-    /// The number of the entry that a fill added; none if it added none.
-    Entry(Option<usize>),
-    /// How many entries a fence removed.
-    Removed(usize),
-    /// The entries that may serve an access.
-    Entries(Vec<BufferLine>),
+    /// The access may have the outcome that the client tells.
+    Permitted(OutcomeLine),
+    /// The access may not have the outcome that the client tells.
+    NotPermitted {
+        reason: String,
+        /// The outcomes that it may have.
+        permitted: Vec<OutcomeLine>,
+    },
     /// The line is faulty.
     Error {
-        #[serde(skip_serializing_if = "Option::is_none")]
         column: Option<usize>,
         text: String,
     },
-}
-
-/// An answer with the number of its line.
-#[derive(PartialEq, Eq, Debug, Serialize, Drop)]
-pub struct AnswerLine {
-    /// The number of the line, from 1.
-    pub line: u64,
-    pub answer: Answer,
 }
 
 impl Answer {
@@ -50,20 +56,47 @@ impl Answer {
         let Mistake { column, text } = mistake;
         Answer::Error { column, text }
     }
+
+    /// Whether the line is faulty, or the outcome that a client tells is not permitted.
+    pub fn is_amiss(&self) -> bool {
+        matches!(self, Answer::Error { .. } | Answer::NotPermitted { .. })
+    }
 }
 
-/// Appends the items of a list, with `; ` between them; `none` if there is none.
-fn put_list<T: fmt::Display>(out: &mut String, items: &[T], none: &str) -> Result<(), AllocError> {
-    if items.is_empty() {
-        return out.push_str(none);
+/// Appends outcomes, with `; ` between them.
+fn put_list(out: &mut String, lines: &[OutcomeLine]) -> Result<(), AllocError> {
+    if lines.is_empty() {
+        return out.push_str("none");
     }
-    'items: for (n, item) in items.iter().enumerate() {
+    'lines: for (n, line) in lines.iter().enumerate() {
         if n > 0 {
             out.push_str("; ")?;
         }
-        write!(out, "{item}")?;
+        put_outcome(out, line)?;
     }
     Ok(())
+}
+
+/// Appends why an outcome is permitted.
+fn put_permitted(out: &mut String, line: &OutcomeLine) -> Result<(), AllocError> {
+    out.push_str("permitted (")?;
+    match &line.as_of {
+        Some(as_of) => out.push_str(as_of.as_str())?,
+        None => {
+            out.push_str(line.by.text())?;
+            out.push_str(line.by.now())?;
+        }
+    }
+    out.push_str(")")
+}
+
+fn put_error(out: &mut String, column: &Option<usize>, text: &str) -> Result<(), AllocError> {
+    out.push_str("error")?;
+    if let Some(column) = column {
+        write!(out, " column {column}")?;
+    }
+    out.push_str(": ")?;
+    out.push_str(text)
 }
 
 /// Appends an answer as a line of text.
@@ -72,21 +105,24 @@ fn put_list<T: fmt::Display>(out: &mut String, items: &[T], none: &str) -> Resul
 /// `AllocError`: the host is out of memory.
 pub fn put_answer(out: &mut String, answer: &Answer) -> Result<(), AllocError> {
     match answer {
-        Answer::Ok => out.push_str("ok")?,
+        Answer::Ok | Answer::Locked(Lock::Nothing) => out.push_str("ok")?,
+        Answer::Version => out.push_str("mmu protocol 2")?,
         Answer::Satp(word) => write!(out, "satp {word}")?,
-        Answer::Outcomes(outcomes) => put_list::<OutcomeLine>(out, outcomes.as_slice(), "none")?,
-        Answer::Entry(Some(n)) => write!(out, "entry {n}")?,
-        Answer::Entry(None) => out.push_str("no entry")?,
-        Answer::Removed(count) => write!(out, "removed {count}")?,
-        Answer::Entries(entries) => put_list::<BufferLine>(out, entries.as_slice(), "no entry")?,
-        Answer::Error { column, text } => {
-            out.push_str("error")?;
-            if let Some(column) = column {
-                write!(out, " column {column}")?;
-            }
-            out.push_str(": ")?;
-            out.push_str(text.as_str())?;
+        Answer::Locked(Lock::All) => out.push_str("locked")?,
+        Answer::Locked(Lock::Address) => out.push_str("address locked")?,
+        Answer::NoEffect(va) => write!(
+            out,
+            "no effect: {va} is no address under the present MODE"
+        )?,
+        Answer::Outcomes(outcomes) => put_list(out, outcomes.as_slice())?,
+        Answer::Permitted(line) => put_permitted(out, line)?,
+        Answer::NotPermitted { reason, permitted } => {
+            out.push_str("NOT permitted: ")?;
+            out.push_str(reason.as_str())?;
+            out.push_str(". Permitted: ")?;
+            put_list(out, permitted.as_slice())?;
         }
+        Answer::Error { column, text } => put_error(out, column, text.as_str())?,
     }
     out.push('\n')
 }

@@ -1,16 +1,20 @@
-//! The lines by which a program asks a reference MMU (`mmu`): what a line asks for (`read_line`), what is answered (`MmuPlayer`),
-//! and the answers as text and as JSON (`put_answer`, `AnswerLine`).
+//! A reference MMU that answers lines (`MmuPlayer`), protocol 2, and its answers as text and as JSON (`put_answer`, `AnswerObject`).
 #![tactic(auto)]
 
 mod answers;
-mod line_word;
+mod claims;
+mod objects;
 mod outcomes;
 mod player;
-mod reading;
-mod requests;
+mod reasons;
+mod recorded;
+mod seeking;
+mod telling;
+mod ways;
+mod witness;
+mod writes;
 
-pub use answers::{Answer, AnswerLine, put_answer};
+pub use answers::{Answer, Lock, put_answer};
+pub use objects::{AnswerObject, ErrorObject, OutcomeObject, SetObject};
 pub use outcomes::{By, OutcomeLine};
 pub use player::MmuPlayer;
-pub use reading::{Refusal, read_line};
-pub use requests::Request;

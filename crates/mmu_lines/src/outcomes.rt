@@ -1,136 +1,122 @@
-// `OutcomeLine`: an outcome of an access, as text and as JSON; `By`: an enum, what it is by.
+// `OutcomeLine`: an outcome of an access with what it is by, as text; `By`: an enum, what it is by.
 
-ghost use Rattle.std.specs.Prelude.{◌≡◌};
-ghost use Rattle.mmu_lines.specs.Outcomes.{outcome_line, refused, walked};
-
-use mmu::Outcome;
-use serde::Serialize;
+use access_history::{Outcome, Update};
+use std::alloc::AllocError;
 use std::fmt;
-use table_walk::Walk;
 use walk_lines::Hex;
+use walk_rules::MemoryType;
 
 /// What an outcome is by.
-#[derive(Clone, Copy, PartialEq, Eq, Debug, Serialize)]
-#[serde(rename_all = "lowercase")]
+#[derive(Clone, Copy, PartialEq, Eq, Debug)]
 pub enum By {
-    /// The walk of the page tables.
+    /// The walk over memory, satp and PMP as they are.
     Walk,
-    /// An entry of the TLB.
-    Entry,
-    /// Bare: the physical address is the virtual one.
+    /// A walk of which a part is older.
+    Held,
+    /// Bare or M-mode: the physical address is the virtual one.
     Bare,
     /// The address is not a multiple of the width.
     Misaligned,
+    /// The address is not canonical.
+    NotCanonical,
 }
 
-impl fmt::Display for By {
-    fn fmt<W: fmt::Write>(&self, f: &mut fmt::Formatter<W>) -> fmt::Result {
+impl By {
+    /// Returns its text.
+    pub fn text(self) -> &'static str {
         match self {
-            By::Walk => write!(f, "walk"),
-            By::Entry => write!(f, "entry"),
-            By::Bare => write!(f, "bare"),
-            By::Misaligned => write!(f, "misaligned"),
+            By::Walk => "walk",
+            By::Held => "held",
+            By::Bare => "bare",
+            By::Misaligned => "misaligned",
+            By::NotCanonical => "not canonical",
+        }
+    }
+
+    /// Returns what follows the text where a permitted outcome is told.
+    pub(crate) fn now(self) -> &'static str {
+        match self {
+            By::Walk | By::Bare => " now",
+            By::Held | By::Misaligned | By::NotCanonical => "",
         }
     }
 }
 
-/// An outcome of an access: by what, and the physical address or the exception code.
-#[derive(Clone, Copy, PartialEq, Eq, Debug, Serialize)]
+/// An outcome of an access, and what it is by.
+#[derive(PartialEq, Eq, Debug, Drop)]
 pub struct OutcomeLine {
     pub by: By,
-    /// The number of the entry.
-    #[serde(skip_serializing_if = "Option::is_none")]
-    pub entry: Option<usize>,
-    /// The physical address, if the access is granted.
-    #[serde(skip_serializing_if = "Option::is_none")]
-    pub pa: Option<Hex>,
-    /// The level of the leaf.
-    #[serde(skip_serializing_if = "Option::is_none")]
+    pub outcome: Outcome,
+    /// The level of the leaf, if the access is granted by one.
     pub level: Option<u32>,
-    /// The word of the leaf.
-    #[serde(skip_serializing_if = "Option::is_none")]
-    pub leaf: Option<Hex>,
-    /// The exception code (scause), if the access is refused.
-    #[serde(skip_serializing_if = "Option::is_none")]
-    pub fault: Option<u64>,
+    /// The word of the PTE at which the walk ends.
+    pub pte: Option<Hex>,
+    /// Why the access is refused.
+    pub reason: Option<String>,
+    /// What is older: PTEs, satp, PMP.
+    pub as_of: Option<String>,
 }
 
-impl OutcomeLine {
-    /// A refused access.
-    fn refused(by: By, entry: Option<usize>, cause: u64) -> OutcomeLine
-        ensures { result ≡ refused by entry cause }
-    {
-        OutcomeLine {
-            by,
-            entry,
-            pa: None,
-            level: None,
-            leaf: None,
-            fault: Some(cause),
-        }
+/// Returns the text of a memory type; none for the plain one.
+pub(crate) fn type_text(memory_type: MemoryType) -> Option<&'static str> {
+    match memory_type {
+        MemoryType::Pma => None,
+        MemoryType::Nc => Some("nc"),
+        MemoryType::Io => Some("io"),
     }
+}
 
-    /// What a walk says, or an entry.
-    fn walked(by: By, entry: Option<usize>, walk: Walk) -> OutcomeLine
-        ensures { result ≡ walked by entry walk }
-    {
-        match walk {
-            Walk::Leaf {
-                word,
-                level,
-                address,
-            } => OutcomeLine {
-                by,
-                entry,
-                pa: Some(Hex(address)),
-                level: Some(level),
-                leaf: Some(Hex(word)),
-                fault: None,
-            },
-            Walk::PageFault(cause) | Walk::AccessFault(cause) => {
-                OutcomeLine::refused(by, entry, cause)
+/// Returns the physical address of a PTE that a hart wrote.
+pub(crate) fn place_of(update: &Update) -> Hex {
+    Hex(
+        update
+            .table
+            .saturating_mul(4096)
+            .saturating_add((update.index as u64).saturating_mul(8)),
+    )
+}
+
+fn put_update(out: &mut String, update: &Option<Update>) -> Result<(), AllocError> {
+    let Some(update) = update else {
+        return Ok(());
+    };
+    let (place, word) = (place_of(update), Hex(update.word));
+    write!(out, " set {place} {word}")
+}
+
+/// Appends what came of an access, for example `pa 0x80010008 level 0` or `fault 13`.
+fn put_end(out: &mut String, line: &OutcomeLine) -> Result<(), AllocError> {
+    match &line.outcome {
+        Outcome::Granted {
+            pa,
+            memory_type,
+            update,
+        } => {
+            let pa = Hex(*pa);
+            write!(out, "pa {pa}")?;
+            if let Some(level) = line.level {
+                write!(out, " level {level}")?;
             }
+            if let Some(text) = type_text(*memory_type) {
+                write!(out, " {text}")?;
+            }
+            put_update(out, update)
         }
-    }
-
-    /// Returns an outcome as it is shown.
-    pub fn of(outcome: Outcome) -> OutcomeLine
-        ensures { result ≡ outcome_line outcome }
-    {
-        match outcome {
-            Outcome::Misaligned(cause) => OutcomeLine::refused(By::Misaligned, None, cause),
-            Outcome::Bare(address) => OutcomeLine {
-                by: By::Bare,
-                entry: None,
-                pa: Some(Hex(address)),
-                level: None,
-                leaf: None,
-                fault: None,
-            },
-            Outcome::BareFault(cause) => OutcomeLine::refused(By::Bare, None, cause),
-            Outcome::Walk(walk) => OutcomeLine::walked(By::Walk, None, walk),
-            Outcome::Entry(n, walk) => OutcomeLine::walked(By::Entry, Some(n), walk),
+        Outcome::Refused { cause, update } => {
+            write!(out, "fault {cause}")?;
+            put_update(out, update)
         }
     }
 }
 
-/// For example `walk pa 0x80010008 level 0`, `entry 2 fault 15`.
-impl fmt::Display for OutcomeLine {
-    fn fmt<W: fmt::Write>(&self, f: &mut fmt::Formatter<W>) -> fmt::Result {
-        let by = self.by;
-        write!(f, "{by}")?;
-        if let Some(entry) = self.entry {
-            write!(f, " {entry}")?;
-        }
-        if let Some(cause) = self.fault {
-            write!(f, " fault {cause}")?;
-        }
-        if let Some(pa) = self.pa {
-            write!(f, " pa {pa}")?;
-        }
-        match self.level {
-            Some(level) => write!(f, " level {level}"),
-            None => Ok(()),
-        }
+/// Appends an outcome and what it is by, for example `held fault 15 (PTE 0x200040d7 at level 0 as before line 12: step 5: ..)`.
+pub(crate) fn put_outcome(out: &mut String, line: &OutcomeLine) -> Result<(), AllocError> {
+    out.push_str(line.by.text())?;
+    out.push_str(" ")?;
+    put_end(out, line)?;
+    match (&line.as_of, &line.reason) {
+        (Some(as_of), Some(reason)) => write!(out, " ({as_of}: {reason})"),
+        (Some(text), None) | (None, Some(text)) => write!(out, " ({text})"),
+        (None, None) => Ok(()),
     }
 }

@@ -1,67 +1,321 @@
 // `MmuPlayer`: a struct, a reference MMU that answers lines.
 
-ghost use Rattle.std.specs.Prelude.{◌≡◌, ℕ, [], IfOk, MatchOption, None, map};
-ghost use Rattle.mmu.specs.Sparse.{word_of};
-ghost use Rattle.mmu_lines.specs.Lines.{IsNothing};
-ghost use Rattle.mmu_lines.specs.Outcomes.{outcome_line};
-ghost use Rattle.mmu_lines.specs.Requests.{IsAnswer, IsDone, numbered_line};
+ghost use Rattle.std.specs.Prelude.{◌≡◌, ◌≤◌, ◌/◌, ◌%◌, None, IfNone, IfOk, MatchOption, OnOk, map, true};
+ghost use Rattle.access_history.specs.Permits.{Permits, satp_of};
+ghost use Rattle.access_history.specs.declared.event.Event.TheVariants as event;
+ghost use Rattle.access_history.specs.declared.outcome.Outcome.{Outcome};
+ghost use Rattle.access_judge.specs.Findings.{listed};
+ghost use Rattle.access_judge.specs.Search.{is_address_under};
+ghost use Rattle.mmu.specs.Units.{happened};
+ghost use Rattle.mmu_lines.specs.Claims.{Tells};
+ghost use Rattle.mmu_lines.specs.Requests.{IsAnswer, IsAnswered, IsDone, IsError, IsFenced, IsJudged, IsPlaced, IsPlacedIn, IsPmpWritten, IsSound, ShowPermitted, cut, outcome_in, stored};
+ghost use Rattle.mmu_lines.specs.States.{begun, state_of, with_past};
+ghost use Rattle.mmu_requests.specs.Lines.{IsNothing};
+ghost use Rattle.mmu_requests.specs.Profiles.{plain_with};
+ghost use Rattle.mmu_requests.specs.declared.requests.Request.TheVariants as asks;
 ghost use Rattle.script_language.specs.Lines.{fields_of};
+ghost use Rattle.walk_rules.specs.Addresses.{top_of};
 
-use crate::answers::Answer;
-use crate::outcomes::OutcomeLine;
-use crate::reading::{Refusal, read_line};
-use crate::requests::Request;
-use hart_tlb::TlbEntry;
-use mmu::{Mmu, Outcome};
+use crate::answers::{Answer, Lock};
+use crate::claims::permitted_outcome;
+use crate::outcomes::{By, OutcomeLine};
+use crate::recorded::Recorded;
+use crate::seeking::seek;
+use crate::telling::Telling;
+use crate::witness::Witness;
+use crate::writes::{cut_asid, lock_of, satp_written};
+use access_history::Update;
+use access_judge::{Findings, Log, Told, Way, outcomes};
+use line_fields::Mistake;
+use mmu_requests::{Claim, End, Profile, Refusal, Request, read_line};
 use std::alloc::{AllocError, Global};
-use walk_lines::{BufferLine, Hex};
+use sv39_entry::{Satp, Va};
+use walk_lines::Hex;
+use walk_rules::{PmpEntry, Privilege, Status, is_canonical, top_level};
+
+/// The way of an outcome that comes by no walk.
+const NO_WAY: Way = Way {
+    root: None,
+    steps: [None; 5],
+};
+
+/// mstatus at the start.
+const FIRST_STATUS: Status = Status {
+    sum: false,
+    mxr: false,
+    mprv: false,
+    mpp: Privilege::User,
+};
 
 /// A reference MMU that answers lines.
 #[derive(Drop)]
 pub struct MmuPlayer {
     alloc: Global,
-    unit: Mmu,
-    /// The outcomes of the last access.
-    found: Vec<Outcome>,
-    /// The entries of the last look-up, with their numbers.
-    serving: Vec<(usize, TlbEntry)>,
+    profile: Profile,
+    status: Status,
+    recorded: Recorded,
+    witness: Witness,
+    /// The number of the last line.
+    line: u64,
+    findings: Findings,
 }
 
 impl MmuPlayer {
-    /// Returns a player without memory, with satp 0 (Bare) and an empty TLB.
+    /// Returns a player without memory, with satp 0 (Bare), the plain profile and no events.
     pub fn new(alloc: Global) -> MmuPlayer
-        ensures memory { (n : ℕ) → word_of result.unit.memory n ≡ None }
-        ensures satp { result.unit.satp ≡ 0 }
-        ensures buffer { result.unit.buffer ≡ [] }
+        ensures { state_of result ≡ begun (plain_with true) }
     {
         MmuPlayer {
             alloc,
-            unit: Mmu::new(alloc),
-            found: Vec::new(alloc),
-            serving: Vec::new(alloc),
+            profile: Profile::plain(),
+            status: FIRST_STATUS,
+            recorded: Recorded::new(alloc),
+            witness: Witness::new(alloc),
+            line: 0,
+            findings: Findings::new(alloc),
         }
     }
 
-    /// The outcomes of the last access, as they are shown.
-    fn outcomes(&self) -> Result<Vec<OutcomeLine>, AllocError>
-        ensures { IfOk result (λ lines. lines.items ≡ map outcome_line self.now.found.items) }
+    /// Makes all as at the start, but for the profile.
+    fn reset(&mut self)
+        ensures { state_of self.new ≡ begun self.old.profile }
     {
+        self.status = FIRST_STATUS;
+        self.recorded.reset(self.profile.pmp_entries);
+        self.witness.reset(self.profile.pmp_entries);
+    }
+
+    fn store(&mut self, address: u64, word: u64) -> Result<(), AllocError>
+        ensures { OnOk result (state_of self.new ≡ with_past (happened (event.Store (address / 4096) (address % 4096 / 8) word) (state_of self.old).past) (state_of self.old)) }
+    {
+        self.witness.store(self.line, address, word)?;
+        self.recorded.store(self.line, address, word)
+    }
+
+    /// Writes satp, and returns what it holds then.
+    fn write_satp(&mut self, word: Satp) -> Result<Answer, AllocError>
+        ensures { IfOk result (IsDone (state_of self.old) (asks.Satp word) (state_of self.new)) }
+    {
+        if let Some(satp) = satp_written(&self.profile, word) {
+            self.witness.write_satp(self.line, satp)?;
+            self.recorded.write_satp(self.line, satp, satp.asid())?;
+        }
+        Ok(Answer::Satp(Hex(self.recorded.unit.satp().to_word())))
+    }
+
+    /// Writes the registers of a PMP entry that are not locked.
+    fn write_pmp(&mut self, number: usize, entry: PmpEntry) -> Result<Answer, AllocError>
+        ensures { IfOk result (IsPmpWritten (state_of self.old) number entry (state_of self.new)) }
+    {
+        let entries = self.recorded.unit.pmp();
+        if number >= entries.len() {
+            return self.no_such_entry();
+        }
+        let (lock, address) = (lock_of(entries, number), entries[number].address);
+        let config = entry.config;
+        match lock {
+            Lock::Nothing => self.set_pmp(number, entry)?,
+            Lock::Address => self.set_pmp(number, PmpEntry { config, address })?,
+            Lock::All => {}
+        }
+        Ok(Answer::Locked(lock))
+    }
+
+    fn set_pmp(&mut self, number: usize, entry: PmpEntry) -> Result<(), AllocError>
+        ensures { OnOk result (state_of self.new ≡ with_past (happened (event.WritePmp number entry) (state_of self.old).past) (state_of self.old)) }
+    {
+        self.witness.write_pmp(self.line, number, entry)?;
+        self.recorded.write_pmp(self.line, number, entry)
+    }
+
+    fn no_such_entry(&self) -> Result<Answer, AllocError>
+        ensures { IfOk result IsError }
+    {
+        let count = self.profile.pmp_entries;
+        let text = format!(in self.alloc;
+            "the profile has {count} PMP entries, numbered from 0: \"profile pmp16\" and \"profile pmp64\" begin anew with more"
+        )?;
+        Ok(Answer::mistake(Mistake::of_line(text)))
+    }
+
+    /// Whether an address is valid under satp: canonical, or any under Bare.
+    fn is_address(&self, va: Va) -> bool
+        ensures { result ≡ is_address_under (top_of (satp_of (state_of self.now).past)) va.0 }
+    {
+        match top_level(self.recorded.unit.satp()) {
+            Some(top) => is_canonical(top, va),
+            None => true,
+        }
+    }
+
+    fn cut_asid(&self, asid: Option<u16>) -> Option<u16>
+        ensures { result ≡ cut (state_of self.now) asid }
+    {
+        match asid {
+            Some(asid) => Some(cut_asid(&self.profile, asid)),
+            None => None,
+        }
+    }
+
+    fn fence(&mut self, va: Option<Va>, asid: Option<u16>) -> Result<Answer, AllocError>
+        ensures { IfOk result (IsFenced (state_of self.old) va asid (state_of self.new)) }
+    {
+        if let Some(va) = va {
+            if !self.is_address(va) {
+                return Ok(Answer::NoEffect(Hex(va.0)));
+            }
+        }
+        let asid = self.cut_asid(asid);
+        self.witness.fence(self.line, va, asid)?;
+        self.recorded.fence(self.line, va, asid)?;
+        Ok(Answer::Ok)
+    }
+
+    fn telling(&self, request: access_history::Request) -> Telling<'_> {
+        Telling {
+            alloc: self.alloc,
+            recorded: &self.recorded,
+            extensions: self.profile.extensions,
+            request,
+        }
+    }
+
+    /// The outcomes that were found, as they are shown.
+    fn lines(&self, request: access_history::Request) -> Result<Vec<OutcomeLine>, AllocError>
+        ensures { IfOk result (λ lines. map outcome_in lines.items ≡ listed self.now.findings) }
+    {
+        let telling = self.telling(request);
         let mut lines = Vec::new(self.alloc);
-        'outcomes: for outcome in self.found.as_slice() {
-            lines.push(OutcomeLine::of(*outcome))?;
+        'outcomes: for told in self.findings.found() {
+            lines.push(telling.line(told)?)?;
         }
         Ok(lines)
     }
 
-    /// The entries of the last look-up, as they are shown.
-    fn entries(&self) -> Result<Vec<BufferLine>, AllocError>
-        ensures { IfOk result (λ lines. lines.items ≡ map numbered_line self.now.serving.items) }
-    {
-        let mut lines = Vec::new(self.alloc);
-        'entries: for (n, entry) in self.serving.as_slice() {
-            lines.push(BufferLine::of(*n, *entry))?;
+    /// What is known of a claim that no history permits.
+    fn put_mismatch(&self, out: &mut String, claim: Claim) -> Result<(), AllocError> {
+        let mut text = match claim.end {
+            End::Granted { .. } => "no PTE that the hart may hold leads there",
+            End::Refused(_) => "nothing that the hart may hold faults so",
+        };
+        'found: for told in self.findings.found() {
+            if claim.is_outcome(told.outcome) {
+                return out.push_str("by another PTE alone");
+            }
+            if claim.is_end(told.outcome) {
+                text = "the memory type, or the PTE that the hart sets, is another";
+            }
         }
-        Ok(lines)
+        out.push_str(text)
+    }
+
+    /// Appends why an outcome is not permitted.
+    fn put_reason(
+        &self,
+        out: &mut String,
+        request: access_history::Request,
+        claim: Claim,
+    ) -> Result<(), AllocError>
+        requires { 1 ≤ request.width }
+    {
+        match self.telling(request).by_address() {
+            Some(By::Misaligned) => return out.push_str("the address is misaligned"),
+            Some(By::NotCanonical) => return out.push_str("the address is not canonical"),
+            _ => {}
+        }
+        let extensions = self.profile.extensions;
+        if self.witness.put_reason(out, extensions, request, claim)? {
+            return Ok(());
+        }
+        self.put_mismatch(out, claim)
+    }
+
+    /// The outcomes of an access, as they are shown.
+    fn listed(&mut self, request: access_history::Request) -> Result<Vec<OutcomeLine>, AllocError>
+        requires { 1 ≤ request.width }
+        ensures shown { IfOk result (λ lines. ShowPermitted (state_of self.old) request lines.items) }
+        ensures same { state_of self.new ≡ state_of self.old }
+    {
+        let extensions = self.profile.extensions;
+        outcomes(&self.recorded.unit, extensions, request, &mut self.findings)?;
+        self.lines(request)
+    }
+
+    /// Answers that the outcome that a client tells is not permitted.
+    fn deny(&mut self, request: access_history::Request, claim: Claim) -> Result<Answer, AllocError>
+        requires width { 1 ≤ request.width }
+        requires none { claim.by ≡ None → (o : Outcome) → Permits (state_of self.old).profile.extensions (state_of self.old).past request o → Tells claim o → ⊥ }
+        ensures { IfOk result (IsJudged (state_of self.old) request claim (state_of self.new)) }
+    {
+        let permitted = self.listed(request)?;
+        let mut reason = String::new(self.alloc);
+        self.put_reason(&mut reason, request, claim)?;
+        Ok(Answer::NotPermitted { reason, permitted })
+    }
+
+    /// Stores the PTE that a hart wrote to set A and D.
+    fn store_update(&mut self, update: Option<Update>) -> Result<(), AllocError>
+        requires { IsPlaced update }
+        ensures { OnOk result (state_of self.new ≡ with_past (stored update (state_of self.old).past) (state_of self.old)) }
+    {
+        match update {
+            Some(update) => {
+                let address = update.table * 4096 + update.index as u64 * 8;
+                self.store(address, update.word)
+            }
+            None => Ok(()),
+        }
+    }
+
+    /// A way to the outcome that a client tells; `None` if it is by another PTE alone.
+    fn way_to(&self, request: access_history::Request, claim: Claim) -> Option<Way>
+        requires { 1 ≤ request.width }
+        ensures { IfNone result (claim.by ≡ None → ⊥) }
+    {
+        let told = seek(&self.recorded.unit, self.profile.extensions, request, claim);
+        match (told, claim.by) {
+            (Some(told), _) => Some(told.way),
+            (None, None) => Some(NO_WAY),
+            (None, Some(_)) => None,
+        }
+    }
+
+    /// Judges the outcome that a client tells, and stores what its hart set.
+    fn judge(
+        &mut self,
+        request: access_history::Request,
+        claim: Claim,
+    ) -> Result<Answer, AllocError>
+        requires width { 1 ≤ request.width }
+        requires place { IsPlaced claim.update }
+        ensures { IfOk result (IsJudged (state_of self.old) request claim (state_of self.new)) }
+    {
+        let extensions = self.profile.extensions;
+        let Some(outcome) = permitted_outcome(&self.recorded.unit, extensions, request, &claim)
+        else {
+            return self.deny(request, claim);
+        };
+        let Some(way) = self.way_to(request, claim) else {
+            return self.deny(request, claim);
+        };
+        let line = self.telling(request).line(&Told { outcome, way })?;
+        self.store_update(claim.update)?;
+        Ok(Answer::Permitted(line))
+    }
+
+    fn access(
+        &mut self,
+        request: access_history::Request,
+        claim: Option<Claim>,
+    ) -> Result<Answer, AllocError>
+        requires width { 1 ≤ request.width }
+        requires place { IsPlacedIn claim }
+        ensures { IfOk result (IsAnswered (state_of self.old) request claim (state_of self.new)) }
+    {
+        match claim {
+            Some(claim) => self.judge(request, claim),
+            None => Ok(Answer::Outcomes(self.listed(request)?)),
+        }
     }
 
     /// Does what a request asks for, and returns the answer.
@@ -69,53 +323,65 @@ impl MmuPlayer {
     /// # Errors
     /// `AllocError`: the host is out of memory.
     pub fn request(&mut self, request: Request) -> Result<Answer, AllocError>
-        ensures { IfOk result (IsDone self.old.unit request self.new.unit) }
+        requires { IsSound request }
+        ensures { IfOk result (IsDone (state_of self.old) request (state_of self.new)) }
     {
         match request {
-            Request::Reset => {
-                self.unit.reset();
+            Request::Version => Ok(Answer::Version),
+            Request::Profile(profile) => {
+                self.profile = profile;
+                self.reset();
                 Ok(Answer::Ok)
             }
+            Request::Reset => {
+                self.reset();
+                Ok(Answer::Ok)
+            }
+            Request::Status(status) => {
+                self.status = status;
+                Ok(Answer::Ok)
+            }
+            Request::Pmp { number, entry } => self.write_pmp(number, entry),
             Request::Ram { address, end } => {
-                self.unit.add(address, end)?;
+                self.witness.add(address, end)?;
+                self.recorded.add(address, end)?;
                 Ok(Answer::Ok)
             }
             Request::Mem { address, word } => {
-                self.unit.write(address, word)?;
+                self.store(address, word)?;
                 Ok(Answer::Ok)
             }
-            Request::Satp(satp) => {
-                // a word that may not be written leaves satp as it is, and the answer says so
-                self.unit.write_satp(satp);
-                Ok(Answer::Satp(Hex(self.unit.satp().to_word())))
-            }
+            Request::Satp(word) => self.write_satp(word),
+            Request::Sfence { va, asid } => self.fence(va, asid),
             Request::Access {
                 access,
                 va,
                 width,
-                mode,
+                privilege,
+                claim,
             } => {
-                self.unit
-                    .outcomes(va, width, access, mode, &mut self.found)?;
-                Ok(Answer::Outcomes(self.outcomes()?))
-            }
-            Request::Fill(va) => Ok(Answer::Entry(self.unit.fill(va))),
-            Request::Sfence { va, asid } => Ok(Answer::Removed(self.unit.fence(va, asid))),
-            Request::Lookup(va) => {
-                self.unit.serving(va, &mut self.serving)?;
-                Ok(Answer::Entries(self.entries()?))
+                let asked = access_history::Request {
+                    kind: access,
+                    va,
+                    width,
+                    privilege,
+                    status: self.status,
+                };
+                self.access(asked, claim)
             }
         }
     }
 
-    /// Answers a line, without its line feed; `None` if it is empty or a comment. A faulty line changes nothing.
+    /// Answers a line, without its line feed; `None` if it is empty or a comment. A faulty line changes nothing. Each call is one line of the
+    /// input: answers name lines by their number, from 1.
     ///
     /// # Errors
     /// `AllocError`: the host is out of memory.
     pub fn line(&mut self, line: &[u8]) -> Result<Option<Answer>, AllocError>
         ensures { IfOk result (λ answer. MatchOption answer (IsNothing (fields_of line.now)
-            × (self.new.unit ≡ self.old.unit)) (IsAnswer (fields_of line.now) self.old.unit self.new.unit)) }
+            × (state_of self.new ≡ state_of self.old)) (IsAnswer (fields_of line.now) (state_of self.old) (state_of self.new))) }
     {
+        self.line = self.line.saturating_add(1);
         match read_line(self.alloc, line) {
             Ok(Some(request)) => Ok(Some(self.request(request)?)),
             Ok(None) => Ok(None),

@@ -1,16 +1,12 @@
-use Rattle.std.proofs.Common.{length, not, refl, ap, arith}
-use Rattle.std.proofs.lemmas.List.Filters.{length-filter_both}
-use Rattle.hart_tlb.specs.Entries.{is_fenced}
+use Rattle.std.proofs.Common.{ℕ, Option, None, ap, sym, ◌∙◌}
+use Rattle.sv39_entry.specs.declared.address.Va.{Va}
+use Rattle.mmu.specs.Pasts.{past}
+use Rattle.mmu.specs.Units.{fenced}
+use Rattle.mmu.proofs.Beginning.{begun_restarted}
 use Rattle.mmu.proofs.unit.Mmu.fence.Goals as goal
 
-pub overflow_sub-result : goal.overflow_sub-result
-overflow_sub-result c =
-    let fenced = is_fenced c.args.va c.args.asid in
-    let both = length-filter_both fenced (λ e. not (fenced e)) (λ e. refl) c.args.self.now.buffer in
-    omega (arith, both, ap length c.fence.ensures, c.len.ensures.value, c.len-before.ensures.value)
-
-pub returns-clause-removed : goal.returns-clause-removed
-returns-clause-removed c =
-    let fenced = is_fenced c.args.va c.args.asid in
-    let both = length-filter_both fenced (λ e. not (fenced e)) (λ e. refl) c.args.self.now.buffer in
-    omega (arith, both, ap length c.fence.ensures, c.len.ensures.value, c.len-before.ensures.value)
+pub returns-in-None-None-clause-ok : goal.returns-in-None-None-clause-ok
+returns-in-None-None-clause-ok c =
+    let old = past c.args.self.now in
+    c.forget.ensures.past ∙ begun_restarted c.args.self.now.history c.args.self.now.sound
+    ∙ sym (ap (λ (a : Option Va). fenced a c.args.asid old) c.in-None-None.is-0 ∙ ap (λ (s : Option ℕ). fenced None s old) c.in-None-None.is-1)

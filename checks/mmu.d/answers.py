@@ -1,0 +1,171 @@
+"""Reads the answers of `xv6lab mmu`, and compares them with what scripts.py wants."""
+import json
+import pathlib
+import re
+import subprocess
+
+from rules import aged, allows, effective, index_of, kind_of
+
+STORING = ("mem", "fetch", "load", "store")
+
+
+def run(program, words, lines, seconds=1800):
+    """The answers to lines, the status and what went to the standard error."""
+    ran = subprocess.run([*program, "mmu", *words], input="\n".join(lines) + "\n", capture_output=True, text=True, timeout=seconds)
+    return ran.stdout.splitlines(), ran.returncode, ran.stderr
+
+
+def without_reasons(answer):
+    """A text without what is in parentheses."""
+    while answer != (answer := re.sub(r" ?\([^()]*\)", "", answer)):
+        pass
+    return answer
+
+
+def listed(answer):
+    """The outcomes that an answer lists."""
+    plain = re.sub(r" level \d", "", without_reasons(answer))
+    return {re.sub(r"^(walk|held|bare|misaligned|not canonical) ", "", it) for it in plain.split("; ")}
+
+
+def instead(answer):
+    """The outcomes that an answer NOT permitted ends with."""
+    return listed(answer.rpartition(". Permitted: ")[2])
+
+
+def wrong_reason(answer, lines):
+    """What is wrong with the lines that a reason names; None if nothing is."""
+    for number in map(int, re.findall(r"the fence of line (\d+)", answer)):
+        if not lines[number - 1].startswith("sfence"):
+            return f"line {number} is no fence"
+    for what, number in re.findall(r"(PTE|satp|PMP)[^,;()]* as before line (\d+)", answer):
+        words = {"PTE": STORING, "satp": ("satp",), "PMP": ("pmp",)}[what]
+        if not lines[int(number) - 1].startswith(words):
+            return f"line {number} is no {' or '.join(words)}"
+    return None
+
+
+def step_of(seen, word, level):
+    """The step of 4.3.2 at which a PTE denies the access that asks for it; None if none does."""
+    kind, access = kind_of(seen.profile, word, level), seen.access
+    if kind != "leaf":
+        return 4 if level == 0 and kind_of(seen.profile, word, 1) == "pointer" else 3
+    privilege = effective(access.mode, access.kind, seen.status)
+    if not allows(word, 0, access.kind, privilege, seen.status):
+        return 5
+    if not allows(word, level, access.kind, privilege, seen.status):
+        return 6
+    return 7 if aged(word, access.kind) != word else None
+
+
+def wrong_step(seen, answer):
+    """What is wrong with what an answer says of steps, and of what is so now; None if nothing is."""
+    for step, word, place, level in re.findall(r"step (\d): PTE (0x[0-9a-f]+) at (0x[0-9a-f]+), level (\d)", answer):
+        if int(step) != step_of(seen, int(word, 16), int(level)):
+            return f"step {step} is {step_of(seen, int(word, 16), int(level))} for {word} at level {level}"
+        if int(place, 16) % 4096 // 8 != index_of(seen.access.va, int(level)):
+            return f"{place} has another index than the address at level {level}"
+    for it in re.split(r"; (?=walk |held )", answer):
+        # an access fault may be told by an older PMP entry first
+        if it.startswith(("walk", "held")) and it.startswith("held") == (listed(it) <= seen.now) and "PMP as before" not in it:
+            return f"of memory as it is: {sorted(seen.now)}"
+    for word, place in re.findall(r"walk [^;(]*\(step \d: PTE (0x[0-9a-f]+) at (0x[0-9a-f]+),", answer):
+        if seen.words.get(int(place, 16), 0) != int(word, 16):
+            return f"the word at {place} is {seen.words.get(int(place, 16), 0):#x}"
+    return None
+
+
+def fault_in(wanted, answer, lines):
+    """What is wrong with an answer, in words; None if nothing is."""
+    if wanted.kind == "text":
+        return None if answer == wanted.text else f"in place of {wanted.text}"
+    if wanted.kind == "outcomes":
+        got = listed(answer)
+        if got != wanted.outcomes:
+            return f"lacks {sorted(wanted.outcomes - got)}, has too much {sorted(got - wanted.outcomes)}"
+        wrong = wanted.seen and wrong_step(wanted.seen, answer)
+        if wrong:
+            return wrong
+    elif wanted.kind == "permitted":
+        if not answer.startswith("permitted ("):
+            return f"must be permitted: one of {sorted(wanted.outcomes)}"
+    elif not answer.startswith("NOT permitted: "):
+        return f"must be NOT permitted: none of {sorted(wanted.outcomes)}"
+    elif instead(answer) != wanted.outcomes:
+        return f"must tell what is permitted: {sorted(wanted.outcomes)}"
+    return wrong_reason(answer, lines)
+
+
+def differences(program, scripts):
+    """Asks scripts in one talk. Returns for each that is answered wrongly: its name, its lines up to the answer, and what is wrong."""
+    lines = [line for script in scripts for line in script.lines]
+    got, status, err = run(program, ["-"], lines)
+    amiss = any(it.startswith(("error", "NOT permitted")) for it in got)
+    if (len(got), status, err) != (len(lines), int(amiss), "") or any(it.startswith("error") for it in got):
+        refused = next((f"{line!r}: {it}" for line, it in zip(lines, got) if it.startswith("error")), "")
+        return [("all", [], f"status {status}, {len(got)} answers to {len(lines)} lines {err[-500:]} {refused}")]
+    found, at = [], 0
+    for script in scripts:
+        for number, (line, wanted) in enumerate(zip(script.lines, script.wanted)):
+            wrong = fault_in(wanted, got[at + number], lines)
+            if wrong:
+                found.append((script.name, script.lines[: number + 1], f"{line!r}: {got[at + number]}\n    {wrong}"))
+                break
+        at += len(script.lines)
+    return found
+
+
+def outcome_text(it):
+    """The text of an outcome that JSON has as an object."""
+    said = f"{it['by']} pa {it['pa']}" if "pa" in it else f"{it['by']} fault {it['fault']}"
+    if "pa" in it and "level" in it:
+        said += f" level {it['level']}"
+    said += f" {it['type']}" if "type" in it else ""
+    said += f" set {it['set']['place']} {it['set']['word']}" if "set" in it else ""
+    reasons = [it[name] for name in ("as_of", "reason") if name in it]
+    return said + (f" ({': '.join(reasons)})" if reasons else "")
+
+
+def text_of(it, text):
+    """The text of an answer that JSON has as an object; `text` is the one that it must be, for what is told of the one alone."""
+    listed_text = "; ".join(map(outcome_text, it.get("outcomes", [])))
+    kind = it["answer"]
+    if kind == "error":
+        column = f" column {it['error']['column']}" if "column" in it["error"] else ""
+        return f"error{column}: {it['error']['text']}"
+    if kind == "verdict" and it["verdict"] == "permitted":
+        by, as_of = it["outcomes"][0]["by"], it["outcomes"][0].get("as_of")
+        return f"permitted ({as_of or (f'{by} now' if by in ('walk', 'bare') else by)})"
+    if kind == "verdict":
+        return f"NOT permitted: {it['reason']}. Permitted: {listed_text}"
+    said = {"outcomes": listed_text, "satp": f"satp {it.get('satp')}", "no effect": f"no effect: {it.get('reason')}"}
+    return said.get(kind, text if kind == "version" else kind)
+
+
+def validator():
+    """Tests an object by the schema of the answers; None if there is no python3-jsonschema, or no schema."""
+    schema = pathlib.Path(__file__).resolve().parent.parent.parent / "docs" / "schema" / "mmu.json"
+    try:
+        import jsonschema
+    except ImportError:
+        return None
+    return jsonschema.Draft202012Validator(json.loads(schema.read_text())).is_valid if schema.is_file() else None
+
+
+def json_differences(program, scripts):
+    """Asks scripts as text and as JSON: an object must say what the text says, and be one of the schema."""
+    lines = [line for script in scripts for line in script.lines]
+    text, text_status, _ = run(program, ["-"], lines)
+    objects, status, err = run(program, ["--json", "-"], lines)
+    if len(text) != len(objects) or status != text_status or err:
+        return [f"--json: status {status} and {text_status}, {len(objects)} answers, {len(text)} of the text, {err!r}"]
+    found, is_valid = [], validator()
+    if is_valid is None:
+        print("no python3-jsonschema, or no docs/schema/mmu.json: the answers in JSON are not compared with the schema")
+    for number, (line, said, shown) in enumerate(zip(lines, text, objects), 1):
+        it = json.loads(shown)
+        if it["line"] != number or text_of(it, said) != said:
+            found.append(f"{line!r}: {said!r} is {shown} with --json, or {text_of(it, said)!r}")
+        elif is_valid and not is_valid(it):
+            found.append(f"{line!r}: {shown} is not as the schema has it")
+    return found

@@ -1,0 +1,124 @@
+// `Fences`: a struct, the numbers of the last fences of each ASID, and of those of each address.
+
+ghost use Rattle.std.specs.Prelude.{◌≡◌, ◌<◌, ◌≤◌, ◌+◌, ◌/◌, ◌^◌, ◌&&◌, ◌==◌, ℕ, Option, None, OnErr, OnOk, max, nat_eq, if◌then◌else◌};
+ghost use Rattle.std.specs.HashMap.{spare};
+ghost use Rattle.std.specs.Option.{option_eq};
+ghost use Rattle.access_judge.specs.Log.{IsReach};
+ghost use Rattle.mmu.specs.Fencing.{HasRoom, of_key, of_space, with_none};
+
+use std::alloc::{AllocError, Global};
+use std::collections::HashMap;
+use sv39_entry::Va;
+
+/// The last fences.
+#[derive(Drop)]
+pub(crate) struct Fences {
+    // by the ASID: the last fence of it with rs1 = x0
+    spaces: HashMap<u16, usize>,
+    // by how many low bits are left alone, the address's others, and rs2: the last fence with an address that was valid
+    addresses: HashMap<(u32, u64, Option<u16>), usize>,
+}
+
+impl Fences {
+    /// Returns no fences.
+    pub fn new(alloc: Global) -> Fences
+        ensures spaces { (s : ℕ) → of_space result s ≡ 0 }
+        ensures addresses { (bits page : ℕ) (s : Option ℕ) → of_key result bits page s ≡ 0 }
+    {
+        Fences {
+            spaces: HashMap::new(alloc),
+            addresses: HashMap::new(alloc),
+        }
+    }
+
+    /// Makes room for one fence.
+    ///
+    /// # Errors
+    /// `AllocError`: the host is out of memory.
+    pub fn reserve(&mut self) -> Result<(), AllocError>
+        ensures room { OnOk result (HasRoom self.new) }
+        ensures spaces { (s : ℕ) → of_space self.new s ≡ of_space self.old s }
+        ensures addresses { (bits page : ℕ) (s : Option ℕ) → of_key self.new bits page s ≡ of_key self.old bits page s }
+    {
+        self.spaces.reserve(1)?;
+        self.addresses.reserve(6)
+    }
+
+    /// Adds a fence of an ASID, later than those that there are.
+    pub fn add_space(&mut self, asid: u16, number: usize)
+        requires { HasRoom self.old }
+        ensures spaces { (s : ℕ) → of_space self.new s ≡ (if asid == s then number else of_space self.old s) }
+        ensures addresses { self.new.addresses ≡ self.old.addresses }
+    {
+        // there is room for it
+        let _ = self.spaces.insert(asid, number);
+    }
+
+    /// Adds a fence of an address for the PTEs that leave some low bits alone.
+    fn put(&mut self, bits: u32, va: Va, asid: Option<u16>, number: usize)
+        requires few { bits < 64 }
+        requires room { 1 ≤ spare self.old.addresses }
+        ensures addresses { (b page : ℕ) (s : Option ℕ) → of_key self.new b page s
+            ≡ (if (nat_eq bits b && va.0 / 2 ^ bits == page) && option_eq nat_eq asid s then number else of_key self.old b page s) }
+        ensures room { spare self.old.addresses ≤ spare self.new.addresses + 1 }
+        ensures spaces { self.new.spaces ≡ self.old.spaces }
+    {
+        // there is room for it
+        let _ = self.addresses.insert((bits, va.0 >> bits, asid), number);
+    }
+
+    /// Adds a fence of an address, later than those that there are, of an ASID or of all.
+    pub fn add_address(&mut self, va: Va, asid: Option<u16>, number: usize)
+        requires { HasRoom self.old }
+        ensures addresses { (b page : ℕ) (s : Option ℕ) → IsReach b → of_key self.new b page s
+            ≡ (if va.0 / 2 ^ b == page && option_eq nat_eq asid s then number else of_key self.old b page s) }
+        ensures spaces { self.new.spaces ≡ self.old.spaces }
+    {
+        // pages, NAPOT leaves of 64 KiB, and levels 1 to 4
+        self.put(12, va, asid, number);
+        self.put(16, va, asid, number);
+        self.put(21, va, asid, number);
+        self.put(30, va, asid, number);
+        self.put(39, va, asid, number);
+        self.put(48, va, asid, number);
+    }
+
+    /// Returns the number of the last fence of an ASID, 0 if there is none.
+    pub fn of_space(&self, asid: u16) -> usize
+        ensures { result ≡ of_space self.now asid }
+    {
+        self.spaces.get(&asid).copied().unwrap_or(0)
+    }
+
+    /// Returns the number of the last fence of an address with just this rs2, 0 if there is none.
+    fn with(&self, bits: u32, va: Va, asid: Option<u16>) -> usize
+        requires { bits < 64 }
+        ensures { result ≡ of_key self.now bits (va.0 / 2 ^ bits) asid }
+    {
+        self.addresses
+            .get(&(bits, va.0 >> bits, asid))
+            .copied()
+            .unwrap_or(0)
+    }
+
+    /// Returns the number of the last fence of an address for an ASID: with it in rs2, or x0. `None`: with x0 alone. 0: there is none.
+    pub fn of_address(&self, bits: u32, va: Va, asid: Option<u16>) -> usize
+        requires { bits < 64 }
+        ensures { result ≡ with_none (of_key self.now bits (va.0 / 2 ^ bits)) asid }
+    {
+        let all = self.with(bits, va, None);
+        match asid {
+            None => all,
+            Some(_) => all.max(self.with(bits, va, asid)),
+        }
+    }
+
+    /// Removes all fences.
+    pub fn clear(&mut self)
+        ensures spaces { (s : ℕ) → of_space self.new s ≡ 0 }
+        ensures addresses { (bits page : ℕ) (s : Option ℕ) → of_key self.new bits page s ≡ 0 }
+    {
+        self.spaces.clear();
+        self.addresses.clear();
+    }
+}

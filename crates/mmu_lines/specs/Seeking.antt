@@ -1,0 +1,13 @@
+-- What a sink that looks for one outcome says of those that it was told: nothing.
+use Rattle.std.specs.Prelude.{⊤, List, [], ◌++◌}
+use Rattle.access_history.specs.declared.outcome.Outcome.{Outcome}
+use Rattle.mmu_lines.specs.declared.seeking.Seeking.{Seeking}
+
+abbrev pub Sought : Seeking → List Outcome → Seeking → Type 0
+Sought a os b = ⊤
+
+pub sought_nothing : (a : Seeking) → Sought a [] a
+sought_nothing a = tt
+
+pub sought_on : (a b c : Seeking) (xs ys : List Outcome) → Sought a xs b → Sought b ys c → Sought a (xs ++ ys) c
+sought_on a b c xs ys f g = tt

@@ -1,0 +1,202 @@
+// `Recorded`: a struct, a reference MMU with the number of the line of each of its events, which says when a page table entry was read.
+
+ghost use Rattle.std.specs.Prelude.{◌≡◌, ◌/◌, ◌%◌, OnOk};
+ghost use Rattle.access_history.specs.declared.event.Event.TheVariants as event;
+ghost use Rattle.mmu.specs.Pasts.{past};
+ghost use Rattle.mmu.specs.Units.{fenced, fresh, happened, with_run};
+
+use crate::ways::{LEVELS, last_step, step_at};
+use access_judge::{Log, Step, Told};
+use mmu::Mmu;
+use std::alloc::{AllocError, Global};
+use sv39_entry::{Satp, Va};
+use walk_rules::PmpEntry;
+
+/// A write of satp.
+#[derive(Clone, Copy)]
+struct Writing {
+    /// The number of the event.
+    event: usize,
+    /// The ASID that was written.
+    asid: u16,
+}
+
+/// A reference MMU with the number of the line of each event since the last fence of everything.
+#[derive(Drop)]
+pub(crate) struct Recorded {
+    pub unit: Mmu,
+    lines: Vec<u64>,
+    writings: Vec<Writing>,
+    /// The ASID of satp before all events.
+    first_asid: u16,
+    /// The line of the last write of a PMP entry.
+    pmp_line: u64,
+}
+
+impl Recorded {
+    pub fn new(alloc: Global) -> Recorded
+        ensures { past result.unit ≡ fresh 0 }
+    {
+        Recorded {
+            unit: Mmu::new(alloc),
+            lines: Vec::new(alloc),
+            writings: Vec::new(alloc),
+            first_asid: 0,
+            pmp_line: 0,
+        }
+    }
+
+    /// Makes it as a new one, with some PMP entries.
+    pub fn reset(&mut self, pmp_entries: usize)
+        ensures { past self.new.unit ≡ fresh pmp_entries }
+    {
+        self.unit.reset(pmp_entries);
+        self.lines.clear();
+        self.writings.clear();
+        self.first_asid = 0;
+        self.pmp_line = 0;
+    }
+
+    pub fn add(&mut self, address: u64, end: u64) -> Result<(), AllocError>
+        ensures { OnOk result (past self.new.unit ≡ with_run (address / 8) (end / 8) (past self.old.unit)) }
+    {
+        self.unit.add(address, end)
+    }
+
+    pub fn store(&mut self, line: u64, address: u64, word: u64) -> Result<(), AllocError>
+        ensures { OnOk result (past self.new.unit ≡ happened (event.Store (address / 4096) (address % 4096 / 8) word) (past self.old.unit)) }
+    {
+        self.unit.store(address, word)?;
+        Ok(self.lines.push(line)?)
+    }
+
+    /// Writes satp; `asid` is the ASID of the client's word.
+    pub fn write_satp(&mut self, line: u64, satp: Satp, asid: u16) -> Result<(), AllocError>
+        ensures { OnOk result (past self.new.unit ≡ happened (event.WriteSatp satp) (past self.old.unit)) }
+    {
+        self.unit.write_satp(satp)?;
+        self.lines.push(line)?;
+        let event = self.lines.len();
+        Ok(self.writings.push(Writing { event, asid })?)
+    }
+
+    pub fn write_pmp(&mut self, line: u64, number: usize, entry: PmpEntry) -> Result<(), AllocError>
+        ensures { OnOk result (past self.new.unit ≡ happened (event.WritePmp number entry) (past self.old.unit)) }
+    {
+        self.unit.write_pmp(number, entry)?;
+        self.pmp_line = line;
+        Ok(self.lines.push(line)?)
+    }
+
+    /// A fence; one of everything drops what is older.
+    pub fn fence(&mut self, line: u64, va: Option<Va>, asid: Option<u16>) -> Result<(), AllocError>
+        ensures { OnOk result (past self.new.unit ≡ fenced va asid (past self.old.unit)) }
+    {
+        self.unit.fence(va, asid)?;
+        if va.is_none() && asid.is_none() {
+            self.forget();
+            return Ok(());
+        }
+        Ok(self.lines.push(line)?)
+    }
+
+    /// Forgets the lines of the events so far.
+    fn forget(&mut self)
+        ensures { self.new.unit ≡ self.old.unit }
+    {
+        if let Some(writing) = self.writings.last() {
+            self.first_asid = writing.asid;
+        }
+        self.lines.clear();
+        self.writings.clear();
+    }
+
+    /// How many events there were since the last fence of everything.
+    pub fn count(&self) -> usize {
+        self.lines.len()
+    }
+
+    /// The line of an event.
+    fn line_of(&self, event: usize) -> u64 {
+        match event.checked_sub(1) {
+            Some(n) => self.lines.get(n).copied().unwrap_or(0),
+            None => 0,
+        }
+    }
+
+    /// The line of the last write of a PMP entry.
+    pub fn pmp_line(&self) -> u64 {
+        self.pmp_line
+    }
+
+    /// The ASID that satp was given by its last write up to a moment.
+    pub fn asid_at(&self, moment: usize) -> u16 {
+        let mut asid = self.first_asid;
+        'writings: for writing in self.writings.as_slice() {
+            if writing.event > moment {
+                return asid;
+            }
+            asid = writing.asid;
+        }
+        asid
+    }
+
+    /// Whether the place of a PTE has another word now than it had on the way of a walk.
+    pub fn is_old(&self, va: Va, step: &Step) -> bool {
+        self.unit.word(step.ppn, va.page().index(step.level)) != Some(step.entry.to_word())
+    }
+
+    /// Appends which PTE a walk went by that is not in memory now.
+    pub fn put_step(&self, out: &mut String, step: &Step) -> Result<(), AllocError> {
+        let (word, level) = (step.entry.to_word(), step.level);
+        match self.unit.next_change(step.ppn, step.index, step.last) {
+            Some(event) => {
+                let line = self.line_of(event);
+                write!(out, "PTE 0x{word:x} at level {level} as before line {line}")
+            }
+            None => write!(
+                out,
+                "PTE 0x{word:x} at level {level} of another PTE of its NAPOT range"
+            ),
+        }
+    }
+
+    /// Appends that a walk went by a word that satp had, if it has another one now. `lead` comes first.
+    pub fn put_root(&self, out: &mut String, told: &Told, lead: &str) -> Result<(), AllocError> {
+        let Some(root) = told.way.root else {
+            return Ok(());
+        };
+        if root.satp == self.unit.satp() {
+            return Ok(());
+        }
+        'writings: for writing in self.writings.as_slice() {
+            if writing.event > root.last {
+                let line = self.line_of(writing.event);
+                return write!(out, "{lead}satp as before line {line}");
+            }
+        }
+        Ok(())
+    }
+
+    /// Appends which PTEs and which satp a walk went by that are not there now.
+    pub fn put_whence(&self, out: &mut String, va: Va, told: &Told) -> Result<(), AllocError> {
+        let mut lead = "";
+        if let Some(step) = last_step(&told.way) {
+            if step.global && step.asid != self.unit.satp().asid() {
+                let asid = step.asid;
+                write!(out, "global, read under ASID {asid}")?;
+                lead = ", ";
+            }
+        }
+        'levels: for level in 0..LEVELS {
+            if let Some(step) = step_at(&told.way, level) {
+                if self.is_old(va, &step) {
+                    out.push_str(lead)?;
+                    self.put_step(out, &step)?;
+                    lead = ", ";
+                }
+            }
+        }
+        self.put_root(out, told, lead)
+    }
+}

@@ -1,0 +1,81 @@
+// The page table entries of a way (`Way`): that of a level (`step_at`), the last one (`last_step`), and the table below it (`table_below`).
+
+ghost use Rattle.std.specs.Prelude.{◌≤◌};
+
+use access_judge::{Step, Way};
+use sv39_entry::Kind;
+use walk_rules::{Extensions, top_level};
+
+/// The number of levels of Sv57, at most.
+pub(crate) const LEVELS: u32 = 5;
+
+/// The level of the root's table; `None`: there is no way.
+fn top_of(way: &Way) -> Option<u32> {
+    match &way.root {
+        Some(root) => top_level(root.satp),
+        None => None,
+    }
+}
+
+/// Whether a way has a PTE at each level from the root's down to one.
+fn has_steps(way: &Way, top: u32, level: u32) -> bool
+    requires { top ≤ 4 }
+{
+    'levels: for above in level..top + 1 {
+        match way.steps.get(above as usize) {
+            Some(Some(_)) => {}
+            _ => return false,
+        }
+    }
+    level <= top
+}
+
+/// Returns the PTE of a way at a level.
+pub(crate) fn step_at(way: &Way, level: u32) -> Option<Step> {
+    let top = top_of(way)?;
+    if top >= LEVELS || !has_steps(way, top, level) {
+        return None;
+    }
+    match way.steps.get(level as usize) {
+        Some(step) => *step,
+        None => None,
+    }
+}
+
+/// Returns the last PTE of a way.
+pub(crate) fn last_step(way: &Way) -> Option<Step> {
+    'levels: for level in 0..LEVELS {
+        let step = step_at(way, level);
+        if step.is_some() {
+            return step;
+        }
+    }
+    None
+}
+
+/// Returns the PTE at which a walk ended, which is no pointer.
+pub(crate) fn end_of(extensions: Extensions, way: &Way) -> Option<Step> {
+    let step = last_step(way)?;
+    if step.level < LEVELS && extensions.kind(step.entry, step.level) != Kind::Pointer {
+        Some(step)
+    } else {
+        None
+    }
+}
+
+/// Returns the level and the physical page number of the table to which the last PTE of a way points, or of the root's if there is none.
+pub(crate) fn table_below(way: &Way) -> Option<(u32, u64)> {
+    if let Some(step) = last_step(way) {
+        return match step.level.checked_sub(1) {
+            Some(level) => Some((level, step.entry.ppn())),
+            None => None,
+        };
+    }
+    match &way.root {
+        Some(root) => match top_level(root.satp) {
+            Some(top) => Some((top, root.satp.ppn())),
+            None => None,
+        },
+        None => None,
+    }
+}

@@ -1,0 +1,3 @@
+pub mod NoClaims
+pub mod NoProfiles
+pub mod NoRequests

@@ -1,0 +1,3 @@
+pub mod Lines
+pub mod Mistakes
+pub mod Profiles
