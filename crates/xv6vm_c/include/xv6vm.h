@@ -1,11 +1,13 @@
-/* xv6vm.h: page-table walks of RISC-V Sv39 and Sv48, a TLB, and the scripts of xv6vm, for C. Each call is proved to do what its
+/* xv6vm.h: page-table walks of RISC-V Sv39 and Sv48, a TLB of whole walks, a judge of what the standard permits given a hart's history, and
+   the scripts of xv6vm, for C. Each call is proved to do what its
    comment says; nothing checks the caller. x86-64 Linux. Link libxv6vm_c.a; xv6vm_play alone needs other archives.
 
    For all calls:
    - `words`, `count`: the physical memory that a call may read, 64-bit words in the host's byte order (little-endian), those of the
      frames from physical page number `base_ppn` on, 512 words a frame. What is below, or past `count` words, is outside the memory;
      the last frame may be there in part.
-   - `entries`, `places`: a TLB in the caller's memory, an array of `places` places. All zeros is an empty TLB.
+   - `entries`, `places`: a TLB of whole walks in the caller's memory, an array of `places` places. All zeros is an empty TLB.
+   - `hart`, `events`, `capacity`: a hart's history in the caller's memory. Any bytes are allowed there; xv6vm_hart_begin makes a new one.
    - A pointer is never null, not even with a count of 0, and is aligned as its type.
    - While a call runs nobody writes what it reads, and nobody else reads or writes what it writes. Calls on other memory may run at
      the same time on other threads. A call keeps no pointer. Only xv6vm_play takes memory from malloc, and it gives all back.
@@ -40,7 +42,8 @@ enum {
     XV6VM_BARE = 3,         /* satp has MODE 0: no translation, the address is the physical address; no memory is looked at */
     XV6VM_NO_LEAF = 4,      /* lookup: no leaf, or a misaligned one, or the address is not canonical */
     XV6VM_NO_ENTRY = 5,     /* use: the place is empty, or there is no such place, or its entry does not match */
-    XV6VM_UNKNOWN = 6       /* an argument has no meaning; `cause` says which: 1 access, 2 mode, 3 the MODE of satp */
+    XV6VM_UNKNOWN = 6,      /* an argument has no meaning; `cause` says which: 1 access, 2 mode, 3 the MODE of satp */
+    XV6VM_FULL = 7          /* hart: each place of the array has an event */
 };
 
 /* The outcome of the translation of an access. What does not belong to its status is 0. */
@@ -106,11 +109,122 @@ void xv6vm_tlb_evict(struct xv6vm_entry *entries, size_t places, size_t n);
 void xv6vm_tlb_fence(struct xv6vm_entry *entries, size_t places, uint32_t has_address, uint64_t address, uint32_t has_asid,
                      uint16_t asid);
 
-/* Returns 1 exactly when the outcome is one of those that the definition lists: that of the walk over the memory as it is now, or
-   that of an entry of the TLB which matches the address and the ASID in `satp`; else 0. All five numbers of the outcome count. With
+/* Judges a TLB of whole walks; what a hart may do that also caches pointers or invalid entries, xv6vm_hart_judge says. Returns 1 exactly when
+   the outcome is one of those that the definition of such a TLB lists: that of the walk over the memory as it is now, or that of an entry which matches the address and the ASID in `satp`; else 0. All five numbers of the outcome count. With
    MODE 0, or an argument without meaning, only the outcome of xv6vm_translate. */
 uint32_t xv6vm_permits(const struct xv6vm_entry *entries, size_t places, const uint64_t *words, size_t count, uint64_t base_ppn,
                        uint64_t satp, uint64_t address, uint32_t access, uint32_t mode, struct xv6vm_outcome outcome);
+
+/* ---- What the standard permits, given the history of a hart
+
+   A hart may cache page table entries of any level at any moment, and drop them at any other; so whether an outcome is right depends on
+   what happened: on stores to page tables, writes of satp and PMP registers, and fences. Tell these events as they happen, and ask of
+   each access whether its outcome is permitted (xv6vm_hart_judge), or what is (xv6vm_hart_outcomes). No call says when a hart caches.
+
+   `words` must be memory as it is at that moment: pass the emulator's own RAM. A place for which there is an event has the word that the last
+   event says, inside `words` or not. Each event takes a place of the array; a fence of everything empties it. If a call returns XV6VM_FULL
+   nothing has changed: make the array larger (it may be moved), or begin anew after a fence of everything. A call's time grows with the
+   number of events, and for judge and outcomes also with the number of words that the PTEs on the way had.
+
+   Covered: Sv39, Sv48, Sv57 and Bare; user, supervisor and machine mode with MPRV; SUM, MXR; Svade, Svadu; Svnapot, Svpbmt; PMP. */
+
+/* the kind of an event in its place; any other number is XV6VM_FENCE_ASID */
+enum { XV6VM_STORE_EVENT = 0, XV6VM_SATP_EVENT = 1, XV6VM_PMP_EVENT = 2, XV6VM_FENCE_ADDRESS_EVENT = 3, XV6VM_FENCE_ASID_EVENT = 4 };
+
+/* An event. The calls write it. */
+struct xv6vm_event {
+    uint64_t kind;
+    uint64_t key;   /* a store's physical address; the number of a PMP entry; the address of a fence */
+    uint64_t value; /* the word that is stored, or written to satp or pmpaddr; the ASID of a fence */
+    uint64_t other; /* the word before a store; the byte of pmpcfg; of a fence with an address 0 if it has no ASID */
+};
+
+/* A PMP entry: its byte of pmpcfg, and pmpaddr. */
+struct xv6vm_pmp {
+    uint64_t config;
+    uint64_t address;
+};
+
+/* profile: bits that are added. Both or none of Svade and Svadu: a leaf without A, or without D at a store, may be a page fault or updated, at each access */
+enum {
+    XV6VM_SVNAPOT = 1, XV6VM_SVPBMT = 2, XV6VM_SVADE = 4, XV6VM_SVADU = 8,
+    XV6VM_SV39 = 256, XV6VM_SV48 = 512, XV6VM_SV57 = 1024
+};
+
+/* What is known of a hart beside its events. The calls write it. */
+struct xv6vm_hart {
+    uint32_t profile;
+    uint32_t asid_bits; /* more than 16 is 16 */
+    uint64_t mstatus;   /* as it is now */
+    uint64_t satp;      /* as it was before the events */
+    uint64_t pmp_count; /* more than 64 is 64 */
+    uint64_t count;     /* how many places have events; more than there are is all of them */
+    struct xv6vm_pmp pmp[64]; /* as they were before the events */
+};
+
+/* An access. */
+struct xv6vm_access {
+    uint64_t address;
+    uint64_t width;  /* 1, 2, 4 or 8 bytes */
+    uint32_t access; /* XV6VM_FETCH, _LOAD or _STORE */
+    uint32_t mode;   /* the hart's own privilege mode: XV6VM_USER, _SUPERVISOR or _MACHINE */
+};
+
+enum { XV6VM_MACHINE = 3 };
+
+/* status of a judged outcome */
+enum { XV6VM_GRANTED = 0, XV6VM_REFUSED = 1 };
+
+/* What comes of an access. What does not belong to its status does not count, and is 0 in what a call writes. */
+struct xv6vm_judged {
+    uint32_t status;      /* XV6VM_GRANTED, or XV6VM_REFUSED by an exception */
+    uint32_t memory_type; /* granted: by Svpbmt 1 is non-cacheable, 2 I/O; 0 by the attributes of the physical address */
+    uint64_t address;     /* granted: the physical address */
+    uint64_t cause;       /* refused: the exception code, as in scause */
+    uint64_t updates;     /* not 0 if the hart writes a PTE for this access, to set A or D: */
+    uint64_t table;       /* the physical page number of its table, */
+    uint64_t index;       /* its index there, and */
+    uint64_t word;        /* the word that is written. If such an outcome is the hart's, tell xv6vm_hart_mem of the write after it */
+};
+
+/* Begins a history without events: satp 0, mstatus 0, all PMP entries OFF. `profile` is a sum of bits; `asid_bits` 0 to 16; `pmp_count`
+   0, 16 or 64. */
+void xv6vm_hart_begin(struct xv6vm_hart *hart, uint32_t profile, uint32_t asid_bits, uint32_t pmp_count);
+
+/* mstatus from now on, as the register has it: SUM, MXR, MPRV and MPP count. This is no event: it counts as it is at an access. */
+void xv6vm_hart_status(struct xv6vm_hart *hart, uint64_t mstatus);
+
+/* A word of memory changes: by a store of this hart, another one or a device, or by an update of A and D. `address` is physical; its low 3
+   bits do not count. `before` is the word until now, `word` the new one. Words of page tables matter, and those that were or will be;
+   others need not be told. Returns 0 or XV6VM_FULL. */
+uint32_t xv6vm_hart_mem(struct xv6vm_hart *hart, struct xv6vm_event *events, size_t capacity, uint64_t address, uint64_t before,
+                        uint64_t word);
+
+/* satp is written; of the ASID as many bits as the hart has. Returns 0; XV6VM_UNKNOWN if the hart does not write the word: it lacks the MODE, or
+   MODE is 0 and another bit is set (4.1.11); or XV6VM_FULL. */
+uint32_t xv6vm_hart_satp(struct xv6vm_hart *hart, struct xv6vm_event *events, size_t capacity, uint64_t satp);
+
+/* The registers of PMP entry `number` become these. Locks are the caller's matter: tell what the registers have. A number that the hart does not
+   have changes nothing but the array. Returns 0 or XV6VM_FULL. */
+uint32_t xv6vm_hart_pmp(struct xv6vm_hart *hart, struct xv6vm_event *events, size_t capacity, size_t number, uint8_t config,
+                        uint64_t address);
+
+/* SFENCE.VMA (4.2.1). `has_address` 0: rs1 = x0; `has_asid` 0: rs2 = x0. With both 0 the array is emptied. An `address` that is not canonical
+   under the present MODE orders nothing. Returns 0 or XV6VM_FULL, never XV6VM_FULL with both 0. */
+uint32_t xv6vm_hart_fence(struct xv6vm_hart *hart, struct xv6vm_event *events, size_t capacity, uint32_t has_address,
+                          uint64_t address, uint32_t has_asid, uint16_t asid);
+
+/* Returns 1 exactly when the standard permits the outcome of the access, given the history; 0 when it does not; XV6VM_UNKNOWN if a number of
+   `access` or of `outcome` has no meaning. */
+uint32_t xv6vm_hart_judge(const struct xv6vm_hart *hart, const struct xv6vm_event *events, size_t capacity, const uint64_t *words,
+                          size_t count, uint64_t base_ppn, const struct xv6vm_access *access, const struct xv6vm_judged *outcome);
+
+/* Writes the outcomes that the standard permits to the first places of `found`; the other places stay as they are. `*listed` becomes their
+   number, or `places` + 1 if there are more than `places`. Returns 0; XV6VM_UNKNOWN if a number of `access` has no meaning: nothing is
+   written then. That none is listed twice is tested, and not proved. */
+uint32_t xv6vm_hart_outcomes(const struct xv6vm_hart *hart, const struct xv6vm_event *events, size_t capacity, const uint64_t *words,
+                             size_t count, uint64_t base_ppn, const struct xv6vm_access *access, struct xv6vm_judged *found,
+                             size_t places, size_t *listed);
 
 /* status of a played script: the numbers by which xv6vm refuses one, and one for a text that does not fit */
 enum {

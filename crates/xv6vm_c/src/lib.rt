@@ -4,6 +4,7 @@
 #![tactic(auto)]
 
 mod codes;
+mod hart;
 
 ghost use Rattle.std.specs.Prelude.{◌≡◌, ◌≢◌, ◌≤◌, ◌<◌, ◌⊎◌, ◌↔◌, ℕ, true, false, None, Some, filter, length, not, remove};
 ghost use Rattle.hart_tlb.specs.Buffer.{Fills};
@@ -24,6 +25,10 @@ use crate::codes::{
     outside, unknown, unknown_leaf,
 };
 pub use codes::{Leaf, Outcome};
+pub use hart::{
+    xv6vm_hart_begin, xv6vm_hart_fence, xv6vm_hart_judge, xv6vm_hart_mem, xv6vm_hart_outcomes,
+    xv6vm_hart_pmp, xv6vm_hart_satp, xv6vm_hart_status,
+};
 use lent_memory::{LentEntry, LentWords, evict, fence, fill, next_match, use_entry};
 use sv39_entry::{Access, Mode, Satp, Va};
 use table_walk::{Found, lookup, one_outcome, translate};

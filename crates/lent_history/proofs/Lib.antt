@@ -1,0 +1,5 @@
+pub mod Scanning
+pub mod Asked
+pub mod Adding
+pub mod Protected
+pub mod Places
