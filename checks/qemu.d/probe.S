@@ -1,10 +1,7 @@
-/* The entry of the probe, and the accesses that it tries. It runs in M-mode, without a C library. */
+/* The entry of a probe, and the accesses that it tries. It runs in M-mode, without a C library. */
 
-        .equ    MSTATUS_MPP, 0x1800
         .equ    MSTATUS_MPRV, 0x20000
-        .equ    MSTATUS_SUM, 0x40000
-        .equ    MSTATUS_MXR, 0x80000
-        .equ    MSTATUS_ALL, MSTATUS_MPP | MSTATUS_MPRV | MSTATUS_SUM | MSTATUS_MXR
+        .equ    MSTATUS_ALL, 0xe1800    /* MXR, SUM, MPRV, MPP */
         .equ    STACK_END, 0x400000     /* from _start: the 4 MiB of the probe end there */
         .equ    TEST_DEVICE, 0x100000   /* of QEMU's machine virt; a store of POWER_OFF ends QEMU */
         .equ    POWER_OFF, 0x5555
@@ -21,11 +18,11 @@ _start:
         sw      t1, 0(t0)
 1:      j       1b
 
-/* struct outcome attempt(uint64_t va, uint64_t value, uint64_t which, uint64_t mpp)
+/* struct outcome attempt(uint64_t va, uint64_t value, uint64_t which, uint64_t mstatus)
 
-   Tries an access in the mode that mpp names, as in mstatus.MPP, with SUM and MXR clear. `which` is 0 for a fetch, 1 to 4 for a
-   load of 1, 2, 4 or 8 bytes, 5 to 8 for a store. Returns in a0 mcause, or all ones if there was no trap; in a1 what was loaded,
-   or mtval. A fetch always traps: at best with an illegal instruction. */
+   Tries an access with these bits of MXR, SUM, MPRV and MPP in mstatus. `which` is 0 for a fetch in the mode of MPP, 1 to 4 for a
+   load of 1, 2, 4 or 8 bytes in M-mode, 5 to 8 for a store, 9 for a fetch in M-mode. Returns in a0 mcause, or all ones if there
+   was no trap; in a1 what was loaded, or mtval. A fetch always traps: at best with an illegal instruction. */
         .globl  attempt
         .balign 4
 attempt:
@@ -33,17 +30,17 @@ attempt:
         csrw    mtvec, t0
         li      t0, MSTATUS_ALL
         csrc    mstatus, t0
-        csrs    mstatus, a3
-        bnez    a2, data
-        csrw    mepc, a0
-        mret
-data:
+        li      t1, MSTATUS_MPRV
+        beqz    a2, fetch
         la      t0, accesses - 8        /* two instructions of 4 bytes for each access */
         slli    a2, a2, 3
         add     t0, t0, a2
-        li      t1, MSTATUS_MPRV        /* from here on data accesses are made as in the mode of MPP */
-        csrs    mstatus, t1
+        csrs    mstatus, a3             /* with MPRV: from here on data accesses are made as in the mode of MPP */
         jr      t0
+fetch:
+        csrs    mstatus, a3
+        csrw    mepc, a0
+        mret
         .option push
         .option norvc
 accesses:
@@ -63,6 +60,7 @@ accesses:
         j       granted
         sd      a1, 0(a0)
         j       granted
+        jr      a0
         .option pop
 granted:
         csrc    mstatus, t1
