@@ -83,15 +83,15 @@ def typed(words, shown):
     if words == "repl":
         return "".join(it[2:] + "\n" for it in shown if it.startswith("> "))
     if words.split()[0] == "mmu":
-        return "".join(re.split(r"  +", it)[0] + "\n" if it[0] != "#" else it + "\n" for it in shown if it)
+        return "".join(it + "\n" for it in shown if it and not it.startswith(" "))
     lines = [it.partition(" =>")[0].rstrip() for it in shown if it and not it.startswith(("  ", " ..", "#   ", "page table", ".."))]
     return "".join(it + "\n" for it in lines)
 
 
 def beside(given, text):
-    """Lines with their answers behind them; a comment has none."""
+    """Lines with their answers below them; a comment has none."""
     answers = iter(text.splitlines())
-    return "".join(it + "\n" if it.startswith("#") else f"{it}  {next(answers, '')}\n" for it in given.splitlines())
+    return "".join(it + "\n" if it.startswith("#") else f"{it}\n    {next(answers, '')}\n" for it in given.splitlines())
 
 
 def difference(shown, text):

@@ -6,7 +6,7 @@ from planted import PLANTED
 
 WORDS = "no one two three four five six seven eight nine ten eleven twelve thirteen fourteen fifteen sixteen seventeen eighteen".split()
 N = r"\b(?P<n>\d[\d,]*\d|\d|" + "|".join(WORDS) + r")\b"
-MOST_LINES, MOST_WORDS = 200, 56_800
+MOST_LINES, MOST_WORDS = 200, 60_400
 
 
 def number(text):
@@ -89,7 +89,8 @@ RULES = [
     (rf"`xv6vm_translate` and {N} more calls", occurrences(HEADER, LANGUAGE_CALL, less=1)),
     (rf"walk needs {N} small crates", crates_below("xv6vm_c")),
     (rf"{N} (?:graded )?labs\b", files("labs/*.script")),
-    (rf"plants {N} errors in the walk", occurrences("checks/qemu.d/planted.py", r'^    ".*": ".*\.edit",$')),
+    (rf"plants {N} errors in the walk", occurrences("checks/qemu.d/planted.py", r'^    "[^"]*": "\w+",$')),
+    (rf"as {N} broken rules would", occurrences("checks/unicorn.d/planted_answers.py", r'^    "[^"]*": \w+,$')),
     (rf"each of {N} is found", occurrences("checks/programs", r'^    \(".*", ".*", \w+.*\),$')),
     (rf"\[Row; {N}\]", lambda sources: set(map(int, re.findall(r"\[Row; (\d+)\]", sources.text(TABLE))))),
     (rf"first of {N} rules", variants("Rule", less=1)),
