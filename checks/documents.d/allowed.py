@@ -8,6 +8,7 @@ NAMES = {
         kvmmap loadseg mappages proc_freepagetable proc_mapstacks proc_pagetable sched scheduler swtch sys_sbrk uservec userret usertrap
         usertrapret uvmalloc uvmclear uvmcopy uvmcreate uvmdealloc uvmfree uvmunmap w_satp walkaddr""",
     "registers, and the letters of flags": "sstatus scause VRWXUGAD",
+    "what a user of generated programs defines for the C compiler": "KIT_COUNT",
     "tools": "callgrind dot readelf objcopy",
     "beginnings of names that a reader chooses": "my_",
     "wrong bodies that only tests catch: no file holds them": """always_out_of_memory harts_on_one_thread threaded_fork_always_refused
@@ -16,7 +17,7 @@ NAMES = {
 FILES = {
     "xv6's files": """kernel/vm.c kernel/proc.c kernel/memlayout.h kernel/trampoline.S kernel/trap.c kernel/sysproc.c kernel/kalloc.c
         kernel/file.c user/usertests.c kalloc.c vm.c proc.c exec.c trap.c trampoline.S""",
-    "files that a reader makes": "my.script mine.script ../../my.script checked.script page_tables.html cow.html copy_on_write.html",
+    "files that a reader makes": "my.script mine.script ../../my.script checked.script page_tables.html cow.html copy_on_write.html XV6/user/cow1.c",
     "a path as its form": "crate/x.rt crate/X.antt crates/crate/src/x.rt crates/crate/specs/X.antt",
     "the kit's": "liblibc_c.a /c/liblibc_c.a",
 }

@@ -1,0 +1,1 @@
+// Programs include it, as in xv6; this kernel has no stat().

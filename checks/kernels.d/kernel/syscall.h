@@ -1,0 +1,19 @@
+// The numbers of xv6; those from 22 on are this kernel's own.
+#define SYS_fork 1
+#define SYS_exit 2
+#define SYS_wait 3
+#define SYS_pipe 4
+#define SYS_read 5
+#define SYS_kill 6
+#define SYS_exec 7
+#define SYS_getpid 11
+#define SYS_sbrk 12
+#define SYS_open 15
+#define SYS_write 16
+#define SYS_unlink 18
+#define SYS_close 21
+#define SYS_mmap 22
+#define SYS_munmap 23
+#define SYS_freepages 24
+#define SYS_program 25
+#define SYS_shutdown 26

@@ -1,0 +1,24 @@
+int fork(void);
+int exit(int) __attribute__((noreturn));
+int wait(int *);
+int pipe(int *);
+int write(int, const void *, int);
+int read(int, void *, int);
+int close(int);
+int kill(int);
+int exec(const char *, char **);
+int open(const char *, int);
+int unlink(const char *);
+int getpid(void);
+char *sbrk(int);
+void *mmap(void *, uint64, int, int, int, uint64);
+int munmap(void *, uint64);
+int freepages(void);
+int program(int, char *);
+void shutdown(int) __attribute__((noreturn));
+
+uint strlen(const char *);
+int strcmp(const char *, const char *);
+void *memset(void *, int, uint);
+void *memmove(void *, const void *, int);
+int atoi(const char *);
