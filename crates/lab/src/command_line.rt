@@ -26,6 +26,8 @@ pub enum Task {
     Repl,
     /// Answers lines that ask a reference MMU; by JSON objects, if so.
     Mmu(bool),
+    /// Prints the fewest lines by which a line for a reference MMU stays not permitted.
+    Shrink,
     /// Prints the line of a script that declares an ELF file.
     Elf,
 }
@@ -128,10 +130,16 @@ fn draw<'a>(alloc: Global) -> Result<Command<'a>, AllocError> {
 
 /// Returns the word `mmu`.
 fn mmu<'a>(alloc: Global) -> Result<Command<'a>, AllocError> {
+    let shrink = Arg::new(alloc, "shrink")
+        .long("shrink")
+        .action(ArgAction::SetTrue)
+        .conflicts_with("json")?
+        .help("Print the fewest lines by which the first that is NOT permitted stays so");
     Command::new(alloc, "mmu")
         .about("Answer lines that ask a reference MMU: which outcomes may an access have")
         .arg(file(alloc, "The lines; - is standard input"))?
-        .arg(json(alloc, "Answer by JSON objects"))
+        .arg(json(alloc, "Answer by JSON objects"))?
+        .arg(shrink)
 }
 
 /// Returns the word `elf`.
@@ -177,6 +185,7 @@ fn task_of(name: &str, given: &ArgMatches<'_>) -> Task {
         "trace" => Task::Trace(given.get_flag("json")),
         "draw" => Task::Draw(given.get_flag("steps")),
         "show" => Task::Show,
+        "mmu" if given.get_flag("shrink") => Task::Shrink,
         "mmu" => Task::Mmu(given.get_flag("json")),
         "elf" => Task::Elf,
         _ => Task::Repl,

@@ -13,6 +13,7 @@ use crate::repl::ReplLines;
 use crate::run::RunLines;
 use crate::screen::Screen;
 use crate::show::ShowLines;
+use crate::shrink::ShrinkLines;
 use crate::trace::TraceLines;
 use std::alloc::Global;
 use std::fs;
@@ -253,6 +254,7 @@ impl<F: Files, I: Read + Drop> Host<'_, F, I> {
                 self.play(screen, "-", &mut listener)
             }
             Task::Mmu(json) => self.give(screen, file, &mut AnswerLines { json }),
+            Task::Shrink => self.give(screen, file, &mut ShrinkLines),
             Task::Elf => self.give(screen, file, &mut ElfLine { file }),
         }
     }

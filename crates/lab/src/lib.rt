@@ -21,6 +21,7 @@ mod repl;
 mod run;
 mod screen;
 mod show;
+mod shrink;
 mod threads;
 mod trace;
 
