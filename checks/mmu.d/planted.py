@@ -11,10 +11,12 @@ import subprocess
 import sys
 import tempfile
 
-from answers import differences
-
 HERE = pathlib.Path(__file__).resolve().parent
 ROOT = HERE.parent.parent
+sys.path.append(str(ROOT / "checks"))
+from answers import differences
+from planted_program import copied
+
 FILES = ("judge.py", "rules.py")
 # The program of few crates that answers lines: checks/qemu has it too.
 MAIN, CRATE, LIBRARIES = ROOT / "checks" / "qemu.d" / "planted_main.rt.txt", "planted_mmu", "mmu_lines"
@@ -270,6 +272,18 @@ PROGRAM = {
         "access_judge/src/search.rt",
         ("        if version.since == 0 {\n            return;", "        if version.since < 1_000_000_000 {\n            return;"),
     ),
+    "a table counts as searched if it was for another ASID": (
+        "access_judge/src/seen.rt",
+        ("as_slice().contains(table)", "as_slice().iter().any(|other| other.ppn == table.ppn && other.level == table.level)"),
+    ),
+    "a fence of a page and an ASID hides global PTEs of before it": (
+        "access_judge/src/search.rt",
+        ("last < log.address_fence(PAGE_BITS, question.request.va, None)", "last < log.address_fence(PAGE_BITS, question.request.va, Some(table.asid))"),
+    ),
+    "the fence right after a store is overlooked": (
+        "access_judge/src/judge.rt",
+        ("step.last < log.now() &&", "step.last + 1 < log.now() &&"),
+    ),
     "a pointer of before a fence of its ASID is kept": (
         "access_judge/src/search.rt",
         ("(step.global || table.epoch <= step.last)", "(step.global || table.epoch < 1_000_000_000)"),
@@ -370,21 +384,6 @@ def plant_in_judge(groups):
 # ---- the program
 
 
-def copied(scratch):
-    """Copies the files that git tracks or does not ignore, and adds the program."""
-    command = ["git", "ls-files", "-z", "-co", "--exclude-standard"]
-    listed = subprocess.run(command, cwd=ROOT, check=True, capture_output=True, text=True).stdout
-    for name in filter(None, listed.split("\0")):
-        if (ROOT / name).is_file():
-            (scratch / name).parent.mkdir(parents=True, exist_ok=True)
-            shutil.copy2(ROOT / name, scratch / name)
-    source = scratch / "crates" / CRATE / "src"
-    source.mkdir(parents=True)
-    shutil.copy2(MAIN, source / "main.rt")
-    with open(scratch / "crates.txt", "a", encoding="utf-8") as file:
-        print(f"{CRATE}: {LIBRARIES}", file=file)
-
-
 def few(scripts):
     """As many of the scripts as `rt try` takes."""
     taken, lines = [], 0
@@ -397,12 +396,12 @@ def few(scripts):
 
 
 def plant_in_program(groups, finding):
-    """Tries the program without an error, and with each, on scripts that find the same error in the judge. Returns how many are not
+    """Tries the program without an error, and with each, on scripts that find the same error in the judge, if it has it. Returns how many are not
     judged as they must be."""
     failed = 0
     with tempfile.TemporaryDirectory(prefix="planted-") as folder:
         scratch = pathlib.Path(folder)
-        copied(scratch)
+        copied(ROOT, scratch, CRATE, LIBRARIES, MAIN)
         program = [sys.executable, "-B", str(HERE / "planted.py"), str(scratch)]
         found = differences(program, few(groups[0]))
         print(f"{len(found)} scripts differ with no error planted in the program {found[:1]}", flush=True)
@@ -410,7 +409,7 @@ def plant_in_program(groups, finding):
         for what, (name, *pairs) in PROGRAM.items():
             file = scratch / "crates" / name
             old_text = replaced(file, pairs)
-            found = differences(program, few(finding[what] + groups[0]))
+            found = differences(program, few(finding.get(what, []) + groups[0]))
             file.write_text(old_text)
             built = not any(it[0] == "all" for it in found)
             print(f"{len(found):>4} scripts differ if {what} (crates/{name})" + ("" if built else f": {found[0][2]}"), flush=True)

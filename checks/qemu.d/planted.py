@@ -6,10 +6,10 @@ in rows are fences that QEMU's hart leaves out.
 """
 import pathlib
 import re
-import shutil
 import subprocess
 import tempfile
 
+from planted_program import copied
 from trial import unexplained
 
 # Its name does not end in .rt, lest the gate look for a crate around it.
@@ -49,21 +49,6 @@ MEMORIES, ACCESSES = 1, 700
 
 class EditError(Exception):
     """An edit cannot be applied, or the program with it not be run."""
-
-
-def copied(root, scratch):
-    """Copies the files that git tracks or does not ignore, and adds the program."""
-    command = ["git", "ls-files", "-z", "-co", "--exclude-standard"]
-    listed = subprocess.run(command, cwd=root, check=True, capture_output=True, text=True).stdout
-    for name in filter(None, listed.split("\0")):
-        if (root / name).is_file():
-            (scratch / name).parent.mkdir(parents=True, exist_ok=True)
-            shutil.copy2(root / name, scratch / name)
-    source = scratch / "crates" / CRATE / "src"
-    source.mkdir(parents=True)
-    shutil.copy2(MAIN, source / "main.rt")
-    with open(scratch / "crates.txt", "a", encoding="utf-8") as file:
-        print(f"{CRATE}: {LIBRARIES}", file=file)
 
 
 def edited(scratch, name):
@@ -113,7 +98,7 @@ def try_edits(root, trials, schemes, seed):
     made = [trial.made(seed, scheme, profile, False, MEMORIES, ACCESSES) for scheme in schemes for profile in profiles]
     with tempfile.TemporaryDirectory(prefix="planted-") as folder:
         scratch = pathlib.Path(folder)
-        copied(root, scratch)
+        copied(root, scratch, CRATE, LIBRARIES, MAIN)
         wrong, accesses = count_unexplained(made, tried(scratch, made))
         print(f"{wrong:>7,} of {accesses:,} accesses differ without explanation with no error planted", flush=True)
         failed += wrong != 0

@@ -1,16 +1,18 @@
--- How many bits fences leave alone, and that the numbers of fences are moments.
-use Rattle.std.proofs.Common.{◌≤◌, ℕ, suc, zero, List, [], ◌∷◌, Bool, true, false, Option, None, Some, ◌&&◌, ◌==◌, ◌+◌, ◌*◌, ◌^◌, ◌/◌, length, refl, if◌then◌else◌, inl, inr, arith}
+-- How many bits fences leave alone, that the numbers of fences are moments, and that no fence covers a word that memory has now.
+use Rattle.std.proofs.Common.{◌≡◌, ◌≤◌, ℕ, suc, zero, List, [], ◌∷◌, Bool, true, false, Option, None, Some, ◌&&◌, ◌==◌, ◌+◌, ◌*◌, ◌^◌, ◌/◌, ◌||◌, length, nat_lt, not, refl, ap, ◌∙◌, if◌then◌else◌, inl, inr, arith}
 use Rattle.walk_rules.specs.Addresses.{reach, top_of}
 use Rattle.walk_rules.specs.Kinds.{is_napot, kind_in}
 use Rattle.walk_rules.specs.declared.extensions.Extensions.{Extensions}
 use Rattle.sv39_entry.specs.declared.entry.Kind.{Kind}
 use Rattle.sv39_entry.specs.declared.entry.Kind.TheVariants.{Invalid, Leaf, Pointer}
 use Rattle.access_history.specs.Held.{reach_in, reach_of}
-use Rattle.access_history.specs.History.{satp_at}
+use Rattle.access_history.specs.History.{First, satp_at}
 use Rattle.access_history.specs.declared.event.Event.{Event}
 use Rattle.access_history.specs.declared.event.Event.TheVariants.{Store, WriteSatp, WritePmp, Fence}
 use Rattle.access_judge.specs.Log.{IsReach}
-use Rattle.access_judge.specs.Search.{address_fence, is_address_under, is_for}
+use Rattle.access_judge.specs.Search.{Found, address_fence, became_leaf, is_address_under, is_fenced, is_for, is_kind, space_fence, space_of}
+use Rattle.access_judge.proofs.FenceNumbers.{space_fence_low}
+use Rattle.std.proofs.lemmas.Bool.Decides.{leb_tells}
 
 plain : (level : ℕ) → level ≤ 4 → IsReach (12 + 9 * level)
 plain zero low = inl refl
@@ -48,3 +50,19 @@ fence_in_past satp (Fence None s ∷ h) bits va space = let up = fence_in_past s
 fence_in_past satp (Fence (Some a) s ∷ h) bits va space =
     let up = fence_in_past satp h bits va space in
     most (is_address_under (top_of (satp_at satp h)) a.0 && a.0 / 2 ^ bits == va / 2 ^ bits && is_for s space) (suc (length h)) (address_fence satp h bits va space) (suc (length h)) (omega arith) (omega arith)
+
+pub not_later : (m n : ℕ) → n ≤ m → nat_lt m n ≡ false
+not_later m n low = elim (leb_tells (suc m) n) [ inl later ↦ absurd (omega (arith, later.1, low)) | inr other ↦ other.0 ]
+
+neither : (a b g p : Bool) → a ≡ false → b ≡ false → ((a && p) || (g && b)) ≡ false
+neither a b false p first second = ap (λ (t : Bool). (t && p) || false) first
+neither a b true p first second = ap (λ (t : Bool). (t && p) || b) first ∙ second
+
+pub not_fenced_now : (x : Extensions) (f : First) (h : List Event) (va : ℕ) (c : Found) → length h ≤ c.last → is_fenced x f h va c ≡ false
+not_fenced_now x f h va c now =
+    let number = address_fence f.satp h (reach_in x c.read.level c.read.word) va (space_of c.read) in
+    let address = fence_in_past f.satp h (reach_in x c.read.level c.read.word) va (space_of c.read) in
+    let space = space_fence_low h c.read.asid in
+    neither (nat_lt c.last number) (nat_lt c.last (space_fence h c.read.asid)) (not c.read.global)
+    (is_kind (kind_in x c.read.level c.read.word) Leaf || became_leaf x f h va c number)
+    (not_later c.last number (omega (arith, now, address))) (not_later c.last (space_fence h c.read.asid) (omega (arith, now, space)))

@@ -3,6 +3,7 @@ mod Ending
 pub mod Exact
 pub mod FenceNumber
 mod FenceNumbers
+pub mod FencedOlder
 mod FencedReads
 mod KeptReads
 pub mod LatestUse
@@ -19,6 +20,7 @@ mod SearchReads
 mod SearchSays
 mod SearchSound
 mod SearchStands
+pub mod Sifting
 pub mod TableSays
 pub mod Telling
 pub mod UntilNow

@@ -30,12 +30,12 @@ pub step_ends : (a : Question) (p : Past) (us : List Use) (s : Stand) (c : Found
 unfolding step_says
 step_ends a p us s c e = rw e refl
 
-word_at_found : (a : Question) (p : Past) (us : List Use) (s : Stand) (napot : Bool) (v : Version) → counts a s napot (found_by s v) ≡ true
+pub word_at_found : (a : Question) (p : Past) (us : List Use) (s : Stand) (napot : Bool) (v : Version) → counts a s napot (found_by s v) ≡ true
     → step_says a p us s (found_by s v) ≡ word_says a p us s napot v
 unfolding word_says
 word_at_found a p us s napot v e = rw e refl
 
-word_not_found : (a : Question) (p : Past) (us : List Use) (s : Stand) (napot : Bool) (v : Version) → counts a s napot (found_by s v) ≡ false → [] ≡ word_says a p us s napot v
+pub word_not_found : (a : Question) (p : Past) (us : List Use) (s : Stand) (napot : Bool) (v : Version) → counts a s napot (found_by s v) ≡ false → [] ≡ word_says a p us s napot v
 unfolding word_says
 word_not_found a p us s napot v e = rw e refl
 
@@ -61,11 +61,11 @@ pub words_stop : (a : Question) (p : Past) (us : List Use) (s : Stand) (napot : 
     → done ++ words_say a p us s napot vs ≡ all → done ≡ all
 words_stop a p us s napot vs done all e total = sym (append-nil done) ∙ sym (ap (λ (os : List Outcome). done ++ os) (words_none a p us s napot vs e)) ∙ total
 
-before_none : (m : Memory) (h : List Event) (table index since : ℕ) → since ≡ 0 → versions_before m h table index since ≡ []
+pub before_none : (m : Memory) (h : List Event) (table index since : ℕ) → since ≡ 0 → versions_before m h table index since ≡ []
 before_none m h table index zero e = refl
 before_none m h table index (suc n) e = absurd (omega arith)
 
-before_some : (m : Memory) (h : List Event) (table index since : ℕ) → 0 < since → versions_before m h table index since ≡ versions m (until h (since - 1)) table index
+pub before_some : (m : Memory) (h : List Event) (table index since : ℕ) → 0 < since → versions_before m h table index since ≡ versions m (until h (since - 1)) table index
 before_some m h table index zero e = absurd (omega arith)
 before_some m h table index (suc n) e = let same : n ≡ suc n - 1 = omega arith in ap (λ (k : ℕ). versions m (until h k) table index) same
 

@@ -1,6 +1,7 @@
 -- The outcomes that findings list.
-use Rattle.std.specs.Prelude.{◌≡◌, ◌-◌, false, None, Some, List, [], ◌∷◌, ◌++◌, if◌then◌else◌, nat_lt, slice_set}
-use Rattle.std.proofs.Common.{refl, subst, ◌∙◌}
+use Rattle.std.specs.Prelude.{◌≡◌, ◌-◌, true, false, None, Some, List, [], ◌∷◌, ◌++◌, if◌then◌else◌, nat_lt, slice_set}
+use Rattle.std.proofs.Common.{refl, subst, ◌∙◌, inl}
+use Rattle.std.specs.List.{Contains}
 use Rattle.access_history.specs.declared.outcome.Outcome.{Outcome}
 use Rattle.access_judge.specs.Listing.{EachOnce, Lists, Seeks, lists_nothing, lists_on, outcomes_of, seeks_nothing, seeks_on}
 use Rattle.access_judge.specs.declared.findings.Findings.{Findings}
@@ -42,6 +43,23 @@ finds_on a b c xs ys p q = record {
   once = λ h each. q.once h (p.once (q.fits h) each);
 }
 
+-- each of the outcomes is listed, if memory was found for each
+abbrev pub Has : Findings → List Outcome → Type 0
+Has f xs = f.is_full ≡ false → (o : Outcome) → Contains xs o → Contains (listed f) o
+
+pub has_told : (a b : Findings) (xs : List Outcome) → Finds a xs b → Has b xs
+has_told a b xs p = λ fits. (p.lists fits).each
+
+pub has_still : (a b : Findings) (xs ys : List Outcome) → Has a xs → Finds a ys b → Has b xs
+has_still a b xs ys has p = λ fits o x. (p.lists fits).kept o (has (p.fits fits) o x)
+
+pub finds_again : (a : Findings) (xs : List Outcome) → Has a xs → Finds a xs a
+finds_again a xs has = record {
+  fits = λ h. h;
+  lists = λ fits. record { only = λ o old. inl old; kept = λ o old. old; each = has fits };
+  once = λ h each. each;
+}
+
 pub record Sought (a : Seeker) (xs : List Outcome) (b : Seeker) : Type 0 where
   pub same : b.wanted ≡ a.wanted
   pub seeks : Seeks a.wanted a.is_found xs b.is_found
@@ -55,3 +73,16 @@ sought_on a b c xs ys p q = record {
   seeks = seeks_on a.wanted a.is_found b.is_found c.is_found xs ys p.seeks
       (subst (λ (w : Outcome). Seeks w b.is_found ys c.is_found) p.same q.seeks);
 }
+
+-- if the outcome that is wanted is among these, it was found
+abbrev pub HasSought : Seeker → List Outcome → Type 0
+HasSought s xs = Contains xs s.wanted → s.is_found ≡ true
+
+pub has_sought : (a b : Seeker) (xs : List Outcome) → Sought a xs b → HasSought b xs
+has_sought a b xs p has = p.seeks.each (subst (λ (w : Outcome). Contains xs w) p.same has)
+
+pub still_sought : (a b : Seeker) (xs ys : List Outcome) → HasSought a xs → Sought a ys b → HasSought b xs
+still_sought a b xs ys has p x = p.seeks.kept (has (subst (λ (w : Outcome). Contains xs w) p.same x))
+
+pub sought_again : (a : Seeker) (xs : List Outcome) → HasSought a xs → Sought a xs a
+sought_again a xs has = record { same = refl; seeks = record { only = λ h. inl h; kept = λ h. h; each = has } }

@@ -2,4 +2,6 @@ pub mod Findings
 pub mod Judging
 pub mod Listing
 pub mod Log
+pub mod Older
 pub mod Search
+pub mod Sifting

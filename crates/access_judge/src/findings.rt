@@ -92,13 +92,21 @@ impl Findings {
 }
 
 impl Sink for Findings {
-    ghost use Rattle.access_judge.specs.Findings.{Finds, begun, finds_nothing, finds_on, noted, told_in};
+    ghost use Rattle.access_judge.specs.Findings.{Finds, Has, begun, finds_again, finds_nothing, finds_on, has_still, has_told, noted, told_in};
 
     ghost gains = { Finds };
+
+    ghost has = { Has };
 
     ghost gains_nothing = { finds_nothing };
 
     ghost gains_on = { finds_on };
+
+    ghost has_told = { has_told };
+
+    ghost has_still = { has_still };
+
+    ghost gains_again = { finds_again };
 
     fn begin(&mut self, root: PastSatp)
         ensures gains { Finds self.old [] self.new }
@@ -143,13 +151,21 @@ pub(crate) struct Seeker {
 }
 
 impl Sink for Seeker {
-    ghost use Rattle.access_judge.specs.Findings.{Sought, sought_nothing, sought_on};
+    ghost use Rattle.access_judge.specs.Findings.{HasSought, Sought, has_sought, sought_again, sought_nothing, sought_on, still_sought};
 
     ghost gains = { Sought };
+
+    ghost has = { HasSought };
 
     ghost gains_nothing = { sought_nothing };
 
     ghost gains_on = { sought_on };
+
+    ghost has_told = { has_sought };
+
+    ghost has_still = { still_sought };
+
+    ghost gains_again = { sought_again };
 
     fn begin(&mut self, _root: PastSatp) {}
 

@@ -33,8 +33,16 @@ fn is_of_now(satp: Satp, va: Va, step: &Step) -> bool
     has_level(satp, va, step.level) && (step.asid == satp.asid() || step.global)
 }
 
-/// Whether a fence covers an entry since it was read.
+/// Whether a fence covers an entry since it was read. None covers what memory has now.
 fn is_fenced<L: Log>(log: &L, question: &Question, step: &Step) -> bool
+    requires { IsStep (L.past log.now) step.now }
+    ensures { result ≡ is_fenced question.now.extensions (L.past log.now).first (L.past log.now).events question.now.request.va.0 (found_of step.now) }
+{
+    step.last < log.now() && is_fenced_since(log, question, step)
+}
+
+/// Whether a fence covers an entry since it was read, by the last fences that may.
+fn is_fenced_since<L: Log>(log: &L, question: &Question, step: &Step) -> bool
     requires { IsStep (L.past log.now) step.now }
     ensures { result ≡ is_fenced question.now.extensions (L.past log.now).first (L.past log.now).events question.now.request.va.0 (found_of step.now) }
 {

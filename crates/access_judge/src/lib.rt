@@ -12,6 +12,7 @@ mod present;
 mod question;
 mod saying;
 mod search;
+mod seen;
 mod sink;
 mod way;
 

@@ -5,7 +5,8 @@ ghost use Rattle.std.specs.List.{Contains};
 ghost use Rattle.walk_rules.specs.Addresses.{is_canonical, top_of};
 ghost use Rattle.access_history.specs.Permits.{Permits, satp_of};
 ghost use Rattle.access_judge.specs.Findings.{listed};
-ghost use Rattle.access_judge.specs.Judging.{IsRootTable, root_says};
+ghost use Rattle.access_judge.specs.Judging.{IsRootTable, root_says, table_says};
+ghost use Rattle.access_judge.specs.Sifting.{Sifts};
 ghost use Rattle.access_judge.specs.Listing.{EachOnce};
 ghost use Rattle.access_judge.specs.Log.{use_of};
 ghost use Rattle.access_judge.specs.Search.{ArePermitted, outcomes_by, page_fault, root_at, translated};
@@ -15,6 +16,7 @@ use crate::log::{Log, PastSatp};
 use crate::question::{Question, Table, page_fault};
 use crate::saying::end;
 use crate::search::search_table;
+use crate::seen::Seen;
 use crate::sink::Sink;
 use access_history::{Outcome, Request};
 use std::alloc::AllocError;
@@ -106,20 +108,27 @@ fn tell_translated<L: Log, S: Sink>(
 fn tell_walks<L: Log, S: Sink>(log: &L, question: &Question, sink: &mut S)
     ensures { S.gains sink.old (translated question.now.extensions (L.past log.now) (L.uses_of log.now) question.now.request question.now.mode) sink.new }
 {
+    let mut seen = Seen::new();
     'uses: for number in 0..log.use_count() {
         let root = log.use_at(number);
-        search_from(log, question, root, sink);
+        search_from(log, question, root, &mut seen, sink);
     }
 }
 
 /// Tells what walks come to from the root of a word that satp had.
-fn search_from<L: Log, S: Sink>(log: &L, question: &Question, root: PastSatp, sink: &mut S)
+fn search_from<L: Log, S: Sink>(
+    log: &L,
+    question: &Question,
+    root: PastSatp,
+    seen: &mut Seen,
+    sink: &mut S,
+)
     requires { root.last ≤ length (L.past log.now).events }
-    ensures { S.gains sink.old (root_says question.now (L.past log.now) (L.uses_of log.now) (use_of root)) sink.new }
+    ensures { Sifts S.gains S.has (table_says question.now (L.past log.now) (L.uses_of log.now)) sink.old seen.old (root_says question.now (L.past log.now) (L.uses_of log.now) (use_of root)) sink.new seen.new }
 {
     if let Some(table) = root_table(question, &root) {
         sink.begin(root);
-        search_table(log, question, &table, sink);
+        search_table(log, question, &table, seen, sink);
     }
 }
 

@@ -17,7 +17,7 @@ pub(crate) struct Question {
 }
 
 /// A page table at which a walk may be at a moment, and at none after it.
-#[derive(Clone, Copy)]
+#[derive(Clone, Copy, PartialEq, Eq, Default)]
 pub(crate) struct Table {
     pub level: u32,
     /// Its physical page number.

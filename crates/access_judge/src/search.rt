@@ -1,6 +1,7 @@
-// The search: from a table on, through the words that the place of the address's PTE had, to the tables below (`search_table`).
+// The search: from a table on, through the words that the place of the address's PTE had, to the tables below (`search_table`). It goes through each
+// table once, and through no words that are older than a leaf that a fence covers (`hides_older`).
 
-ghost use Rattle.std.specs.Prelude.{◌≡◌, ◌<◌, ◌≤◌, ◌^◌, ◌==◌, ◌&&◌, length, true};
+ghost use Rattle.std.specs.Prelude.{◌≡◌, ◌<◌, ◌≤◌, ◌^◌, ◌==◌, ◌&&◌, IsTrue, length, true};
 ghost use Rattle.sv39_entry.specs.declared.access.Access.TheVariants as access;
 ghost use Rattle.walk_rules.specs.declared.status.Privilege.TheVariants as privilege;
 ghost use Rattle.sv39_entry.specs.declared.entry.Kind.TheVariants.{Leaf};
@@ -10,12 +11,15 @@ ghost use Rattle.access_history.specs.Held.{has_global};
 ghost use Rattle.access_judge.specs.Judging.{counts, IsStep, IsTable, entries_say, found_of, group_says, index_at, item_says, pointer_says};
 ghost use Rattle.access_judge.specs.Judging.{stand_of, step_says, IsBelowTable, IsLatestIfSome, table_says, use_if, versions_of, word_says, words_say};
 ghost use Rattle.access_judge.specs.Log.{use_of};
+ghost use Rattle.access_judge.specs.Older.{HidesOlder};
+ghost use Rattle.access_judge.specs.Sifting.{Sifts};
 ghost use Rattle.access_judge.specs.Search.{below_of, found_by, follows, has_level_in, is_kind, is_pointer, is_unread, later, latest, may_pass, place_at, stood, until};
 
 use crate::judge::{is_leaf, judge};
 use crate::log::{Log, PastSatp};
 use crate::present::fails_now;
 use crate::question::{Question, Table, access_fault};
+use crate::seen::Seen;
 use crate::sink::{Sink, Step};
 use bitflags::Flags;
 use sv39_entry::{Access, Entry, EntryFlags, Kind, PAGE_SIZE, Satp, Va};
@@ -27,14 +31,15 @@ pub(crate) fn search_table<L: Log, S: Sink>(
     log: &L,
     question: &Question,
     table: &Table,
+    seen: &mut Seen,
     sink: &mut S,
 )
     requires { IsTable (L.past log.now) table.now }
-    ensures { S.gains sink.old (table_says question.now (L.past log.now) (L.uses_of log.now) (stand_of table.now)) sink.new }
+    ensures { Sifts S.gains S.has (table_says question.now (L.past log.now) (L.uses_of log.now)) sink.old seen.old (table_says question.now (L.past log.now) (L.uses_of log.now) (stand_of table.now)) sink.new seen.new }
 {
     tell_unread(log, question, table, sink);
     if is_readable(log, question, table) {
-        search_entries(log, question, table, sink);
+        search_entries(log, question, table, seen, sink);
     }
 }
 
@@ -92,14 +97,20 @@ fn tell_unread<L: Log, S: Sink>(log: &L, question: &Question, table: &Table, sin
 
 /// Tells what comes of the PTEs that a walk at a table may read.
 #[cycle(walks)]
-fn search_entries<L: Log, S: Sink>(log: &L, question: &Question, table: &Table, sink: &mut S)
+fn search_entries<L: Log, S: Sink>(
+    log: &L,
+    question: &Question,
+    table: &Table,
+    seen: &mut Seen,
+    sink: &mut S,
+)
     requires { IsTable (L.past log.now) table.now }
-    ensures { S.gains sink.old (entries_say question.now (L.past log.now) (L.uses_of log.now) (stand_of table.now)) sink.new }
+    ensures { Sifts S.gains S.has (table_says question.now (L.past log.now) (L.uses_of log.now)) sink.old seen.old (entries_say question.now (L.past log.now) (L.uses_of log.now) (stand_of table.now)) sink.new seen.new }
 {
     let index = index_in(question, table);
-    search_words(log, question, table, index, false, sink);
+    search_words(log, question, table, index, false, seen, sink);
     if has_groups(question, table) {
-        search_group(log, question, table, index / 16 * 16, sink);
+        search_group(log, question, table, index / 16 * 16, seen, sink);
     }
 }
 
@@ -117,14 +128,15 @@ fn search_group<L: Log, S: Sink>(
     question: &Question,
     table: &Table,
     first: usize,
+    seen: &mut Seen,
     sink: &mut S,
 )
     requires table { IsTable (L.past log.now) table.now }
     requires in_frame { first ≤ 496 }
-    ensures { S.gains sink.old (group_says question.now (L.past log.now) (L.uses_of log.now) (stand_of table.now) first) sink.new }
+    ensures { Sifts S.gains S.has (table_says question.now (L.past log.now) (L.uses_of log.now)) sink.old seen.old (group_says question.now (L.past log.now) (L.uses_of log.now) (stand_of table.now) first) sink.new seen.new }
 {
     'group: for number in 0..16 {
-        search_words(log, question, table, first + number, true, sink);
+        search_words(log, question, table, first + number, true, seen, sink);
     }
 }
 
@@ -136,11 +148,12 @@ fn search_words<L: Log, S: Sink>(
     table: &Table,
     index: usize,
     napot: bool,
+    seen: &mut Seen,
     sink: &mut S,
 )
     requires table { IsTable (L.past log.now) table.now }
     requires in_frame { index < 512 }
-    ensures { S.gains sink.old (words_say question.now (L.past log.now) (L.uses_of log.now) (stand_of table.now) napot (versions_of (L.past log.now) (stand_of table.now) index)) sink.new }
+    ensures { Sifts S.gains S.has (table_says question.now (L.past log.now) (L.uses_of log.now)) sink.old seen.old (words_say question.now (L.past log.now) (L.uses_of log.now) (stand_of table.now) napot (versions_of (L.past log.now) (stand_of table.now) index)) sink.new seen.new }
 {
     let mut moment = table.last;
     'words: while let Some(version) = log.word_at(table.ppn, index, moment) {
@@ -152,13 +165,35 @@ fn search_words<L: Log, S: Sink>(
             version.word,
             moment,
             napot,
+            seen,
             sink,
         );
         if version.since == 0 {
             return;
         }
+        if hides_older(log, question, table, index, version.word, moment) {
+            return;
+        }
         moment = version.since - 1;
     }
+}
+
+/// Whether a fence covers a word that a place had until a moment, and so each older one.
+fn hides_older<L: Log>(
+    log: &L,
+    question: &Question,
+    table: &Table,
+    index: usize,
+    word: u64,
+    last: usize,
+) -> bool
+    ensures { IsTrue result → HidesOlder question.now (L.past log.now) (stand_of table.now) index word last }
+{
+    table.level == 0
+        && last < log.now()
+        && index == index_in(question, table)
+        && is_leaf(question, Entry::from_word(word), 0)
+        && last < log.address_fence(PAGE_BITS, question.request.va, None)
 }
 
 /// Tells what comes of a word that the place of a PTE had until a moment.
@@ -171,16 +206,17 @@ fn search_word<L: Log, S: Sink>(
     word: u64,
     last: usize,
     napot: bool,
+    seen: &mut Seen,
     sink: &mut S,
 )
     requires table { IsTable (L.past log.now) table.now }
     requires last { last ≤ length (L.past log.now).events }
-    ensures { S.gains sink.old (word_says question.now (L.past log.now) (L.uses_of log.now) (stand_of table.now) napot (record { word = word; last = last })) sink.new }
+    ensures { Sifts S.gains S.has (table_says question.now (L.past log.now) (L.uses_of log.now)) sink.old seen.old (word_says question.now (L.past log.now) (L.uses_of log.now) (stand_of table.now) napot (record { word = word; last = last })) sink.new seen.new }
 {
     let step = step_of(table, index, Entry::from_word(word), last);
     if counts(question, table, &step, napot) {
         sink.note(step);
-        search_step(log, question, table, &step, sink);
+        search_step(log, question, table, &step, seen, sink);
     }
 }
 
@@ -191,15 +227,16 @@ fn search_step<L: Log, S: Sink>(
     question: &Question,
     table: &Table,
     step: &Step,
+    seen: &mut Seen,
     sink: &mut S,
 )
     requires table { IsTable (L.past log.now) table.now }
     requires step { IsStep (L.past log.now) step.now }
     requires same { step.now.level ≡ table.now.level }
-    ensures { S.gains sink.old (step_says question.now (L.past log.now) (L.uses_of log.now) (stand_of table.now) (found_of step.now)) sink.new }
+    ensures { Sifts S.gains S.has (table_says question.now (L.past log.now) (L.uses_of log.now)) sink.old seen.old (step_says question.now (L.past log.now) (L.uses_of log.now) (stand_of table.now) (found_of step.now)) sink.new seen.new }
 {
     if is_pointer(question, step) {
-        search_below(log, question, table, step, sink);
+        search_below(log, question, table, step, seen, sink);
     } else {
         judge(log, question, step, sink);
     }
@@ -212,17 +249,37 @@ fn search_below<L: Log, S: Sink>(
     question: &Question,
     table: &Table,
     step: &Step,
+    seen: &mut Seen,
     sink: &mut S,
 )
     requires table { IsTable (L.past log.now) table.now }
     requires step { IsStep (L.past log.now) step.now }
     requires same { step.now.level ≡ table.now.level }
     requires pointer { is_pointer question.now.extensions (found_of step.now) ≡ true }
-    ensures { S.gains sink.old (pointer_says question.now (L.past log.now) (L.uses_of log.now) (stand_of table.now) (found_of step.now)) sink.new }
+    ensures { Sifts S.gains S.has (table_says question.now (L.past log.now) (L.uses_of log.now)) sink.old seen.old (pointer_says question.now (L.past log.now) (L.uses_of log.now) (stand_of table.now) (found_of step.now)) sink.new seen.new }
 {
     if let Some(below) = table_below(log, question, table, step) {
-        search_table(log, question, &below, sink);
+        search_once(log, question, &below, seen, sink);
     }
+}
+
+/// Tells what walks come to from a table on, if it was not searched before.
+#[cycle(walks)]
+fn search_once<L: Log, S: Sink>(
+    log: &L,
+    question: &Question,
+    table: &Table,
+    seen: &mut Seen,
+    sink: &mut S,
+)
+    requires { IsTable (L.past log.now) table.now }
+    ensures { Sifts S.gains S.has (table_says question.now (L.past log.now) (L.uses_of log.now)) sink.old seen.old (table_says question.now (L.past log.now) (L.uses_of log.now) (stand_of table.now)) sink.new seen.new }
+{
+    if seen.has(table) {
+        return;
+    }
+    search_table(log, question, table, seen, sink);
+    seen.add(table);
 }
 
 /// Whether a PTE is a pointer.
@@ -263,6 +320,9 @@ fn table_below<L: Log>(log: &L, question: &Question, table: &Table, step: &Step)
         }),
     }
 }
+
+/// How many low bits a leaf in a last table leaves alone: it maps 4 KiB.
+const PAGE_BITS: u32 = 12;
 
 /// How many low bits a NAPOT leaf leaves alone: it maps 64 KiB.
 const NAPOT_REACH: u32 = 16;

@@ -29,6 +29,9 @@ pub trait Sink {
     /// From a state to a later one the sink was told of these outcomes.
     ghost gains: { Self → List Outcome → Self → Type 0 };
 
+    /// The sink was told of each of these outcomes.
+    ghost has: { Self → List Outcome → Type 0 };
+
     /// Walks begin at the root of a word that satp had.
     fn begin(&mut self, root: PastSatp)
         ensures { gains self.old [] self.new };
@@ -44,4 +47,11 @@ pub trait Sink {
     ghost gains_nothing: { (a : Self) → gains a [] a };
 
     ghost gains_on: { (a b c : Self) (xs ys : List Outcome) → gains a xs b → gains b ys c → gains a (xs ++ ys) c };
+
+    ghost has_told: { (a b : Self) (xs : List Outcome) → gains a xs b → has b xs };
+
+    ghost has_still: { (a b : Self) (xs ys : List Outcome) → has a xs → gains a ys b → has b xs };
+
+    /// To tell it of them again changes nothing.
+    ghost gains_again: { (a : Self) (xs : List Outcome) → has a xs → gains a xs a };
 }

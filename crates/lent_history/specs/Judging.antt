@@ -62,3 +62,26 @@ finds_on a b c xs ys p q = record {
         let new = p.some y none is in
         let same : y ≡ x = cc (q.kept y is, some) in
         (Contains-append_left xs ys x (subst (Contains xs) same new.0), λ has. new.1 (subst (λ (x : Outcome). Contains a.known (numbers_of x)) (sym same) has))
+
+-- if none was found that is new, each of these is known
+abbrev pub Has : Finding → List Outcome → Type 0
+Has a os = a.found ≡ None → (o : Outcome) → Contains os o → Contains a.known (numbers_of o)
+
+pub has_told : (a b : Finding) (os : List Outcome) → Finds a os b → Has b os
+has_told a b os p none o has = subst (λ (known : List LentOutcome). Contains known (numbers_of o)) (sym p.known) (p.none none o has)
+
+pub has_still : (a b : Finding) (xs ys : List Outcome) → Has a xs → Finds a ys b → Has b xs
+has_still a b xs ys all p none o has =
+    subst (λ (known : List LentOutcome). Contains known (numbers_of o)) (sym p.known) (all (before a.found refl) o has)
+  where
+    before : (f : Option Outcome) → a.found ≡ f → a.found ≡ None
+    before None is = is
+    before (Some x) is = absurd (apart b.found x none (p.kept x is))
+
+pub finds_again : (a : Finding) (os : List Outcome) → Has a os → Finds a os a
+finds_again a os all = record {
+  known = refl;
+  kept = λ x h. h;
+  some = λ x none some. absurd (apart a.found x none some);
+  none = all;
+}

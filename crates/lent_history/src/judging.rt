@@ -31,13 +31,21 @@ impl<'a> Model for Finder<'a> {
 }
 
 impl Sink for Finder<'_> {
-    ghost use Rattle.lent_history.specs.Judging.{Finds, finds_nothing, finds_on};
+    ghost use Rattle.lent_history.specs.Judging.{Finds, Has, finds_again, finds_nothing, finds_on, has_still, has_told};
 
     ghost gains = { Finds };
+
+    ghost has = { Has };
 
     ghost gains_nothing = { finds_nothing };
 
     ghost gains_on = { finds_on };
+
+    ghost has_told = { has_told };
+
+    ghost has_still = { has_still };
+
+    ghost gains_again = { finds_again };
 
     fn begin(&mut self, _root: PastSatp) {}
 

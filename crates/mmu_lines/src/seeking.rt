@@ -20,13 +20,21 @@ struct Seeking {
 }
 
 impl Sink for Seeking {
-    ghost use Rattle.mmu_lines.specs.Seeking.{Sought, sought_nothing, sought_on};
+    ghost use Rattle.mmu_lines.specs.Seeking.{Has, Sought, has_still, has_told, sought_again, sought_nothing, sought_on};
 
     ghost gains = { Sought };
+
+    ghost has = { Has };
 
     ghost gains_nothing = { sought_nothing };
 
     ghost gains_on = { sought_on };
+
+    ghost has_told = { has_told };
+
+    ghost has_still = { has_still };
+
+    ghost gains_again = { sought_again };
 
     fn begin(&mut self, root: PastSatp) {
         self.way = Way {

@@ -2,18 +2,19 @@ use Rattle.std.proofs.Common.{[], List, subst}
 use Rattle.access_history.specs.declared.outcome.Outcome.{Outcome}
 use Rattle.access_judge.specs.Judging.{stand_of, table_says}
 use Rattle.access_judge.specs.Log.{use_of}
+use Rattle.access_judge.proofs.Sifting.{sifts_as, sifts_nothing, sifts_on, sifts_told}
 use Rattle.access_judge.proofs.TableSays.{root_goes, root_stops}
 use Rattle.access_judge.proofs.permitted.search_from.Goals as goal
 
 pub returns-in-Some : goal.returns-in-Some
 returns-in-Some g c =
     let a = c.args.question.now in let p = g.L.Log.past c.args.log.now in let us = g.L.Log.uses_of c.args.log.now in
-    subst (λ (os : List Outcome). g.S.Sink.gains c.args.sink.now os c.search_table.new.sink)
+    sifts_as
     (root_goes a p us (use_of c.args.root) (stand_of c.in-Some.table) c.in-Some.ensures.0)
-    (g.met.S.Sink.gains_on c.args.sink.now c.begin.new.self c.search_table.new.sink [] (table_says a p us (stand_of c.in-Some.table)) c.begin.ensures c.search_table.ensures)
+    (sifts_on g.met.S.Sink.gains_on (sifts_told g.met.S.Sink.has_still c.args.seen.now c.begin.ensures) c.search_table.ensures)
 
 pub returns-in_default : goal.returns-in_default
 returns-in_default g c =
     let a = c.args.question.now in let p = g.L.Log.past c.args.log.now in let us = g.L.Log.uses_of c.args.log.now in
-    subst (λ (os : List Outcome). g.S.Sink.gains c.args.sink.now os c.args.sink.now)
-    (root_stops a p us (use_of c.args.root) c.in_default.ensures) (g.met.S.Sink.gains_nothing c.args.sink.now)
+    sifts_as
+    (root_stops a p us (use_of c.args.root) c.in_default.ensures) (sifts_nothing g.met.S.Sink.gains_nothing c.args.sink.now c.args.seen.now)

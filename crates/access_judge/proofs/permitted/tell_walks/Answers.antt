@@ -4,6 +4,7 @@ use Rattle.access_history.specs.declared.outcome.Outcome.{Outcome}
 use Rattle.access_judge.specs.Judging.{root_says}
 use Rattle.access_judge.specs.Log.{use_of}
 use Rattle.access_judge.proofs.LatestUse.{at_contains}
+use Rattle.access_judge.proofs.Sifting.{sifted, sifts_first, sifts_on}
 use Rattle.access_judge.proofs.TableSays.{roots_are, uses_all, uses_more}
 use Rattle.access_judge.proofs.permitted.tell_walks.Goals as goal
 
@@ -13,7 +14,7 @@ search_from-requires g c =
     ((g.met.L.Log.are_uses c.args.log.now).only (use_of c.use_at-root.result) (at_contains us c.uses.number (use_of c.use_at-root.result) c.use_at-root.ensures)).0
 
 pub uses-init : goal.uses-init
-uses-init g c = ([], g.met.S.Sink.gains_nothing c.args.sink.now, refl)
+uses-init g c = ([], sifts_first g.met.S.Sink.gains_nothing c.args.sink.now c.new-seen.ensures, refl)
 
 pub uses-preserved : goal.uses-preserved
 uses-preserved g c =
@@ -21,7 +22,7 @@ uses-preserved g c =
     let says = root_says c.args.question.now (g.L.Log.past c.args.log.now) us in
     let i = c.uses.invariant in (
       i.0 ++ says (use_of c.use_at-root.result),
-      g.met.S.Sink.gains_on _ _ _ _ _ i.1 c.search_from.ensures,
+      sifts_on g.met.S.Sink.gains_on i.1 c.search_from.ensures,
       uses_more says us c.uses.number (use_of c.use_at-root.result) i.0 (flat_map says us) c.use_at-root.ensures i.2,
     )
 
@@ -32,4 +33,4 @@ returns g c =
     let i = c.uses.invariant in
     let over : length us ≤ c.uses.number = omega (arith, c.use_count-number-end.ensures) in
     subst (λ (os : List Outcome). g.S.Sink.gains c.args.sink.now os c.uses.sink)
-    (uses_all says us c.uses.number i.0 (flat_map says us) over i.2 ∙ sym (roots_are a p us)) i.1
+    (uses_all says us c.uses.number i.0 (flat_map says us) over i.2 ∙ sym (roots_are a p us)) (sifted i.1)
