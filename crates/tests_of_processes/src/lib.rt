@@ -1,6 +1,6 @@
 //! Tests that `address_space` (spaces, layouts, the kernel's page table), `exec_segments` (images, ELF files, starts) and
-//! `hart_machine` (boot, runs, steps, accounts) return the right results through their public APIs. `SCHEMES`: Sv39 and
-//! Sv48. No crate depends on it.
+//! `hart_machine` and `machine_laws` (boot, runs, steps, accounts) return the right results through their public APIs. `SCHEMES`:
+//! Sv39 and Sv48. No crate depends on it.
 #![tactic(auto)]
 
 #[cfg(test)]

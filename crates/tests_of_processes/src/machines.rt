@@ -9,6 +9,7 @@ ghost use Rattle.process_model.specs.World.{World};
 use crate::SCHEMES;
 use file_cabinet::Cabinet;
 use hart_machine::{BootError, Machine};
+use machine_laws::run_from_boot;
 use process_model::{
     Bytes, Config, Image, Phase, Policy, Refusal, Reply, ScalarReply, Segment, Step,
 };
@@ -310,12 +311,19 @@ fn there_and_back(image: Image<'_>) -> [Step<'_>; 13] {
     steps
 }
 
-/// The number of entries of hart 0's buffer after `there_and_back`.
+/// The number of entries of hart 0's buffer after boot and `there_and_back`, made by one call.
 fn entries_left(alloc: Global, policy: Policy, scheme: Scheme) -> Option<usize> {
     let segments = [page(alloc).ok()?];
-    let mut machine = with_two_harts(alloc, 64, policy, scheme)?;
+    let files = Cabinet::new(alloc, &[]).ok()?;
+    let config = Config {
+        harts: 1,
+        frames: 64,
+        slots: 4,
+        policy,
+        scheme,
+    };
     let steps = there_and_back(Image::Segments(&segments));
-    replies_of_run(alloc, &mut machine, &steps)?;
+    let (machine, _) = run_from_boot(alloc, config, files, &steps).ok()?;
     let (entries, _) = buffered(&machine, 0)?;
     Some(entries)
 }

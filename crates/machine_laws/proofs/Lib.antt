@@ -1,0 +1,16 @@
+pub mod FencedRuns
+pub mod MachineAnswers
+pub mod PresentWalks
+pub mod QuietEvents
+pub mod RunFollows
+pub mod SatpWords
+pub mod SeenWalks
+pub mod SettledStores
+pub mod SettledWalks
+pub mod StepHistories
+pub mod StoredReplies
+pub mod StoredValues
+pub mod StoredWords
+pub mod TableOutcomes
+pub mod TableWays
+pub mod UserReplies

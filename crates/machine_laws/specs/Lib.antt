@@ -1,0 +1,6 @@
+pub mod HartHistories
+pub mod MachineEvents
+pub mod MachineStates
+pub mod RunHistories
+pub mod SettledTables
+pub mod UserAccesses
