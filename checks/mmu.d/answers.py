@@ -4,7 +4,7 @@ import pathlib
 import re
 import subprocess
 
-from rules import aged, allows, effective, index_of, kind_of
+from rules import BITS, aged, allows, asid_of, effective, index_of, is_global, kind_of, leads_to
 
 STORING = ("mem", "fetch", "load", "store")
 
@@ -35,14 +35,55 @@ def instead(answer):
 
 def wrong_reason(answer, lines):
     """What is wrong with the lines that a reason names; None if nothing is."""
-    for number in map(int, re.findall(r"the fence of line (\d+)", answer)):
-        if not lines[number - 1].startswith("sfence"):
-            return f"line {number} is no fence"
+    for number, text in re.findall(r"the fence of line (\d+) \(([^)]*)\)", answer):
+        if text and lines[int(number) - 1].removesuffix(" -") != text:
+            return f"line {number} is {lines[int(number) - 1]!r}"
     for what, number in re.findall(r"(PTE|satp|PMP)[^,;()]* as before line (\d+)", answer):
         words = {"PTE": STORING, "satp": ("satp",), "PMP": ("pmp",)}[what]
-        if not lines[int(number) - 1].startswith(words):
+        if int(number) < 1 or not lines[int(number) - 1].startswith(words):
             return f"line {number} is no {' or '.join(words)}"
     return None
+
+
+def wrong_kind(seen, answer):
+    """What is wrong with what an answer says that PTEs are; None if nothing is."""
+    for is_of_all, kind, word, level in re.findall(r"(global )?(\w+) PTE (0x[0-9a-f]+) at level (\d)", answer):
+        if kind != kind_of(seen.profile, int(word, 16), int(level)):
+            return f"{word} at level {level} is no {kind}"
+        # a pointer above may have G too
+        if is_global(int(word, 16)) and not is_of_all:
+            return f"{word} is global"
+    if len(re.findall(r"(?:leaf|pointer|invalid) PTE 0x", answer)) != len(re.findall(r"PTE 0x[0-9a-f]+ at level", answer)):
+        return "a PTE of no kind"
+    for word, asid in re.findall(r"PTE (0x[0-9a-f]+) at level \d is of another ASID and not global: read under ASID (\d+)", answer):
+        if is_global(int(word, 16)) or int(asid) == asid_of(seen.satp):
+            return f"{word} is global, or read under the present ASID"
+    return None
+
+
+def wrong_leaf(seen, line, answer):
+    """What is wrong with an answer that a leaf leads there, but lacks something; None if nothing is."""
+    found = re.search(r"PTE (0x[0-9a-f]+) at level (\d)[^,;()]* leads there, but (.*?)\. Permitted: ", answer)
+    if not found:
+        return None
+    word, level, lack = int(found[1], 16), int(found[2]), found[3]
+    if not line.split(" => ")[1].startswith(f"pa {leads_to(seen.profile, word, level, seen.access.va):#x}"):
+        return f"{word:#x} leads elsewhere"
+    bit = re.match(r"([A-Z]) is ([01])", lack)
+    step = {"the superpage is not aligned": 6}.get(lack, 7 if bit and bit[1] in "AD" else 5 if bit else None)
+    if step_of(seen, word, level) != step or (bit and bool(word & BITS[bit[1]]) != (bit[2] == "1")):
+        return f"{word:#x} lacks something else: step {step_of(seen, word, level)}"
+    return None
+
+
+def wrong_label(seen, line, answer):
+    """What is wrong with what an outcome is said to be permitted by; None if nothing is."""
+    claim = line.split(" => ")[1]
+    if answer in ("permitted (held)", "permitted ()"):  # the judges of planted.py say no more
+        return None
+    is_now = claim in seen.now or claim in {re.sub(" (nc|io)", "", it) for it in seen.now}
+    says_now = answer in {f"permitted ({it})" for it in ("walk now", "bare now", "misaligned", "not canonical")}
+    return None if is_now == says_now else f"of memory as it is: {sorted(seen.now)}"
 
 
 def step_of(seen, word, level):
@@ -66,8 +107,7 @@ def wrong_step(seen, answer):
         if int(place, 16) % 4096 // 8 != index_of(seen.access.va, int(level)):
             return f"{place} has another index than the address at level {level}"
     for it in re.split(r"; (?=walk |held )", answer):
-        # an access fault may be told by an older PMP entry first
-        if it.startswith(("walk", "held")) and it.startswith("held") == (listed(it) <= seen.now) and "PMP as before" not in it:
+        if it.startswith(("walk", "held", "bare")) and it.startswith("held") == (listed(it) <= seen.now):
             return f"of memory as it is: {sorted(seen.now)}"
     for word, place in re.findall(r"walk [^;(]*\(step \d: PTE (0x[0-9a-f]+) at (0x[0-9a-f]+),", answer):
         if seen.words.get(int(place, 16), 0) != int(word, 16):
@@ -75,17 +115,25 @@ def wrong_step(seen, answer):
     return None
 
 
-def fault_in(wanted, answer, lines):
-    """What is wrong with an answer, in words; None if nothing is."""
+def wrong_words(wanted, line, answer):
+    """What is wrong with what an answer says beside outcomes; None if nothing is."""
+    seen = wanted.seen
+    if seen is None:
+        return None
+    wrong = wrong_kind(seen, answer)
+    if wanted.kind == "outcomes":
+        return wrong or wrong_step(seen, answer)
+    return wrong or (wrong_label if wanted.kind == "permitted" else wrong_leaf)(seen, line, answer)
+
+
+def fault_in(wanted, line, answer, lines):
+    """What is wrong with an answer to a line, in words; None if nothing is."""
     if wanted.kind == "text":
         return None if answer == wanted.text else f"in place of {wanted.text}"
     if wanted.kind == "outcomes":
         got = listed(answer)
         if got != wanted.outcomes:
             return f"lacks {sorted(wanted.outcomes - got)}, has too much {sorted(got - wanted.outcomes)}"
-        wrong = wanted.seen and wrong_step(wanted.seen, answer)
-        if wrong:
-            return wrong
     elif wanted.kind == "permitted":
         if not answer.startswith("permitted ("):
             return f"must be permitted: one of {sorted(wanted.outcomes)}"
@@ -93,7 +141,7 @@ def fault_in(wanted, answer, lines):
         return f"must be NOT permitted: none of {sorted(wanted.outcomes)}"
     elif instead(answer) != wanted.outcomes:
         return f"must tell what is permitted: {sorted(wanted.outcomes)}"
-    return wrong_reason(answer, lines)
+    return wrong_words(wanted, line, answer) or wrong_reason(answer, lines)
 
 
 def differences(program, scripts):
@@ -107,7 +155,7 @@ def differences(program, scripts):
     found, at = [], 0
     for script in scripts:
         for number, (line, wanted) in enumerate(zip(script.lines, script.wanted)):
-            wrong = fault_in(wanted, got[at + number], lines)
+            wrong = fault_in(wanted, line, got[at + number], lines)
             if wrong:
                 found.append((script.name, script.lines[: number + 1], f"{line!r}: {got[at + number]}\n    {wrong}"))
                 break

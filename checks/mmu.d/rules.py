@@ -5,6 +5,7 @@ An outcome is the text that `xv6lab mmu` has for it: `pa 0x80010008 nc set 0x800
 import collections
 
 V, R, W, X, U, G, A, D = (1 << bit for bit in range(8))
+BITS = dict(zip("VRWXUGAD", (V, R, W, X, U, G, A, D)))
 TOPS = {8: 2, 9: 3, 10: 4}  # the level of the root by MODE of satp: Sv39, Sv48, Sv57
 MISALIGNED = {"fetch": 0, "load": 4, "store": 6}
 ACCESS_FAULT = {"fetch": 1, "load": 5, "store": 7}

@@ -11,10 +11,10 @@ OUTSIDE = 0x90000  # a frame outside the memory
 LEAVES = [0xDF, 0xDF, 0xD7, 0xCF, 0xC7, 0x53, 0x73, 0xFF, 0x59, 0x51, 0x49, 0x17, 0x13, 0x97, 0x57]
 
 # What an answer must be. kind: text (that text), outcomes (a list of just those), permitted, refused (NOT permitted, with just those).
-# seen: of a list, what its reasons are judged by
+# seen: what its labels and reasons are judged by
 Wanted = collections.namedtuple("Wanted", "kind text outcomes seen", defaults=(None,))
-# An access with the words of memory, and the outcomes by memory, satp and PMP as they are
-Seen = collections.namedtuple("Seen", "profile status access words now")
+# An access with satp and the words of memory, and the outcomes by memory, satp and PMP as they are
+Seen = collections.namedtuple("Seen", "profile status access satp words now")
 # A row of memory, satp, fences and accesses
 Script = collections.namedtuple("Script", "name lines wanted")
 
@@ -234,7 +234,7 @@ class Writer:
         rng, line = self.rng, f"{access.kind} {access.va:#x} {access.width} {access.mode}"
         permitted = frozenset(self.all.outcomes(access))
         plain = self.all.without_caches()
-        seen = Seen(self.profile, plain.status, access, dict(plain.memory), plain.outcomes(access))
+        seen = Seen(self.profile, plain.status, access, plain.satp, dict(plain.memory), plain.outcomes(access))
         self.say(line, Wanted("outcomes", None, permitted, seen))
         claimed = self.hart.outcome(access)
         self.reached["reached" if claimed in permitted else "outside"] += 1
@@ -242,11 +242,11 @@ class Writer:
         self.reached["ways"] += len(permitted) > 1
         others = sorted(self.false_claims(access, permitted) - permitted)
         for false in rng.sample(others, min(len(others), 2)):
-            self.say(f"{line} => {false}", Wanted("refused", None, permitted))
+            self.say(f"{line} => {false}", Wanted("refused", None, permitted, seen))
         quiet = sorted(it for it in permitted if " set " not in it and it != claimed)
         for it in rng.sample(quiet, min(len(quiet), 2)):
-            self.say(f"{line} => {it}", Wanted("permitted", None, permitted))
-        self.say(f"{line} => {claimed}", Wanted("permitted", None, permitted))
+            self.say(f"{line} => {it}", Wanted("permitted", None, permitted, seen))
+        self.say(f"{line} => {claimed}", Wanted("permitted", None, permitted, seen))
         if " set " in claimed:
             place, word = (int(it, 16) for it in claimed.split(" set ")[1].split())
             for hart in self.each():

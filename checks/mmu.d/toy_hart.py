@@ -191,12 +191,12 @@ class CutsAddresses(ToyHart):
 
 # Each error with what the answer must say of its cause, where a granted access is NOT permitted.
 ERRORS = {
-    LeavesSuperpages: r"the fence of line (\d+) excludes .*at level [12]",
+    LeavesSuperpages: r"the fence of line (\d+) \(sfence[^)]*\) excludes .*at level [12]",
     IgnoresAsids: r"of another ASID",
-    LeavesPointers: r"the fence of line (\d+) excludes .*at level [12]",
+    LeavesPointers: r"the fence of line (\d+) \(sfence[^)]*\) excludes .*at level [12]",
     IgnoresDirty: r"D is 0",
     IgnoresUser: r"U is 1, in S-mode",
-    FencesPresentAsid: r"the fence of line (\d+) excludes ",
+    FencesPresentAsid: r"the fence of line (\d+) \(sfence[^)]*\) excludes ",
     CutsAddresses: r"not canonical",
 }
 

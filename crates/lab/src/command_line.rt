@@ -1,8 +1,9 @@
 // `CommandLine` (struct): a parsed command line of `xv6lab`: its task (`Task`, enum) with its files; `parse` makes one.
 
+use crate::chosen_line::ChosenLine;
 use crate::fault::Fault;
 use crate::run::Telling;
-use clap::{Arg, ArgAction, ArgMatches, Command};
+use clap::{Arg, ArgAction, ArgMatches, Command, value_parser};
 use std::alloc::{AllocError, Global};
 use version::VERSION;
 
@@ -40,6 +41,8 @@ pub struct CommandLine {
     pub files: Vec<String>,
     /// The path of the file to which `Draw` writes, `-` for standard output; empty otherwise.
     pub out: String,
+    /// The number of the only line that `Trace` tells of, or of that at which the page of `Draw` opens, if one is given.
+    pub line: Option<u64>,
 }
 
 /// The help of FILE for a word that takes one script.
@@ -58,6 +61,16 @@ fn json<'a>(alloc: Global, help: &'a str) -> Arg<'a> {
     Arg::new(alloc, "json")
         .long("json")
         .action(ArgAction::SetTrue)
+        .help(help)
+}
+
+/// Returns the option `--line`.
+fn line<'a>(alloc: Global, help: &'a str) -> Arg<'a> {
+    Arg::new(alloc, "line")
+        .long("line")
+        .action(ArgAction::Set)
+        .value_name("N")
+        .value_parser(value_parser!(u64))
         .help(help)
 }
 
@@ -105,7 +118,8 @@ fn trace<'a>(alloc: Global) -> Result<Command<'a>, AllocError> {
     Command::new(alloc, "trace")
         .about("See what happens on each line: regions, rules, walks, TLBs, frames")
         .arg(file(alloc, SCRIPT))?
-        .arg(json(alloc, "Print one JSON object a line"))
+        .arg(json(alloc, "Print one JSON object a line"))?
+        .arg(line(alloc, "Print only what happens on line N of the file"))
 }
 
 /// Returns the word `draw`.
@@ -121,11 +135,13 @@ fn draw<'a>(alloc: Global) -> Result<Command<'a>, AllocError> {
         .long("steps")
         .action(ArgAction::SetTrue)
         .help("Write a page (HTML) to step from line to line, in place of a picture (SVG)");
+    let line = line(alloc, "Open the page at line N of the file").requires_arg("steps")?;
     Command::new(alloc, "draw")
         .about("Draw the machine after the last line: regions, pages, tables, frames, TLBs")
         .arg(file(alloc, SCRIPT))?
         .arg(out)?
-        .arg(steps)
+        .arg(steps)?
+        .arg(line)
 }
 
 /// Returns the word `mmu`.
@@ -201,6 +217,14 @@ impl CommandLine {
         }
     }
 
+    /// Returns the line of the script that is named, if one is.
+    pub fn chosen(&self) -> Option<ChosenLine> {
+        match self.line {
+            Some(number) => Some(ChosenLine::new(number)),
+            None => None,
+        }
+    }
+
     /// Returns the parsed command line for its words, the program's name first.
     ///
     /// # Errors
@@ -213,6 +237,7 @@ impl CommandLine {
                 task: Task::Repl,
                 files,
                 out: String::new(alloc),
+                line: None,
             });
         };
         let task = task_of(name, given);
@@ -230,6 +255,7 @@ impl CommandLine {
             task,
             files,
             out: String::from_str(alloc, out)?,
+            line: given.get_one::<u64>("line"),
         })
     }
 }

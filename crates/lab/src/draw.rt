@@ -5,38 +5,17 @@ ghost use Rattle.std.specs.Prelude.{IfOk};
 ghost use Rattle.line_player.specs.Answers.{HasPlayed};
 ghost use Rattle.line_player.specs.PlayedLines.{Played};
 
+use crate::chosen_line::ChosenLine;
 use crate::expected::split;
 use crate::fault::Fault;
-use crate::mistakes::{Place, tell_end, tell_refused};
-use crate::play::Listener;
+use crate::mistakes::{Place, tell_end};
+use crate::play::{Listener, played};
 use crate::screen::Screen;
 use line_player::{LinePlayer, LineReply};
 use line_traces::trace_line;
 use pictures::{put_page_end, put_page_start, put_picture, put_step};
 use std::alloc::{AllocError, Global};
 use std::io::Write;
-
-/// Plays a line, and returns it without the answer that it expects.
-///
-/// # Errors
-/// `Told`: the line is refused; that was told. `Memory`: the host is out of memory. `Io`: printing failed.
-fn played<'a, S: Screen>(
-    alloc: Global,
-    screen: &mut S,
-    place: Place<'_>,
-    player: &mut LinePlayer,
-    line: &'a [u8],
-) -> Result<&'a [u8], Fault>
-    requires played { (s : Played) × HasPlayed player.old s }
-    ensures played { IfOk result (λ _. (s : Played) × HasPlayed player.new s) }
-    ensures whole { IfOk result (λ _. S.whole screen.old → S.whole screen.new) }
-{
-    let bare = split(line).line;
-    if let LineReply::Refused(cause) = player.line(bare)? {
-        tell_refused(alloc, screen, place, player, bare, cause)?;
-    }
-    Ok(bare)
-}
 
 /// Draws the machine after the last line.
 #[derive(Drop)]
@@ -70,7 +49,7 @@ impl Listener for DrawLines<'_> {
             file: self.file,
             line: number,
         };
-        played(self.alloc, screen, place, player, line)?;
+        played(self.alloc, screen, place, player, split(line).line)?;
         Ok(())
     }
 
@@ -93,16 +72,19 @@ impl Listener for DrawLines<'_> {
 pub struct KeptLines<'a> {
     alloc: Global,
     file: &'a str,
+    /// The line at which the page opens, if one is named.
+    chosen: Option<ChosenLine>,
     /// The lines so far, each with its line feed.
     pub text: Vec<u8>,
 }
 
 impl<'a> KeptLines<'a> {
     /// Returns what is kept of a script of which nothing was read.
-    pub fn new(alloc: Global, file: &'a str) -> KeptLines<'a> {
+    pub fn new(alloc: Global, file: &'a str, chosen: Option<ChosenLine>) -> KeptLines<'a> {
         KeptLines {
             alloc,
             file,
+            chosen,
             text: Vec::new(alloc),
         }
     }
@@ -120,7 +102,11 @@ impl Listener for KeptLines<'_> {
             file: self.file,
             line: number,
         };
-        let bare = played(self.alloc, screen, place, player, line)?;
+        let bare = split(line).line;
+        let reply = played(self.alloc, screen, place, player, bare)?;
+        if let (Some(chosen), LineReply::Text) = (&mut self.chosen, reply) {
+            chosen.pass(number);
+        }
         self.text.extend_from_slice(bare)?;
         self.text.push(b'\n').map_err(AllocError::from)?;
         Ok(())
@@ -132,7 +118,11 @@ impl Listener for KeptLines<'_> {
         player: &LinePlayer,
         lines: u64,
     ) -> Result<(), Fault> {
-        tell_end(self.alloc, screen, self.file, player, lines)
+        tell_end(self.alloc, screen, self.file, player, lines)?;
+        match &self.chosen {
+            Some(chosen) => chosen.tell_missing(self.alloc, screen, self.file, lines),
+            None => Ok(()),
+        }
     }
 }
 
@@ -180,14 +170,19 @@ impl<'a, W: Write + Drop> PageLines<'a, W> {
         Ok(())
     }
 
-    /// Writes the beginning of a page with a title.
+    /// Writes the beginning of a page with a title, which opens at a line, or at the first.
     ///
     /// # Errors
     /// `File`, `Io`: writing failed. `Memory`: the host is out of memory.
-    pub fn begin<S: Screen>(&mut self, screen: &mut S, title: &str) -> Result<(), Fault>
+    pub fn begin<S: Screen>(
+        &mut self,
+        screen: &mut S,
+        title: &str,
+        line: Option<u64>,
+    ) -> Result<(), Fault>
         ensures whole { IfOk result (λ _. S.whole screen.old → S.whole screen.new) }
     {
-        put_page_start(&mut self.text, title)?;
+        put_page_start(&mut self.text, title, line)?;
         self.flush(screen)
     }
 }

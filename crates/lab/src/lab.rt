@@ -198,14 +198,14 @@ impl<F: Files, I: Read + Drop> Host<'_, F, I> {
 
     /// Writes a page to step through a script, line by line as each is played. Before that the script is played to its end, so that
     /// nothing is written of one that is refused.
-    fn draw_steps<S: Screen>(&mut self, screen: &mut S, file: &str, out: &str) -> Result<(), Fault>
+    fn draw_steps<S: Screen>(&mut self, screen: &mut S, words: &CommandLine) -> Result<(), Fault>
         ensures whole { IfOk result (λ _. S.whole screen.old → S.whole screen.new) }
     {
-        let alloc = self.alloc;
-        let mut kept = KeptLines::new(alloc, file);
+        let (alloc, file) = (self.alloc, words.file());
+        let mut kept = KeptLines::new(alloc, file, words.chosen());
         self.play(screen, file, &mut kept)?;
-        let mut page = PageLines::new(alloc, self.paper(out)?);
-        page.begin(screen, file)?;
+        let mut page = PageLines::new(alloc, self.paper(words.out.as_str())?);
+        page.begin(screen, file, words.line)?;
         each_line(alloc, kept.text.as_slice(), screen, &mut page)
     }
 
@@ -214,11 +214,11 @@ impl<F: Files, I: Read + Drop> Host<'_, F, I> {
         &mut self,
         screen: &mut S,
         steps: bool,
-        file: &str,
-        out: &str,
+        words: &CommandLine,
     ) -> Result<(), Fault>
         ensures whole { IfOk result (λ _. S.whole screen.old → S.whole screen.new) }
     {
+        let (file, out) = (words.file(), words.out.as_str());
         if out == file && out != "-" {
             let text = format!(in self.alloc;
                 "{out} is the script, and stays as it is; name another file after -o\n"
@@ -227,7 +227,7 @@ impl<F: Files, I: Read + Drop> Host<'_, F, I> {
             return Err(Fault::Told);
         }
         if steps {
-            return self.draw_steps(screen, file, out);
+            return self.draw_steps(screen, words);
         }
         let mut drawn = DrawLines::new(self.alloc, file);
         self.play(screen, file, &mut drawn)?;
@@ -246,8 +246,17 @@ impl<F: Files, I: Read + Drop> Host<'_, F, I> {
             }
             Task::Check(strict) => self.check(screen, strict, words.files.as_slice()),
             Task::Bare => self.bare(screen, words.files.as_slice()),
-            Task::Trace(json) => self.play(screen, file, &mut TraceLines { alloc, file, json }),
-            Task::Draw(steps) => self.draw(screen, steps, file, words.out.as_str()),
+            Task::Trace(json) => {
+                let only = words.chosen();
+                let mut listener = TraceLines {
+                    alloc,
+                    file,
+                    json,
+                    only,
+                };
+                self.play(screen, file, &mut listener)
+            }
+            Task::Draw(steps) => self.draw(screen, steps, words),
             Task::Show => self.play(screen, file, &mut ShowLines { alloc, file }),
             Task::Repl => {
                 let mut listener = ReplLines::new(alloc, self.files, screen)?;

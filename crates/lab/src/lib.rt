@@ -6,6 +6,7 @@
 #![tactic(auto)]
 
 mod check;
+mod chosen_line;
 mod command_line;
 mod draw;
 mod elf;

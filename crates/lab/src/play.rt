@@ -1,13 +1,14 @@
-// `each_line`: reads a script line by line and gives each line to a `Listener`.
+// `each_line`: reads a script line by line and gives each line to a `Listener`; `played`: plays one line.
 
 ghost use Rattle.std.specs.Prelude.{IfOk};
 ghost use Rattle.line_player.specs.Answers.{HasPlayed};
 ghost use Rattle.line_player.specs.PlayedLines.{Played};
 
 use crate::fault::Fault;
+use crate::mistakes::{Place, tell_refused};
 use crate::plain::plain_line;
 use crate::screen::Screen;
-use line_player::LinePlayer;
+use line_player::{LinePlayer, LineReply};
 use script_language::LONGEST_LINE;
 use std::alloc::Global;
 use std::io::{BufRead, BufReader, Read};
@@ -40,6 +41,28 @@ pub trait Listener {
     fn is_over(&self) -> bool {
         false
     }
+}
+
+/// Plays a line that has no answer that it expects, and returns how it was answered.
+///
+/// # Errors
+/// `Told`: the line is refused; that was told. `Memory`: the host is out of memory. `Io`: printing failed.
+pub fn played<S: Screen>(
+    alloc: Global,
+    screen: &mut S,
+    place: Place<'_>,
+    player: &mut LinePlayer,
+    bare: &[u8],
+) -> Result<LineReply, Fault>
+    requires played { (s : Played) × HasPlayed player.old s }
+    ensures played { IfOk result (λ _. (s : Played) × HasPlayed player.new s) }
+    ensures whole { IfOk result (λ _. S.whole screen.old → S.whole screen.new) }
+{
+    let reply = player.line(bare)?;
+    if let LineReply::Refused(cause) = reply {
+        tell_refused(alloc, screen, place, player, bare, cause)?;
+    }
+    Ok(reply)
 }
 
 /// Returns a line without its line feed.

@@ -1,28 +1,50 @@
-// `TraceLines`: what happens on each line is printed, as text or as JSON.
+// `TraceLines`: what happens on each line, or on one, is printed, as text or as JSON.
 
 ghost use Rattle.std.specs.Prelude.{IfOk};
 ghost use Rattle.line_player.specs.Answers.{HasPlayed};
 ghost use Rattle.line_player.specs.PlayedLines.{Played};
 
+use crate::chosen_line::ChosenLine;
 use crate::expected::split;
 use crate::fault::Fault;
 use crate::mistakes::{Place, tell_end, tell_refused};
-use crate::play::Listener;
+use crate::play::{Listener, played};
 use crate::screen::Screen;
 use line_player::{LinePlayer, LineReply};
 use line_traces::{LineTrace, put_trace, trace_line};
 use std::alloc::Global;
 
-/// Prints what happens on each line.
+/// Prints what happens on each line, or on one.
 #[derive(Drop)]
 pub struct TraceLines<'a> {
     pub alloc: Global,
     pub file: &'a str,
     /// Whether one JSON object a line is printed in place of text.
     pub json: bool,
+    /// The only line of which that is printed, if one is named.
+    pub only: Option<ChosenLine>,
 }
 
 impl TraceLines<'_> {
+    /// Whether nothing is printed of a line.
+    fn is_passed(&self, number: u64) -> bool {
+        match &self.only {
+            Some(only) => only.number != number,
+            None => false,
+        }
+    }
+
+    /// Takes note of how a line was answered, and returns whether what happened on it is printed.
+    fn note(&mut self, number: u64, reply: LineReply) -> bool {
+        let Some(only) = &mut self.only else {
+            return true;
+        };
+        if reply == LineReply::Text {
+            only.pass(number);
+        }
+        only.number == number && reply == LineReply::Text
+    }
+
     /// Prints what happened on a line.
     fn print<S: Screen>(&self, screen: &mut S, trace: &LineTrace) -> Result<(), Fault>
         ensures whole { IfOk result (λ _. S.whole screen.old → S.whole screen.new) }
@@ -47,15 +69,23 @@ impl Listener for TraceLines<'_> {
         line: &[u8],
     ) -> Result<(), Fault> {
         let bare = split(line).line;
+        let place = Place {
+            file: self.file,
+            line: number,
+        };
+        if self.is_passed(number) {
+            let reply = played(self.alloc, screen, place, player, bare)?;
+            self.note(number, reply);
+            return Ok(());
+        }
         let trace = trace_line(self.alloc, player, number, bare)?;
         if let LineReply::Refused(cause) = trace.reply {
-            let place = Place {
-                file: self.file,
-                line: number,
-            };
             return tell_refused(self.alloc, screen, place, player, bare, cause);
         }
-        self.print(screen, &trace)
+        if self.note(number, trace.reply) {
+            return self.print(screen, &trace);
+        }
+        Ok(())
     }
 
     fn end<S: Screen>(
@@ -64,6 +94,17 @@ impl Listener for TraceLines<'_> {
         player: &LinePlayer,
         lines: u64,
     ) -> Result<(), Fault> {
-        tell_end(self.alloc, screen, self.file, player, lines)
+        tell_end(self.alloc, screen, self.file, player, lines)?;
+        match &self.only {
+            Some(only) => only.tell_missing(self.alloc, screen, self.file, lines),
+            None => Ok(()),
+        }
+    }
+
+    fn is_over(&self) -> bool {
+        match &self.only {
+            Some(only) => only.is_settled(),
+            None => false,
+        }
     }
 }

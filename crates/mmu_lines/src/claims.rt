@@ -32,18 +32,26 @@ fn meant(memory_type: MemoryType, claim: &Claim) -> Outcome
     }
 }
 
-/// Returns an outcome that a client may mean and that the standard permits; `None` if there is none. Whatever PTE it is by.
+/// Returns an outcome that a client may mean and that the standard permits, whatever PTE it is by; one of the memory type
+/// `first`, if there is one. `None`: there is none.
 pub(crate) fn permitted_outcome(
     unit: &Mmu,
     extensions: Extensions,
     request: Request,
     claim: &Claim,
+    first: MemoryType,
 ) -> Option<Outcome>
     requires { 1 ≤ request.width }
     ensures permitted { IfSome result (λ o. Permits extensions (past unit.now) request o) }
     ensures told { IfSome result (Tells claim.now) }
     ensures none { IfNone result ((o : Outcome) → Permits extensions (past unit.now) request o → Tells claim.now o → ⊥) }
 {
+    if first != MemoryType::Pma {
+        let likely = meant(first, claim);
+        if permits(unit, extensions, request, likely) {
+            return Some(likely);
+        }
+    }
     let plain = meant(MemoryType::Pma, claim);
     if permits(unit, extensions, request, plain) {
         return Some(plain);

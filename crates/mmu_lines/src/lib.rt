@@ -2,14 +2,17 @@
 #![tactic(auto)]
 
 mod answers;
+mod causes;
 mod claims;
 mod objects;
 mod outcomes;
 mod player;
+mod present;
 mod reasons;
 mod recorded;
 mod seeking;
 mod telling;
+mod walking;
 mod ways;
 mod witness;
 mod writes;

@@ -109,7 +109,7 @@ fn put_end(out: &mut String, line: &OutcomeLine) -> Result<(), AllocError> {
     }
 }
 
-/// Appends an outcome and what it is by, for example `held fault 15 (PTE 0x200040d7 at level 0 as before line 12: step 5: ..)`.
+/// Appends an outcome and what it is by, for example `held fault 15 (leaf PTE 0x200040d7 at level 0 as before line 12: step 5: ..)`.
 pub(crate) fn put_outcome(out: &mut String, line: &OutcomeLine) -> Result<(), AllocError> {
     out.push_str(line.by.text())?;
     out.push_str(" ")?;

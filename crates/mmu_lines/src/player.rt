@@ -1,6 +1,6 @@
 // `MmuPlayer`: a struct, a reference MMU that answers lines.
 
-ghost use Rattle.std.specs.Prelude.{◌≡◌, ◌≤◌, ◌/◌, ◌%◌, None, IfNone, IfOk, MatchOption, OnOk, map, true};
+ghost use Rattle.std.specs.Prelude.{◌≡◌, ◌≤◌, ◌/◌, ◌%◌, None, IfNone, IfOk, IfSome, MatchOption, OnOk, map, true};
 ghost use Rattle.access_history.specs.Permits.{Permits, satp_of};
 ghost use Rattle.access_history.specs.declared.event.Event.TheVariants as event;
 ghost use Rattle.access_history.specs.declared.outcome.Outcome.{Outcome};
@@ -20,18 +20,18 @@ use crate::answers::{Answer, Lock};
 use crate::claims::permitted_outcome;
 use crate::outcomes::{By, OutcomeLine};
 use crate::recorded::Recorded;
-use crate::seeking::seek;
+use crate::seeking::{seek, seek_refusal};
 use crate::telling::Telling;
 use crate::witness::Witness;
 use crate::writes::{cut_asid, lock_of, satp_written};
-use access_history::Update;
+use access_history::{Outcome, Update};
 use access_judge::{Findings, Log, Told, Way, outcomes};
 use line_fields::Mistake;
 use mmu_requests::{Claim, End, Profile, Refusal, Request, read_line};
 use std::alloc::{AllocError, Global};
-use sv39_entry::{Satp, Va};
+use sv39_entry::{Entry, Satp, Va};
 use walk_lines::Hex;
-use walk_rules::{PmpEntry, Privilege, Status, is_canonical, top_level};
+use walk_rules::{MemoryType, PmpEntry, Privilege, Status, is_canonical, top_level};
 
 /// The way of an outcome that comes by no walk.
 const NO_WAY: Way = Way {
@@ -58,6 +58,18 @@ pub struct MmuPlayer {
     /// The number of the last line.
     line: u64,
     findings: Findings,
+}
+
+/// What a client tells, with the memory type of an outcome.
+fn with_type(claim: Claim, outcome: Outcome) -> Claim {
+    match (claim.end, outcome) {
+        (End::Granted { pa, .. }, Outcome::Granted { memory_type, .. }) => {
+            let memory_type = Some(memory_type);
+            let end = End::Granted { pa, memory_type };
+            Claim { end, ..claim }
+        }
+        _ => claim,
+    }
 }
 
 impl MmuPlayer {
@@ -165,19 +177,16 @@ impl MmuPlayer {
                 return Ok(Answer::NoEffect(Hex(va.0)));
             }
         }
+        let written = asid;
         let asid = self.cut_asid(asid);
-        self.witness.fence(self.line, va, asid)?;
+        self.witness.fence(self.line, va, asid, written)?;
         self.recorded.fence(self.line, va, asid)?;
         Ok(Answer::Ok)
     }
 
     fn telling(&self, request: access_history::Request) -> Telling<'_> {
-        Telling {
-            alloc: self.alloc,
-            recorded: &self.recorded,
-            extensions: self.profile.extensions,
-            request,
-        }
+        let extensions = self.profile.extensions;
+        Telling::new(self.alloc, &self.recorded, extensions, request)
     }
 
     /// The outcomes that were found, as they are shown.
@@ -192,21 +201,54 @@ impl MmuPlayer {
         Ok(lines)
     }
 
-    /// What is known of a claim that no history permits.
-    fn put_mismatch(&self, out: &mut String, claim: Claim) -> Result<(), AllocError> {
-        let mut text = match claim.end {
-            End::Granted { .. } => "no PTE that the hart may hold leads there",
-            End::Refused(_) => "nothing that the hart may hold faults so",
-        };
+    /// What a permitted outcome has in common with a claim that none has; `None` if nothing.
+    fn near_miss(&self, claim: Claim) -> Option<&'static str> {
+        let mut text = None;
         'found: for told in self.findings.found() {
             if claim.is_outcome(told.outcome) {
-                return out.push_str("by another PTE alone");
+                return Some("by another PTE alone");
             }
             if claim.is_end(told.outcome) {
-                text = "the memory type, or the PTE that the hart sets, is another";
+                text = Some("the memory type, or the PTE that the hart sets, is another");
             }
         }
-        out.push_str(text)
+        text
+    }
+
+    /// Appends why no PTE gives a physical address to an access.
+    fn put_not_granted(
+        &self,
+        out: &mut String,
+        request: access_history::Request,
+        pa: u64,
+    ) -> Result<(), AllocError>
+        requires { 1 ≤ request.width }
+    {
+        let extensions = self.profile.extensions;
+        if let Some(told) = seek_refusal(&self.recorded.unit, extensions, request, pa) {
+            if let Some(text) = self.telling(request).refused_text(&told)? {
+                return out.push_str(text.as_str());
+            }
+        }
+        out.push_str("no PTE that the hart may hold leads there")
+    }
+
+    /// Appends what is known of a claim that no history permits.
+    fn put_mismatch(
+        &self,
+        out: &mut String,
+        request: access_history::Request,
+        claim: Claim,
+    ) -> Result<(), AllocError>
+        requires { 1 ≤ request.width }
+    {
+        if let Some(text) = self.near_miss(claim) {
+            return out.push_str(text);
+        }
+        match claim.end {
+            End::Granted { pa, .. } => self.put_not_granted(out, request, pa),
+            End::Refused(_) => out.push_str("nothing that the hart may hold faults so"),
+        }
     }
 
     /// Appends why an outcome is not permitted.
@@ -227,7 +269,7 @@ impl MmuPlayer {
         if self.witness.put_reason(out, extensions, request, claim)? {
             return Ok(());
         }
-        self.put_mismatch(out, claim)
+        self.put_mismatch(out, request, claim)
     }
 
     /// The outcomes of an access, as they are shown.
@@ -267,17 +309,56 @@ impl MmuPlayer {
         }
     }
 
-    /// A way to the outcome that a client tells; `None` if it is by another PTE alone.
-    fn way_to(&self, request: access_history::Request, claim: Claim) -> Option<Way>
+    /// A way to an outcome that a client means; `None` if it is by another PTE alone.
+    fn way_to(
+        &self,
+        request: access_history::Request,
+        claim: Claim,
+        outcome: Outcome,
+    ) -> Option<Way>
         requires { 1 ≤ request.width }
         ensures { IfNone result (claim.by ≡ None → ⊥) }
     {
-        let told = seek(&self.recorded.unit, self.profile.extensions, request, claim);
+        let exact = with_type(claim, outcome);
+        let told = seek(&self.recorded.unit, self.profile.extensions, request, exact);
         match (told, claim.by) {
             (Some(told), _) => Some(told.way),
             (None, None) => Some(NO_WAY),
             (None, Some(_)) => None,
         }
+    }
+
+    /// The memory type by the PTE that a client tells, else by the walk.
+    fn likely_type(&self, request: access_history::Request, claim: Claim) -> MemoryType {
+        match claim.by {
+            Some(word) => MemoryType::of_entry(Entry::from_word(word)).unwrap_or(MemoryType::Pma),
+            None => self.telling(request).memory_type(),
+        }
+    }
+
+    /// The outcome that a client tells with what it is by; `None` if it is by another PTE alone.
+    fn told_line(
+        &self,
+        request: access_history::Request,
+        claim: Claim,
+        outcome: Outcome,
+    ) -> Result<Option<OutcomeLine>, AllocError>
+        requires { 1 ≤ request.width }
+        ensures some { IfOk result (λ line. IfSome line (λ it. it.outcome ≡ outcome)) }
+        ensures none { IfOk result (λ line. IfNone line (claim.by ≡ None → ⊥)) }
+    {
+        let telling = self.telling(request);
+        let walked = Told {
+            outcome,
+            way: NO_WAY,
+        };
+        if let Some(line) = telling.line_now(&walked, claim.by)? {
+            return Ok(Some(line));
+        }
+        let Some(way) = self.way_to(request, claim, outcome) else {
+            return Ok(None);
+        };
+        Ok(Some(telling.line_held(&Told { outcome, way })?))
     }
 
     /// Judges the outcome that a client tells, and stores what its hart set.
@@ -290,15 +371,14 @@ impl MmuPlayer {
         requires place { IsPlaced claim.update }
         ensures { IfOk result (IsJudged (state_of self.old) request claim (state_of self.new)) }
     {
-        let extensions = self.profile.extensions;
-        let Some(outcome) = permitted_outcome(&self.recorded.unit, extensions, request, &claim)
-        else {
+        let first = self.likely_type(request, claim);
+        let (unit, extensions) = (&self.recorded.unit, self.profile.extensions);
+        let Some(outcome) = permitted_outcome(unit, extensions, request, &claim, first) else {
             return self.deny(request, claim);
         };
-        let Some(way) = self.way_to(request, claim) else {
+        let Some(line) = self.told_line(request, claim, outcome)? else {
             return self.deny(request, claim);
         };
-        let line = self.telling(request).line(&Told { outcome, way })?;
         self.store_update(claim.update)?;
         Ok(Answer::Permitted(line))
     }

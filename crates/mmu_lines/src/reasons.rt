@@ -75,12 +75,12 @@ fn why_invalid(extensions: Extensions, entry: Entry) -> Option<Why> {
 /// Why a leaf lacks the right for an access.
 fn why_no_right(status: Status, access: Access, entry: Entry) -> Option<Why> {
     match access {
-        Access::Fetch if !entry.has(EntryFlags::EXECUTE) => at(5, "no X for a fetch"),
+        Access::Fetch if !entry.has(EntryFlags::EXECUTE) => at(5, "X is 0 at a fetch"),
         Access::Load
             if !entry.has(EntryFlags::READ) && !(status.mxr && entry.has(EntryFlags::EXECUTE)) => {
-            at(5, "no R for a load")
+            at(5, "R is 0 at a load")
         }
-        Access::Store if !entry.has(EntryFlags::WRITE) => at(5, "no W for a store"),
+        Access::Store if !entry.has(EntryFlags::WRITE) => at(5, "W is 0 at a store"),
         _ => None,
     }
 }
@@ -103,7 +103,7 @@ fn why_late(access: Access, entry: Entry, level: u32) -> Option<Why>
     requires { level ≤ 4 }
 {
     if entry.ppn() % (1 << (9 * level)) != 0 {
-        return at(6, "a superpage that is not aligned");
+        return at(6, "the superpage is not aligned");
     }
     if !entry.has(EntryFlags::ACCESSED) {
         return at(7, "A is 0");

@@ -5,12 +5,12 @@ ghost use Rattle.access_history.specs.declared.event.Event.TheVariants as event;
 ghost use Rattle.mmu.specs.Pasts.{past};
 ghost use Rattle.mmu.specs.Units.{fenced, fresh, happened, with_run};
 
-use crate::ways::{LEVELS, last_step, step_at};
+use crate::ways::{LEVELS, kind_text, last_step, step_at};
 use access_judge::{Log, Step, Told};
 use mmu::Mmu;
 use std::alloc::{AllocError, Global};
 use sv39_entry::{Satp, Va};
-use walk_rules::PmpEntry;
+use walk_rules::{Extensions, PmpEntry};
 
 /// A write of satp.
 #[derive(Clone, Copy)]
@@ -129,16 +129,16 @@ impl Recorded {
         self.pmp_line
     }
 
-    /// The ASID that satp was given by its last write up to a moment.
-    pub fn asid_at(&self, moment: usize) -> u16 {
+    /// The ASID that satp was given by its last write up to a moment, and the last moment at which it had it.
+    pub fn space_at(&self, moment: usize) -> (u16, usize) {
         let mut asid = self.first_asid;
         'writings: for writing in self.writings.as_slice() {
-            if writing.event > moment {
-                return asid;
+            if writing.event > moment && writing.asid != asid {
+                return (asid, writing.event - 1);
             }
             asid = writing.asid;
         }
-        asid
+        (asid, self.unit.now())
     }
 
     /// Whether the place of a PTE has another word now than it had on the way of a walk.
@@ -147,16 +147,25 @@ impl Recorded {
     }
 
     /// Appends which PTE a walk went by that is not in memory now.
-    pub fn put_step(&self, out: &mut String, step: &Step) -> Result<(), AllocError> {
+    pub fn put_step(
+        &self,
+        out: &mut String,
+        extensions: Extensions,
+        step: &Step,
+    ) -> Result<(), AllocError> {
         let (word, level) = (step.entry.to_word(), step.level);
+        let kind = kind_text(extensions, step);
         match self.unit.next_change(step.ppn, step.index, step.last) {
             Some(event) => {
                 let line = self.line_of(event);
-                write!(out, "PTE 0x{word:x} at level {level} as before line {line}")
+                write!(
+                    out,
+                    "{kind} 0x{word:x} at level {level} as before line {line}"
+                )
             }
             None => write!(
                 out,
-                "PTE 0x{word:x} at level {level} of another PTE of its NAPOT range"
+                "{kind} 0x{word:x} at level {level} of another PTE of its NAPOT range"
             ),
         }
     }
@@ -179,7 +188,13 @@ impl Recorded {
     }
 
     /// Appends which PTEs and which satp a walk went by that are not there now.
-    pub fn put_whence(&self, out: &mut String, va: Va, told: &Told) -> Result<(), AllocError> {
+    pub fn put_whence(
+        &self,
+        out: &mut String,
+        extensions: Extensions,
+        va: Va,
+        told: &Told,
+    ) -> Result<(), AllocError> {
         let mut lead = "";
         if let Some(step) = last_step(&told.way) {
             if step.global && step.asid != self.unit.satp().asid() {
@@ -192,7 +207,7 @@ impl Recorded {
             if let Some(step) = step_at(&told.way, level) {
                 if self.is_old(va, &step) {
                     out.push_str(lead)?;
-                    self.put_step(out, &step)?;
+                    self.put_step(out, extensions, &step)?;
                     lead = ", ";
                 }
             }

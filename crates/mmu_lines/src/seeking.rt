@@ -1,4 +1,4 @@
-// Looks for a way to the outcome that a client tells (`seek`).
+// Looks for a way to the outcome that a client tells (`seek`), or by which it is refused (`seek_refusal`).
 
 ghost use Rattle.std.specs.Prelude.{◌≤◌};
 
@@ -6,13 +6,23 @@ use crate::ways::{LEVELS, end_of, step_at};
 use access_history::{Outcome, Request};
 use access_judge::{Log, PastSatp, Sink, Step, Told, Way, tell_outcomes};
 use mmu_requests::Claim;
-use walk_rules::Extensions;
+use sv39_entry::{Kind, Va};
+use walk_rules::{AdScheme, Extensions, leads_to};
 
-/// Looks for an outcome that a client tells, by the PTE that it tells.
+/// What is looked for.
+#[derive(Clone, Copy)]
+enum Aim {
+    /// The outcome that a client tells, by the PTE that it tells.
+    Claimed(Claim),
+    /// A refusal by a leaf that gives a physical address to a virtual one.
+    RefusedAt { va: Va, pa: u64 },
+}
+
+/// Looks for the way, to what is looked for, on which the oldest is newest.
 #[derive(Drop)]
 struct Seeking {
     extensions: Extensions,
-    claim: Claim,
+    aim: Aim,
     way: Way,
     found: Option<Told>,
     /// The moment of what is oldest on the way to it.
@@ -54,11 +64,8 @@ impl Sink for Seeking {
     }
 
     fn tell(&mut self, outcome: Outcome) {
-        let word = match end_of(self.extensions, &self.way) {
-            Some(step) => Some(step.entry.to_word()),
-            None => None,
-        };
-        if !self.claim.is_outcome(outcome) || !self.claim.is_by(word) {
+        let end = end_of(self.extensions, &self.way);
+        if !is_sought(self.extensions, &self.aim, outcome, &end) {
             return;
         }
         let moment = oldest(&self.way);
@@ -67,6 +74,27 @@ impl Sink for Seeking {
             self.found = Some(Told { outcome, way });
             self.moment = moment;
         }
+    }
+}
+
+/// Whether a leaf gives a physical address to a virtual one.
+fn is_leaf_to(extensions: Extensions, step: &Step, va: Va, pa: u64) -> bool {
+    step.level <= 4
+        && extensions.kind(step.entry, step.level) == Kind::Leaf
+        && leads_to(step.entry, step.level, va) == pa
+}
+
+/// Whether an outcome is looked for, of a walk that ends at a PTE.
+fn is_sought(extensions: Extensions, aim: &Aim, outcome: Outcome, end: &Option<Step>) -> bool {
+    match (aim, end) {
+        (Aim::Claimed(claim), Some(step)) => {
+            claim.is_outcome(outcome) && claim.is_by(Some(step.entry.to_word()))
+        }
+        (Aim::Claimed(claim), None) => claim.is_outcome(outcome) && claim.is_by(None),
+        (Aim::RefusedAt { va, pa }, Some(step)) => {
+            matches!(outcome, Outcome::Refused { .. }) && is_leaf_to(extensions, step, *va, *pa)
+        }
+        (Aim::RefusedAt { .. }, None) => false,
     }
 }
 
@@ -84,18 +112,13 @@ fn oldest(way: &Way) -> usize {
     moment
 }
 
-/// Returns the outcome that a client tells with the way on which the oldest is newest; `None` if the search comes by none.
-pub(crate) fn seek<L: Log>(
-    log: &L,
-    extensions: Extensions,
-    request: Request,
-    claim: Claim,
-) -> Option<Told>
+/// Looks through the outcomes of an access.
+fn seek_aim<L: Log>(log: &L, extensions: Extensions, request: Request, aim: Aim) -> Option<Told>
     requires { 1 ≤ request.width }
 {
     let mut seeking = Seeking {
         extensions,
-        claim,
+        aim,
         way: Way {
             root: None,
             steps: [None; 5],
@@ -105,4 +128,30 @@ pub(crate) fn seek<L: Log>(
     };
     tell_outcomes(log, extensions, &request, &mut seeking);
     seeking.found
+}
+
+/// Returns the outcome that a client tells with the way on which the oldest is newest; `None` if the search comes by none.
+pub(crate) fn seek<L: Log>(
+    log: &L,
+    extensions: Extensions,
+    request: Request,
+    claim: Claim,
+) -> Option<Told>
+    requires { 1 ≤ request.width }
+{
+    seek_aim(log, extensions, request, Aim::Claimed(claim))
+}
+
+/// Returns a refusal by a leaf that leads to a physical address, also one by A or D alone; `None` if there is none.
+pub(crate) fn seek_refusal<L: Log>(
+    log: &L,
+    extensions: Extensions,
+    request: Request,
+    pa: u64,
+) -> Option<Told>
+    requires { 1 ≤ request.width }
+{
+    let (ad, va) = (AdScheme::Either, request.va);
+    let aim = Aim::RefusedAt { va, pa };
+    seek_aim(log, Extensions { ad, ..extensions }, request, aim)
 }

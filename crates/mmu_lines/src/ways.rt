@@ -1,4 +1,5 @@
-// The page table entries of a way (`Way`): that of a level (`step_at`), the last one (`last_step`), and the table below it (`table_below`).
+// The page table entries of a way (`Way`): that of a level (`step_at`), the last one (`last_step`), where its walk stops (`stop_of`), and what one is,
+// in words (`kind_text`).
 
 ghost use Rattle.std.specs.Prelude.{◌≤◌};
 
@@ -63,8 +64,50 @@ pub(crate) fn end_of(extensions: Extensions, way: &Way) -> Option<Step> {
     }
 }
 
+/// Where a walk stops.
+#[derive(Clone, Copy)]
+pub(crate) enum Stop {
+    /// At a PTE that is no pointer.
+    At(Step),
+    /// Before it reads the PTE of a table, by its level and its physical page number.
+    Unread { level: u32, table: u64 },
+}
+
+/// Returns where the walk of a way stops; `None`: there is no walk.
+pub(crate) fn stop_of(extensions: Extensions, way: &Way) -> Option<Stop> {
+    if let Some(step) = end_of(extensions, way) {
+        return Some(Stop::At(step));
+    }
+    match table_below(way) {
+        Some((level, table)) => Some(Stop::Unread { level, table }),
+        None => None,
+    }
+}
+
+/// Returns what a PTE is, in words.
+pub(crate) fn kind_text(extensions: Extensions, step: &Step) -> &'static str {
+    if step.level >= LEVELS {
+        return "PTE";
+    }
+    match (extensions.kind(step.entry, step.level), step.global) {
+        (Kind::Leaf, false) => "leaf PTE",
+        (Kind::Leaf, true) => "global leaf PTE",
+        (Kind::Pointer, false) => "pointer PTE",
+        (Kind::Pointer, true) => "global pointer PTE",
+        (Kind::Invalid, false) => "invalid PTE",
+        (Kind::Invalid, true) => "global invalid PTE",
+    }
+}
+
+/// Returns the physical address of a PTE.
+pub(crate) fn place_at(table: u64, index: usize) -> u64 {
+    table
+        .saturating_mul(4096)
+        .saturating_add((index as u64).saturating_mul(8))
+}
+
 /// Returns the level and the physical page number of the table to which the last PTE of a way points, or of the root's if there is none.
-pub(crate) fn table_below(way: &Way) -> Option<(u32, u64)> {
+fn table_below(way: &Way) -> Option<(u32, u64)> {
     if let Some(step) = last_step(way) {
         return match step.level.checked_sub(1) {
             Some(level) => Some((level, step.entry.ppn())),

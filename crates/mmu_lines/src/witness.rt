@@ -5,7 +5,8 @@ ghost use Rattle.std.specs.Prelude.{◌≤◌};
 
 use crate::recorded::Recorded;
 use crate::seeking::seek;
-use crate::ways::{LEVELS, end_of, step_at};
+use crate::telling::Telling;
+use crate::ways::{LEVELS, kind_text, step_at};
 use access_history::Request;
 use access_judge::{Log, PastSatp, Step, Told};
 use mmu_requests::Claim;
@@ -25,11 +26,16 @@ struct Fence {
     moment: usize,
     va: Option<Va>,
     asid: Option<u16>,
+    /// The ASID as the client wrote it: with bits that the hart has not.
+    written: Option<u16>,
+    /// The line of the last write of a PMP entry before it. 0: there was none.
+    pmp_line: u64,
 }
 
 /// A history without fences.
 #[derive(Drop)]
 pub(crate) struct Witness {
+    alloc: Global,
     unfenced: Recorded,
     /// The history in which each satp has ASID 0, too.
     unspaced: Recorded,
@@ -38,6 +44,24 @@ pub(crate) struct Witness {
 
 fn without_asid(satp: Satp) -> Satp {
     Satp::from_word(((satp.to_word() >> 60) << 60) + satp.ppn())
+}
+
+/// Appends a fence as the client writes it, for example `the fence of line 7 (sfence 0x4000 3)`.
+fn put_fence_line(out: &mut String, fence: &Fence) -> Result<(), AllocError> {
+    let line = fence.line;
+    write!(out, "the fence of line {line} (sfence")?;
+    match (fence.va, fence.written) {
+        (None, None) => {}
+        (None, Some(_)) => out.push_str(" -")?,
+        (Some(va), _) => {
+            let va = Hex(va.0);
+            write!(out, " {va}")?;
+        }
+    }
+    if let Some(asid) = fence.written {
+        write!(out, " {asid}")?;
+    }
+    out.push_str(")")
 }
 
 /// Whether rs2 of a fence is x0 or an ASID.
@@ -56,6 +80,7 @@ fn ends_root(fence: &Fence, root: &PastSatp) -> bool {
 impl Witness {
     pub fn new(alloc: Global) -> Witness {
         Witness {
+            alloc,
             unfenced: Recorded::new(alloc),
             unspaced: Recorded::new(alloc),
             fences: Vec::new(alloc),
@@ -112,15 +137,18 @@ impl Witness {
         line: u64,
         va: Option<Va>,
         asid: Option<u16>,
+        written: Option<u16>,
     ) -> Result<(), AllocError> {
         self.bound()?;
-        let moment = self.unfenced.count();
+        let (moment, pmp_line) = (self.unfenced.count(), self.unfenced.pmp_line());
         Ok(
             self.fences.push(Fence {
                 line,
                 moment,
                 va,
                 asid,
+                written,
+                pmp_line,
             })?,
         )
     }
@@ -174,21 +202,21 @@ impl Witness {
         }
     }
 
-    /// The line of the first fence that covers a PTE.
-    fn fence_of(&self, extensions: Extensions, va: Va, step: &Step) -> Option<u64> {
+    /// The first fence that covers a PTE.
+    fn fence_of(&self, extensions: Extensions, va: Va, step: &Step) -> Option<Fence> {
         'fences: for fence in self.fences.as_slice() {
             if self.covers(extensions, va, step, fence) {
-                return Some(fence.line);
+                return Some(*fence);
             }
         }
         None
     }
 
-    /// The line of the first fence after which a walk may not begin by the satp of a way.
-    fn fence_of_root(&self, root: PastSatp) -> Option<u64> {
+    /// The first fence after which a walk may not begin by the satp of a way.
+    fn fence_of_root(&self, root: PastSatp) -> Option<Fence> {
         'fences: for fence in self.fences.as_slice() {
             if ends_root(fence, &root) {
-                return Some(fence.line);
+                return Some(*fence);
             }
         }
         None
@@ -203,8 +231,9 @@ impl Witness {
             return Ok(false);
         }
         match self.fence_of_root(root) {
-            Some(line) => {
-                write!(out, "the fence of line {line} excludes ")?;
+            Some(fence) => {
+                put_fence_line(out, &fence)?;
+                out.push_str(" excludes ")?;
                 self.unfenced.put_root(out, told, "")?;
                 Ok(true)
             }
@@ -223,9 +252,10 @@ impl Witness {
         'levels: for n in 0..LEVELS {
             if let Some(step) = step_at(&told.way, LEVELS - 1 - n) {
                 if self.unfenced.is_old(va, &step) {
-                    if let Some(line) = self.fence_of(extensions, va, &step) {
-                        write!(out, "the fence of line {line} excludes ")?;
-                        self.unfenced.put_step(out, &step)?;
+                    if let Some(fence) = self.fence_of(extensions, va, &step) {
+                        put_fence_line(out, &fence)?;
+                        out.push_str(" excludes ")?;
+                        self.unfenced.put_step(out, extensions, &step)?;
                         return Ok(true);
                     }
                 }
@@ -234,20 +264,105 @@ impl Witness {
         self.put_excluded_root(out, told)
     }
 
-    /// Appends why a fence excludes the outcome that a client tells, if one does.
+    /// The last fence of everything between which and the one before it a PMP entry was written.
+    fn fence_of_pmp(&self) -> Option<Fence> {
+        let (mut found, mut line) = (None, 0);
+        'fences: for fence in self.fences.as_slice() {
+            if fence.va.is_none() && fence.asid.is_none() && fence.pmp_line != line {
+                found = Some(*fence);
+                line = fence.pmp_line;
+            }
+        }
+        found
+    }
+
+    /// Appends which fence excludes PMP as it was on a way, if one does.
+    fn put_excluded_pmp(
+        &self,
+        out: &mut String,
+        telling: &Telling,
+        told: &Told,
+    ) -> Result<bool, AllocError> {
+        if telling.comes_to(&told.way, told.outcome) && telling.may_read(&told.way) {
+            return Ok(false);
+        }
+        let Some(fence) = self.fence_of_pmp() else {
+            return Ok(false);
+        };
+        put_fence_line(out, &fence)?;
+        out.push_str(" excludes older PMP entries")?;
+        Ok(true)
+    }
+
+    /// Appends which fence excludes a way that was possible before it, if one does.
     fn put_fence(
         &self,
         out: &mut String,
         extensions: Extensions,
         request: Request,
-        claim: Claim,
-    ) -> Result<bool, AllocError>
-        requires { 1 ≤ request.width }
-    {
-        match seek(&self.unfenced.unit, extensions, request, claim) {
-            Some(told) => self.put_excluded(out, extensions, request.va, &told),
-            None => Ok(false),
+        told: &Told,
+    ) -> Result<bool, AllocError> {
+        if self.put_excluded(out, extensions, request.va, told)? {
+            return Ok(true);
         }
+        let telling = Telling::new(self.alloc, &self.unfenced, extensions, request);
+        self.put_excluded_pmp(out, &telling, told)
+    }
+
+    /// Whether a PTE of a way was there up to a moment.
+    fn was_there(&self, step: &Step, moment: usize) -> bool {
+        if step.last <= moment {
+            return true;
+        }
+        if step.index >= 512 || moment > self.unspaced.unit.now() {
+            return false;
+        }
+        match self.unspaced.unit.word_at(step.ppn, step.index, moment) {
+            Some(past) => past.word == step.entry.to_word(),
+            None => false,
+        }
+    }
+
+    /// The last PTE on a way of those that a walk may have read up to a moment and that are not global.
+    fn last_of_space(&self, told: &Told, moment: usize) -> Option<Step> {
+        let mut found = None;
+        'levels: for n in 0..LEVELS {
+            if let Some(step) = step_at(&told.way, LEVELS - 1 - n) {
+                if !self.was_there(&step, moment) {
+                    return found;
+                }
+                if !step.global {
+                    found = Some(step);
+                }
+            }
+        }
+        found
+    }
+
+    /// Appends which PTE of a way that would be possible if all ASIDs were one is of another ASID, if one is.
+    fn put_of_space(
+        &self,
+        out: &mut String,
+        extensions: Extensions,
+        told: &Told,
+    ) -> Result<bool, AllocError> {
+        let Some(root) = &told.way.root else {
+            return Ok(false);
+        };
+        let (asid, moment) = self.unspaced.space_at(root.last);
+        let Some(step) = self.last_of_space(told, moment) else {
+            return Ok(false);
+        };
+        if asid == self.unfenced.unit.satp().asid() {
+            return Ok(false);
+        }
+        let (kind, word) = (kind_text(extensions, &step), Hex(step.entry.to_word()));
+        let level = step.level;
+        write!(
+            out,
+            "{kind} {word} at level {level} is of another ASID and not global: read under ASID {asid}"
+        )?;
+        Ok(true)
     }
 
     /// Appends that the outcome that a client tells is by a PTE of another ASID, if it is.
@@ -260,22 +375,10 @@ impl Witness {
     ) -> Result<bool, AllocError>
         requires { 1 ≤ request.width }
     {
-        let Some(told) = seek(&self.unspaced.unit, extensions, request, claim) else {
-            return Ok(false);
-        };
-        let Some(step) = end_of(extensions, &told.way) else {
-            return Ok(false);
-        };
-        let Some(root) = told.way.root else {
-            return Ok(false);
-        };
-        let (word, level) = (Hex(step.entry.to_word()), step.level);
-        let asid = self.unspaced.asid_at(root.last);
-        write!(
-            out,
-            "PTE {word} at level {level} is of another ASID and not global: read under ASID {asid}"
-        )?;
-        Ok(true)
+        match seek(&self.unspaced.unit, extensions, request, claim) {
+            Some(told) => self.put_of_space(out, extensions, &told),
+            None => Ok(false),
+        }
     }
 
     /// Appends why the outcome that a client tells is not permitted, if a fence or an ASID is the reason.
@@ -288,9 +391,9 @@ impl Witness {
     ) -> Result<bool, AllocError>
         requires { 1 ≤ request.width }
     {
-        if self.put_fence(out, extensions, request, claim)? {
-            return Ok(true);
+        match seek(&self.unfenced.unit, extensions, request, claim) {
+            Some(told) => self.put_fence(out, extensions, request, &told),
+            None => self.put_space(out, extensions, request, claim),
         }
-        self.put_space(out, extensions, request, claim)
     }
 }

@@ -18,7 +18,7 @@ const BEFORE_TITLE: &str = "<!doctype html>
 <meta name=\"viewport\" content=\"width=device-width, initial-scale=1\">
 <title>";
 
-/// What stands between the title and the first step.
+/// What stands between the title and the body.
 const AFTER_TITLE: &str = "</title>
 <style>
 :root { color-scheme: light }
@@ -41,8 +41,10 @@ figcaption { font-weight: bold; margin-bottom: .3em }
 @media (max-width: 50em) { main { grid-template-columns: minmax(0, 1fr) } #lines { position: static; max-height: 12em } }
 </style>
 </head>
-<body>
-<header>
+";
+
+/// What stands between the beginning of the body and the first step.
+const BEFORE_STEPS: &str = "<header>
 <button id=\"first\" aria-label=\"first line\">|&lt;</button>
 <button id=\"back\" aria-label=\"line before\">&lt;</button>
 <button id=\"on\" aria-label=\"next line\">&gt;</button>
@@ -126,20 +128,25 @@ document.addEventListener('keydown', event => {
   const to = { ArrowLeft: now - 1, ArrowRight: now + 1, Home: 0, End: steps.length - 1 }[event.key];
   if (to !== undefined) { event.preventDefault(); show(to); }
 });
-show(Number(location.hash.slice(1)) - 1 || 0);
+show((Number(location.hash.slice(1)) || Number(document.body.dataset.line) || 1) - 1);
 </script>
 </body>
 </html>
 ";
 
-/// Puts the beginning of a page with a title.
+/// Puts the beginning of a page with a title, which opens at the line of a number, from 1, or at the first.
 ///
 /// # Errors
 /// `AllocError`: the host is out of memory.
-pub fn put_page_start(out: &mut String, title: &str) -> Result<(), AllocError> {
+pub fn put_page_start(out: &mut String, title: &str, line: Option<u64>) -> Result<(), AllocError> {
     out.push_str(BEFORE_TITLE)?;
     put_escaped(out, title)?;
-    out.push_str(AFTER_TITLE)
+    out.push_str(AFTER_TITLE)?;
+    match line {
+        Some(number) => writeln!(out, "<body data-line=\"{number}\">")?,
+        None => out.push_str("<body>\n")?,
+    }
+    out.push_str(BEFORE_STEPS)
 }
 
 /// Puts a line of a script, what happened on it and, if it was answered, a picture of the machine after it.
