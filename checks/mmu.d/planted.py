@@ -15,7 +15,7 @@ HERE = pathlib.Path(__file__).resolve().parent
 ROOT = HERE.parent.parent
 sys.path.append(str(ROOT / "checks"))
 from answers import differences
-from planted_program import copied
+from planted_program import tried_in_copies
 
 FILES = ("judge.py", "rules.py")
 # The program of few crates that answers lines: checks/qemu has it too.
@@ -395,26 +395,30 @@ def few(scripts):
     return taken
 
 
+def try_program(scratch, scripts, file, pairs):
+    """The differences of the program of a copy on scripts, with texts of a file replaced."""
+    file = scratch / "crates" / file
+    old_text = replaced(file, pairs)
+    found = differences([sys.executable, "-B", str(HERE / "planted.py"), str(scratch)], few(scripts))
+    file.write_text(old_text)
+    return found
+
+
 def plant_in_program(groups, finding):
-    """Tries the program without an error, and with each, on scripts that find the same error in the judge, if it has it. Returns how many are not
-    judged as they must be."""
-    failed = 0
-    with tempfile.TemporaryDirectory(prefix="planted-") as folder:
-        scratch = pathlib.Path(folder)
-        copied(ROOT, scratch, CRATE, LIBRARIES, MAIN)
-        program = [sys.executable, "-B", str(HERE / "planted.py"), str(scratch)]
-        found = differences(program, few(groups[0]))
-        print(f"{len(found)} scripts differ with no error planted in the program {found[:1]}", flush=True)
-        failed += bool(found)
-        for what, (name, *pairs) in PROGRAM.items():
-            file = scratch / "crates" / name
-            old_text = replaced(file, pairs)
-            found = differences(program, few(finding.get(what, []) + groups[0]))
-            file.write_text(old_text)
-            built = not any(it[0] == "all" for it in found)
-            print(f"{len(found):>4} scripts differ if {what} (crates/{name})" + ("" if built else f": {found[0][2]}"), flush=True)
-            failed += not found or not built
-    print(f"{failed} of {1 + len(PROGRAM)} programs are not judged as they must be")
+    """Tries the program without an error, and with each, on scripts that find the same error in the judge, if it has it. Returns how
+    many are not judged as they must be."""
+    failed, tries = 0, {None: ("mmu/src/lib.rt",), **PROGRAM}
+
+    def attempt(scratch, what):
+        name, *pairs = tries[what]
+        return try_program(scratch, finding.get(what, []) + groups[0], name, pairs)
+
+    for what, found in zip(tries, tried_in_copies(ROOT, (CRATE, LIBRARIES, MAIN), tries, attempt)):
+        built = not any(it[0] == "all" for it in found)
+        planted = f"if {what} (crates/{tries[what][0]})" if what else "with no error planted in the program"
+        print(f"{len(found):>4} scripts differ {planted}" + ("" if built else f": {found[0][2]}"), flush=True)
+        failed += bool(found) != bool(what) or not built
+    print(f"{failed} of {len(tries)} programs are not judged as they must be")
     return failed
 
 

@@ -7,9 +7,8 @@ in rows are fences that QEMU's hart leaves out.
 import pathlib
 import re
 import subprocess
-import tempfile
 
-from planted_program import copied
+from planted_program import tried_in_copies
 from trial import unexplained
 
 # Its name does not end in .rt, lest the gate look for a crate around it.
@@ -96,18 +95,20 @@ def try_edits(root, trials, schemes, seed):
     failed, trial = 0, trials[-1]
     profiles = trial.qemu.profiles
     made = [trial.made(seed, scheme, profile, False, MEMORIES, ACCESSES) for scheme in schemes for profile in profiles]
-    with tempfile.TemporaryDirectory(prefix="planted-") as folder:
-        scratch = pathlib.Path(folder)
-        copied(root, scratch, CRATE, LIBRARIES, MAIN)
-        wrong, accesses = count_unexplained(made, tried(scratch, made))
-        print(f"{wrong:>7,} of {accesses:,} accesses differ without explanation with no error planted", flush=True)
-        failed += wrong != 0
-        for what, edit in EDITS.items():
-            file, old = edited(scratch, edit)
-            wrong, _ = count_unexplained(made, tried(scratch, made))
-            file.write_text(old, encoding="utf-8")
-            print(f"{wrong:>7,} if {what} ({edit})", flush=True)
-            failed += wrong == 0
+    tries = {None: None, **EDITS}
+
+    def attempt(scratch, what):
+        if what is None:
+            return count_unexplained(made, tried(scratch, made))
+        file, old = edited(scratch, tries[what])
+        counted = count_unexplained(made, tried(scratch, made))
+        file.write_text(old, encoding="utf-8")
+        return counted
+
+    for what, (wrong, accesses) in zip(tries, tried_in_copies(root, (CRATE, LIBRARIES, MAIN), tries, attempt)):
+        planted = f"if {what} ({tries[what]})" if what else "with no error planted"
+        print(f"{wrong:>7,} of {accesses:,} accesses differ without explanation {planted}", flush=True)
+        failed += (wrong != 0) != bool(what)
     print(f"{failed} of {1 + len(EDITS)} programs are not judged as they must be")
     return failed
 
