@@ -9,7 +9,7 @@ NAMES = {
         usertrapret uvmalloc uvmclear uvmcopy uvmcreate uvmdealloc uvmfree uvmunmap w_satp walkaddr""",
     "registers, and the letters of flags": "sstatus scause VRWXUGAD",
     "what a user of generated programs defines for the C compiler": "KIT_COUNT",
-    "tools": "callgrind dot readelf objcopy",
+    "tools": "callgrind dot readelf objcopy pmemsave",
     "beginnings of names that a reader chooses": "my_",
     "wrong bodies that only tests catch: no file holds them": """always_out_of_memory harts_on_one_thread threaded_fork_always_refused
         parent_ends_with_child_room""",

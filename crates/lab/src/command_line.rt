@@ -2,10 +2,15 @@
 
 use crate::chosen_line::ChosenLine;
 use crate::fault::Fault;
+use crate::inspect::InspectWords;
 use crate::run::Telling;
 use clap::{Arg, ArgAction, ArgMatches, Command, value_parser};
+use line_fields::wrong_number;
+use script_reader::number;
 use std::alloc::{AllocError, Global};
+use sv39_entry::{KERNBASE, PAGE_SIZE};
 use version::VERSION;
+use walk_rules::{AdScheme, Extensions};
 
 /// What the program does.
 #[derive(Clone, Copy, PartialEq, Eq, Debug)]
@@ -29,6 +34,8 @@ pub enum Task {
     Mmu(bool),
     /// Prints the fewest lines by which a line for a reference MMU stays not permitted.
     Shrink,
+    /// Prints what address spaces in a dump of physical memory map.
+    Inspect,
     /// Prints the line of a script that declares an ELF file.
     Elf,
 }
@@ -43,6 +50,8 @@ pub struct CommandLine {
     pub out: String,
     /// The number of the only line that `Trace` tells of, or of that at which the page of `Draw` opens, if one is given.
     pub line: Option<u64>,
+    /// What `Inspect` is to look for; no address space otherwise.
+    pub inspect: InspectWords,
 }
 
 /// The help of FILE for a word that takes one script.
@@ -158,6 +167,107 @@ fn mmu<'a>(alloc: Global) -> Result<Command<'a>, AllocError> {
         .arg(shrink)
 }
 
+/// Returns a flag of the word `inspect`.
+fn flag<'a>(alloc: Global, name: &'a str, help: &'a str) -> Arg<'a> {
+    Arg::new(alloc, name)
+        .long(name)
+        .action(ArgAction::SetTrue)
+        .help(help)
+}
+
+/// Returns the word `inspect`.
+fn inspect<'a>(alloc: Global) -> Result<Command<'a>, AllocError> {
+    let at = Arg::new(alloc, "at")
+        .long("at")
+        .action(ArgAction::Set)
+        .value_name("ADDRESS")
+        .help("The physical address of the first byte, 0x80000000 if none is given");
+    let satp = Arg::new(alloc, "satp")
+        .long("satp")
+        .required(true)
+        .action(ArgAction::Append)
+        .value_name("WORD")
+        .help("A value of satp; once for each address space");
+    Command::new(alloc, "inspect")
+        .about(
+            "Look into a kernel: page tables, mappings and what is suspicious, in a dump of memory",
+        )
+        .arg(file(
+            alloc,
+            "The dump, as pmemsave of QEMU writes it; - is standard input",
+        ))?
+        .arg(at)?
+        .arg(satp)?
+        .arg(flag(
+            alloc,
+            "svade",
+            "Tell leaves with A clear, or with W and D clear, too",
+        ))?
+        .arg(flag(alloc, "svnapot", "The hart has Svnapot: leaves of 64 KiB"))?
+        .arg(flag(
+            alloc,
+            "svpbmt",
+            "The hart has Svpbmt: memory types in leaves",
+        ))?
+        .arg(json(alloc, "Print JSON objects, one a line"))
+}
+
+/// Returns the number of a word of the command line.
+///
+/// # Errors
+/// `Word`: it is none. `Memory`: the host is out of memory.
+fn number_of(alloc: Global, name: &str, word: &str) -> Result<u64, Fault> {
+    match number(word.as_bytes()) {
+        Some(number) => Ok(number),
+        None => {
+            let wrong = wrong_number(alloc, word.as_bytes())?;
+            let text = wrong.as_str();
+            Err(Fault::Word(format!(in alloc; "{name}: {text}")?))
+        }
+    }
+}
+
+/// Returns the physical page number of the first byte of a dump.
+///
+/// # Errors
+/// `Word`: `--at` is no number, or no multiple of 4,096. `Memory`: the host is out of memory.
+fn base_of(alloc: Global, given: &ArgMatches<'_>) -> Result<u64, Fault> {
+    let address = match given.get_str("at") {
+        Some(word) => number_of(alloc, "--at", word)?,
+        None => KERNBASE,
+    };
+    if address % PAGE_SIZE != 0 {
+        let text = format!(in alloc; "--at: 0x{address:x} is no multiple of {PAGE_SIZE}")?;
+        return Err(Fault::Word(text));
+    }
+    Ok(address / PAGE_SIZE)
+}
+
+/// Returns what the word `inspect` is told.
+///
+/// # Errors
+/// `Word`: a number is wrong. `Memory`: the host is out of memory.
+fn inspect_words(alloc: Global, given: &ArgMatches<'_>) -> Result<InspectWords, Fault> {
+    let mut satps = Vec::new(alloc);
+    if let Some(words) = given.get_strs("satp") {
+        for word in words {
+            let satp = number_of(alloc, "--satp", word)?;
+            satps.push(satp).map_err(AllocError::from)?;
+        }
+    }
+    Ok(InspectWords {
+        base: base_of(alloc, given)?,
+        satps,
+        extensions: Extensions {
+            svnapot: given.get_flag("svnapot"),
+            svpbmt: given.get_flag("svpbmt"),
+            ad: AdScheme::Either,
+        },
+        needing_update: given.get_flag("svade"),
+        json: given.get_flag("json"),
+    })
+}
+
 /// Returns the word `elf`.
 fn elf<'a>(alloc: Global) -> Result<Command<'a>, AllocError> {
     Command::new(alloc, "elf")
@@ -186,6 +296,7 @@ fn command<'a>(alloc: Global) -> Result<Command<'a>, AllocError> {
         .subcommand(show)?
         .subcommand(repl)?
         .subcommand(mmu(alloc)?)?
+        .subcommand(inspect(alloc)?)?
         .subcommand(elf(alloc)?)
 }
 
@@ -203,8 +314,24 @@ fn task_of(name: &str, given: &ArgMatches<'_>) -> Task {
         "show" => Task::Show,
         "mmu" if given.get_flag("shrink") => Task::Shrink,
         "mmu" => Task::Mmu(given.get_flag("json")),
+        "inspect" => Task::Inspect,
         "elf" => Task::Elf,
         _ => Task::Repl,
+    }
+}
+
+/// Returns what a word other than `inspect` says of a dump: nothing.
+fn no_dump(alloc: Global) -> InspectWords {
+    InspectWords {
+        base: 0,
+        satps: Vec::new(alloc),
+        extensions: Extensions {
+            svnapot: false,
+            svpbmt: false,
+            ad: AdScheme::Either,
+        },
+        needing_update: false,
+        json: false,
     }
 }
 
@@ -228,7 +355,7 @@ impl CommandLine {
     /// Returns the parsed command line for its words, the program's name first.
     ///
     /// # Errors
-    /// `CommandLine`: they are wrong, or ask for help or the version. `Memory`: the host is out of memory.
+    /// `CommandLine`: they are wrong, or ask for help or the version. `Word`: a number among them is wrong. `Memory`: the host is out of memory.
     pub fn parse(alloc: Global, words: &[String]) -> Result<CommandLine, Fault> {
         let matches = command(alloc)?.try_get_matches_from(words)?;
         let mut files = Vec::new(alloc);
@@ -238,12 +365,17 @@ impl CommandLine {
                 files,
                 out: String::new(alloc),
                 line: None,
+                inspect: no_dump(alloc),
             });
         };
         let task = task_of(name, given);
         let out = match task {
             Task::Draw(_) => given.get_str("OUT").unwrap_or("-"),
             _ => "",
+        };
+        let inspect = match task {
+            Task::Inspect => inspect_words(alloc, given)?,
+            _ => no_dump(alloc),
         };
         if let Some(given) = given.get_strs("FILE") {
             for file in given {
@@ -256,6 +388,7 @@ impl CommandLine {
             files,
             out: String::from_str(alloc, out)?,
             line: given.get_one::<u64>("line"),
+            inspect,
         })
     }
 }

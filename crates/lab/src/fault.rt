@@ -12,6 +12,8 @@ use std::{fmt, io};
 pub enum Fault {
     /// The command line is wrong, or asks for help or the version.
     CommandLine(clap::Error),
+    /// A word of the command line is wrong, and how.
+    Word(String),
     /// The host is out of memory.
     Memory,
     /// A script cannot be opened or read.
@@ -39,7 +41,7 @@ impl Fault {
     {
         match self {
             Fault::CommandLine(error) if error.exit_code() == 0 => 0,
-            Fault::CommandLine(_) => 2,
+            Fault::CommandLine(_) | Fault::Word(_) => 2,
             Fault::Memory | Fault::File(_, _) | Fault::Read(_) | Fault::Io(_) | Fault::Told => 1,
         }
     }
@@ -84,6 +86,10 @@ impl fmt::Display for Fault {
     fn fmt<W: fmt::Write>(&self, f: &mut fmt::Formatter<W>) -> fmt::Result {
         match self {
             Fault::CommandLine(error) => write!(f, "{error}"),
+            Fault::Word(text) => {
+                let text = text.as_str();
+                write!(f, "xv6lab: {text}")
+            }
             Fault::Memory => write!(f, "xv6lab: out of memory"),
             Fault::File(name, error) => {
                 let (name, because) = (name.as_str(), Because(error));

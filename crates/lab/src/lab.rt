@@ -7,6 +7,7 @@ use crate::command_line::{CommandLine, Task};
 use crate::draw::{DrawLines, KeptLines, PageLines, Paper};
 use crate::elf::ElfLine;
 use crate::fault::Fault;
+use crate::inspect::InspectDump;
 use crate::play::{Listener, each_line};
 use crate::reference::AnswerLines;
 use crate::repl::ReplLines;
@@ -264,6 +265,17 @@ impl<F: Files, I: Read + Drop> Host<'_, F, I> {
             }
             Task::Mmu(json) => self.give(screen, file, &mut AnswerLines { json }),
             Task::Shrink => self.give(screen, file, &mut ShrinkLines),
+            Task::Inspect => {
+                let inspect = &words.inspect;
+                self.give(
+                    screen,
+                    file,
+                    &mut InspectDump {
+                        file,
+                        words: inspect,
+                    },
+                )
+            }
             Task::Elf => self.give(screen, file, &mut ElfLine { file }),
         }
     }

@@ -1,0 +1,6 @@
+mod Found
+mod Listed
+mod Mapped
+mod OneListing
+mod Pages
+mod Ways

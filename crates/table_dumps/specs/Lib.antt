@@ -1,0 +1,4 @@
+pub mod Below
+pub mod Dumps
+pub mod Leaves
+pub mod Listings
