@@ -8,7 +8,7 @@ NAMES = {
         kvmmap loadseg mappages proc_freepagetable proc_mapstacks proc_pagetable sched scheduler swtch sys_sbrk uservec userret usertrap
         usertrapret uvmalloc uvmclear uvmcopy uvmcreate uvmdealloc uvmfree uvmunmap w_satp walkaddr""",
     "registers, and the letters of flags": "sstatus scause VRWXUGAD",
-    "what a user of generated programs defines for the C compiler": "KIT_COUNT",
+    "what a user of generated programs defines for the C compiler": "KIT_COUNT KIT_SBRK KIT_SHRINK KIT_STACK",
     "tools": "callgrind dot readelf objcopy pmemsave",
     "beginnings of names that a reader chooses": "my_",
     "wrong bodies that only tests catch: no file holds them": """always_out_of_memory harts_on_one_thread threaded_fork_always_refused

@@ -27,17 +27,16 @@ def other_byte(digits):
 CHANGES = [
     Change("the value of a load", "cow", r"ld\((\d+), .*?, \d, (0x\w+)\)", last_digit),
     Change("the value of a load in a mapping", "mmap", r"ld\((\d+), M.*?, \d, (0x\w+)\)", last_digit),
-    Change("the values of several pages", "lazy", r"ldp\((\d+), .*?, \d+, (0x\w+), \d\)", last_digit),
-    Change("the value of a load in a child", "cow", r"peek\((\d+), .*?, \d, (0x\w+), ", last_digit),
+    Change("the value of a load in a child", "cow", r"peek\((\d+), .*?, \d, \d, 0x\w+, \d+, (0x\w+)\)", last_digit),
     Change("the old size of the heap", "lazy", r"grow\((\d+), -?\d+, (0x\w+)\)", last_digit),
     Change("an address that is denied", "mixed", r"denied\((\d+), \d, (.*?), \d\)", lambda _: "(uint64)buf"),
     Change("a byte that write() takes", "cow", r'in\((\d+), .*?"(\w+)"\)', other_byte),
-    Change("how many bytes are copied", "lazy", r"out\((\d+), \d, .*?, (?P<n>\d+), ((?P=n)), \d+\)", lambda it: str(int(it) - 1)),
+    Change("how many bytes are copied", "lazy", r"out\((\d+), \d, .*?, (?P<n>\d+), \d+, ((?P=n))\)", lambda it: str(int(it) - 1)),
     Change("the status of a child", "cow", r"reap\((\d+), \d, (\d+)\)", lambda it: str(int(it) + 1)),
     Change("whether mmap succeeds", "mmap", r"map\((\d+), .*?, (1)\);", lambda _: "0"),
     Change("whether mmap fails", "mmap", r"map\((\d+), .*?, (0)\);", lambda _: "1"),
     Change("a byte of a file", "mmap", r'show\((\d+), .*?"(\w+)"\)', other_byte),
-    Change("how many pages are in use", "lazy", r"used\((\d+), (-?\d+)\)", lambda _: "-1000"),
+    Change("how many pages are in use", "lazy", r"used\((\d+), \d+, (\d+)\)", lambda _: "-1000"),
 ]
 
 

@@ -4,11 +4,13 @@ use crate::chosen_line::ChosenLine;
 use crate::fault::Fault;
 use crate::inspect::InspectWords;
 use crate::run::Telling;
+use crate::usertest::{KINDS, Tests};
 use clap::{Arg, ArgAction, ArgMatches, Command, value_parser};
 use line_fields::wrong_number;
 use script_reader::number;
 use std::alloc::{AllocError, Global};
 use sv39_entry::{KERNBASE, PAGE_SIZE};
+use usertest_rows::Kind;
 use version::VERSION;
 use walk_rules::{AdScheme, Extensions};
 
@@ -38,15 +40,17 @@ pub enum Task {
     Inspect,
     /// Prints the line of a script that declares an ELF file.
     Elf,
+    /// Writes a C program that tests a kernel, and the scripts of its tests.
+    Usertest(Tests),
 }
 
 /// A parsed command line.
 #[derive(Debug, Drop)]
 pub struct CommandLine {
     pub task: Task,
-    /// The paths of the scripts, `-` for standard input; none for `Repl`.
+    /// The paths of the scripts, `-` for standard input; none for `Repl` and `Usertest`.
     pub files: Vec<String>,
-    /// The path of the file to which `Draw` writes, `-` for standard output; empty otherwise.
+    /// The path of the file to which `Draw` or `Usertest` writes, `-` for standard output; empty otherwise, and if `Usertest` has none.
     pub out: String,
     /// The number of the only line that `Trace` tells of, or of that at which the page of `Draw` opens, if one is given.
     pub line: Option<u64>,
@@ -167,7 +171,7 @@ fn mmu<'a>(alloc: Global) -> Result<Command<'a>, AllocError> {
         .arg(shrink)
 }
 
-/// Returns a flag of the word `inspect`.
+/// Returns a flag, by its name.
 fn flag<'a>(alloc: Global, name: &'a str, help: &'a str) -> Arg<'a> {
     Arg::new(alloc, name)
         .long(name)
@@ -275,6 +279,72 @@ fn elf<'a>(alloc: Global) -> Result<Command<'a>, AllocError> {
         .arg(file(alloc, "The ELF file; - is standard input"))
 }
 
+/// Returns an option with a number.
+fn number_option<'a>(alloc: Global, id: &'a str, long: &'a str, help: &'a str) -> Arg<'a> {
+    Arg::new(alloc, id)
+        .long(long)
+        .action(ArgAction::Set)
+        .value_name(id)
+        .help(help)
+}
+
+/// Returns the option `-o` of `usertest`.
+fn program<'a>(alloc: Global) -> Arg<'a> {
+    Arg::new(alloc, "FILE.c")
+        .short('o')
+        .long("out")
+        .action(ArgAction::Set)
+        .value_name("FILE.c")
+        .help(
+            "The C file to write, and beside it the scripts; by default KIND-N.c, or KIND-FIRST-LAST.c. - is standard output, without scripts",
+        )
+}
+
+/// Returns the word `usertest`.
+fn usertest<'a>(alloc: Global) -> Result<Command<'a>, AllocError> {
+    let kind = Arg::new(alloc, "KIND")
+        .long("kind")
+        .required(true)
+        .action(ArgAction::Set)
+        .value_name("KIND")
+        .value_parser(KINDS.as_slice())
+        .help("What the tests ask: copy-on-write forks, a lazy heap, mappings, or all three");
+    let seed = number_option(alloc, "N", "seed", "The seed of the first test")
+        .required(true)
+        .value_parser(value_parser!(u64));
+    let count = number_option(
+        alloc,
+        "C",
+        "count",
+        "How many tests the file has, with the seeds from N on",
+    )
+    .value_parser(value_parser!(u64).range(1..=1000))
+    .default_value("1");
+    let steps = number_option(
+        alloc,
+        "K",
+        "steps",
+        "The steps of a test, but for its beginning and end",
+    )
+    .value_parser(value_parser!(u32).range(1..=1000))
+    .default_value("40");
+    let no_offset = flag(alloc, "no-offset", "Ask mmap with offset 0 alone");
+    let script = flag(
+        alloc,
+        "script",
+        "Print the script of the first test, and write nothing",
+    );
+    Command::new(alloc, "usertest")
+        .about("Write a C program that tests an xv6 kernel, and the scripts that it plays")
+        .arg(kind)?
+        .arg(seed)?
+        .arg(count)?
+        .arg(steps)?
+        .arg(no_offset)?
+        .arg(script)?
+        .arg(program(alloc))
+}
+
 /// Returns the form of the command line.
 fn command<'a>(alloc: Global) -> Result<Command<'a>, AllocError> {
     let show = Command::new(alloc, "show")
@@ -297,7 +367,23 @@ fn command<'a>(alloc: Global) -> Result<Command<'a>, AllocError> {
         .subcommand(repl)?
         .subcommand(mmu(alloc)?)?
         .subcommand(inspect(alloc)?)?
-        .subcommand(elf(alloc)?)
+        .subcommand(elf(alloc)?)?
+        .subcommand(usertest(alloc)?)
+}
+
+/// Returns the tests that are asked for. Their numbers were checked.
+fn tests_of(given: &ArgMatches<'_>) -> Tests {
+    Tests {
+        kind: given
+            .get_str("KIND")
+            .and_then(Kind::of_name)
+            .unwrap_or(Kind::Cow),
+        seed: given.get_one::<u64>("N").unwrap_or(0),
+        count: given.get_one::<u64>("C").unwrap_or(1),
+        steps: given.get_one::<u32>("K").unwrap_or(40),
+        offsets: !given.get_flag("no-offset"),
+        script: given.get_flag("script"),
+    }
 }
 
 /// Returns the task of a word, with its flags.
@@ -316,6 +402,7 @@ fn task_of(name: &str, given: &ArgMatches<'_>) -> Task {
         "mmu" => Task::Mmu(given.get_flag("json")),
         "inspect" => Task::Inspect,
         "elf" => Task::Elf,
+        "usertest" => Task::Usertest(tests_of(given)),
         _ => Task::Repl,
     }
 }
@@ -371,6 +458,7 @@ impl CommandLine {
         let task = task_of(name, given);
         let out = match task {
             Task::Draw(_) => given.get_str("OUT").unwrap_or("-"),
+            Task::Usertest(_) => given.get_str("FILE.c").unwrap_or(""),
             _ => "",
         };
         let inspect = match task {

@@ -16,6 +16,7 @@ use crate::screen::Screen;
 use crate::show::ShowLines;
 use crate::shrink::ShrinkLines;
 use crate::trace::TraceLines;
+use crate::usertest::{Program, Tests};
 use std::alloc::Global;
 use std::fs;
 use std::io::Read;
@@ -173,14 +174,14 @@ impl<F: Files, I: Read + Drop> Host<'_, F, I> {
         Ok(())
     }
 
-    /// Writes a picture to a file, or to standard output for `-`.
-    fn write<S: Screen>(&self, screen: &mut S, out: &str, text: &str) -> Result<(), Fault>
+    /// Writes a text to a file, or to standard output for `-`.
+    fn write<S: Screen>(&self, screen: &mut S, out: &str, text: &[u8]) -> Result<(), Fault>
         ensures whole { IfOk result (λ _. S.whole screen.old → S.whole screen.new) }
     {
         if out == "-" {
-            return screen.out(text);
+            return screen.out_bytes(text);
         }
-        match fs::write(self.files, out, text.as_bytes()) {
+        match fs::write(self.files, out, text) {
             Ok(()) => Ok(()),
             Err(error) => Err(Fault::File(String::from_str(self.alloc, out)?, error)),
         }
@@ -232,7 +233,55 @@ impl<F: Files, I: Read + Drop> Host<'_, F, I> {
         }
         let mut drawn = DrawLines::new(self.alloc, file);
         self.play(screen, file, &mut drawn)?;
-        self.write(screen, out, drawn.text.as_str())
+        self.write(screen, out, drawn.text.as_str().as_bytes())
+    }
+
+    /// Writes the script of a test beside its program: nothing beside standard output.
+    fn write_script<S: Screen>(
+        &self,
+        screen: &mut S,
+        out: &str,
+        name: &str,
+        script: &str,
+    ) -> Result<(), Fault>
+        ensures whole { IfOk result (λ _. S.whole screen.old → S.whole screen.new) }
+    {
+        if out == "-" {
+            return Ok(());
+        }
+        let path = match out.rsplit_once('/') {
+            Some((folder, _)) => format!(in self.alloc; "{folder}/{name}.script")?,
+            None => format!(in self.alloc; "{name}.script")?,
+        };
+        self.write(screen, path.as_str(), script.as_bytes())
+    }
+
+    /// Makes a C program, and writes the scripts of its tests; `out` is where the program goes. Returns its text.
+    fn program<S: Screen>(&self, screen: &mut S, tests: Tests, out: &str) -> Result<Vec<u8>, Fault>
+        ensures whole { IfOk result (λ _. S.whole screen.old → S.whole screen.new) }
+    {
+        let mut program = Program::new(self.alloc, tests)?;
+        'seeds: for number in 0..tests.count {
+            let (name, script) = program.add(screen, tests.seed.saturating_add(number))?;
+            self.write_script(screen, out, name.as_str(), script.as_str())?;
+        }
+        program.end()?;
+        Ok(program.text)
+    }
+
+    /// Writes a C program and the scripts of its tests, or prints the script of the first.
+    fn usertest<S: Screen>(&self, screen: &mut S, tests: Tests, out: &str) -> Result<(), Fault>
+        ensures whole { IfOk result (λ _. S.whole screen.old → S.whole screen.new) }
+    {
+        if tests.script {
+            return screen.out(tests.script(self.alloc)?.as_str());
+        }
+        let title = tests.title(self.alloc)?;
+        let title = title.as_str();
+        let name = format!(in self.alloc; "{title}.c")?;
+        let out = if out.is_empty() { name.as_str() } else { out };
+        let text = self.program(screen, tests, out)?;
+        self.write(screen, out, text.as_slice())
     }
 
     /// Does what a command line says.
@@ -277,6 +326,7 @@ impl<F: Files, I: Read + Drop> Host<'_, F, I> {
                 )
             }
             Task::Elf => self.give(screen, file, &mut ElfLine { file }),
+            Task::Usertest(tests) => self.usertest(screen, tests, words.out.as_str()),
         }
     }
 }

@@ -1,7 +1,8 @@
 //! The words of the program `xv6lab`. It plays scripts of `xv6vm` for people: `run` prints the answers beside the lines, `check`
 //! compares them with those that the lines expect, `trace` tells what happens on each line, `draw` draws the machine, `show`
 //! answers questions about it between lines, and `repl` takes lines one by one. `check` also judges files for threads, `mmu` answers
-//! programs that ask a reference MMU, `inspect` looks into a dump of memory, and `elf` makes a line of an ELF file. `do_words` does what a command line says; text goes to a
+//! programs that ask a reference MMU, `inspect` looks into a dump of memory, `elf` makes a line of an ELF file, and `usertest` makes programs that
+//! test a kernel. `do_words` does what a command line says; text goes to a
 //! `Screen`.
 #![tactic(auto)]
 
@@ -26,6 +27,7 @@ mod show;
 mod shrink;
 mod threads;
 mod trace;
+mod usertest;
 
 pub use expected::{Expected, split};
 pub use fault::Fault;

@@ -1,0 +1,131 @@
+// `Tests`: programs in C that test a kernel, and the scripts beside them.
+
+ghost use Rattle.std.specs.Prelude.{IfOk};
+
+use crate::fault::Fault;
+use crate::screen::Screen;
+use std::alloc::{AllocError, Global};
+use usertest_player::{PlayFault, put_test};
+use usertest_rows::Kind;
+use usertest_text::{Names, put_head, put_main};
+use usertests::{Test, make};
+
+/// The names of the kinds of tests.
+pub static KINDS: [&str; 4] = ["cow", "lazy", "mmap", "mixed"];
+
+/// The tests of a C program.
+#[derive(Clone, Copy, PartialEq, Eq, Debug)]
+pub struct Tests {
+    pub kind: Kind,
+    /// The seed of the first.
+    pub seed: u64,
+    /// How many there are, with the seeds that follow.
+    pub count: u64,
+    /// The steps of a test, but for its beginning and its end.
+    pub steps: u32,
+    /// Whether mmap is asked with other offsets than 0.
+    pub offsets: bool,
+    /// Whether the script of the first is printed, and nothing written.
+    pub script: bool,
+}
+
+/// Returns the text of a script.
+fn script_text(alloc: Global, test: &Test) -> Result<String, AllocError> {
+    let mut text = String::new(alloc);
+    for line in test.lines.as_slice() {
+        text.push_str(line.text.as_str())?;
+        text.push_str("\n")?;
+    }
+    Ok(text)
+}
+
+/// Prints in which line the machine answers otherwise than the generator predicts.
+fn tell_difference<S: Screen>(
+    alloc: Global,
+    screen: &mut S,
+    name: &str,
+    fault: &PlayFault,
+) -> Result<(), Fault>
+    ensures whole { IfOk result (λ _. S.whole screen.old → S.whole screen.new) }
+{
+    match fault {
+        PlayFault::Memory => Err(Fault::Memory),
+        PlayFault::Differs(text) => {
+            let text = text.as_str();
+            screen.err(format!(in alloc; "{name}.script:{text}\n")?.as_str())?;
+            Err(Fault::Told)
+        }
+    }
+}
+
+impl Tests {
+    /// Returns what the program is called, as `cow-17`, or `cow-17-19` if there are several tests.
+    pub fn title(&self, alloc: Global) -> Result<String, AllocError> {
+        let (kind, first) = (self.kind.name(), self.seed);
+        let last = first.saturating_add(self.count.saturating_sub(1));
+        if last > first {
+            format!(in alloc; "{kind}-{first}-{last}")
+        } else {
+            format!(in alloc; "{kind}-{first}")
+        }
+    }
+
+    /// Returns the test of a seed. Earlier tests of the program have so many functions that go on after an exec.
+    fn test(&self, alloc: Global, seed: u64, parts: usize) -> Result<Test, AllocError> {
+        make(alloc, self.kind, seed, self.steps, self.offsets, parts)
+    }
+
+    /// Returns the script of the first test.
+    pub fn script(&self, alloc: Global) -> Result<String, AllocError> {
+        let test = self.test(alloc, self.seed, 0)?;
+        script_text(alloc, &test)
+    }
+}
+
+/// A C program that is being made.
+#[derive(Drop)]
+pub struct Program {
+    alloc: Global,
+    tests: Tests,
+    names: Names,
+    /// Its text so far.
+    pub text: Vec<u8>,
+}
+
+impl Program {
+    /// Returns a program without tests.
+    pub fn new(alloc: Global, tests: Tests) -> Result<Program, AllocError> {
+        let mut text = Vec::new(alloc);
+        put_head(alloc, &mut text, tests.kind, tests.title(alloc)?.as_str())?;
+        Ok(Program {
+            alloc,
+            tests,
+            names: Names::new(alloc),
+            text,
+        })
+    }
+
+    /// Adds the test of a seed. Returns its name and its script.
+    ///
+    /// # Errors
+    /// `Told`: the machine answers a line otherwise than the generator predicts; that was told. `Memory`: the host is out of memory. `Io`:
+    /// printing failed.
+    pub fn add<S: Screen>(&mut self, screen: &mut S, seed: u64) -> Result<(String, String), Fault>
+        ensures whole { IfOk result (λ _. S.whole screen.old → S.whole screen.new) }
+    {
+        let alloc = self.alloc;
+        let test = self.tests.test(alloc, seed, self.names.parts_count)?;
+        let (lines, lives) = (test.lines.as_slice(), test.lives.as_slice());
+        if let Err(fault) = put_test(alloc, &mut self.text, lines, lives) {
+            tell_difference(alloc, screen, test.name.as_str(), &fault)?;
+        }
+        self.names.add(test.prefix.as_str(), test.parts.as_slice())?;
+        let name = String::from_str(alloc, test.name.as_str())?;
+        Ok((name, script_text(alloc, &test)?))
+    }
+
+    /// Ends the program.
+    pub fn end(&mut self) -> Result<(), AllocError> {
+        put_main(self.alloc, &mut self.text, &self.names)
+    }
+}

@@ -1,0 +1,407 @@
+// `make`: the test of a kind and a seed. A test is made of steps, which are drawn by how often each is made in tests of its kind.
+
+use crate::state::Test;
+use std::alloc::{AllocError, Global};
+use usertest_rows::{Call, Kind, Life, Row, StepRow};
+use usertest_world::{File, PAGE, Place};
+
+/// A step of a test.
+#[derive(Clone, Copy, PartialEq, Eq, Debug)]
+enum Sort {
+    Load,
+    Store,
+    Map,
+    Unmap,
+    Show,
+    SomePages,
+    Sbrk,
+    Shrink,
+    ManyLazyPages,
+    Fork,
+    Switch,
+    End,
+    Denied,
+    Peek,
+    Copy,
+    Wait,
+    BoundFrames,
+    CopyToText,
+    CopyAfterLoad,
+    Execute,
+    Kill,
+    KillAfterStores,
+    Huge,
+}
+
+/// How often a step is made in a test of each kind, beside the others.
+#[derive(Clone, Copy, PartialEq, Eq, Debug)]
+struct Weight {
+    sort: Sort,
+    weights: [u64; 4],
+}
+
+/// Returns a step with how often it is made.
+const fn weighed(sort: Sort, weights: [u64; 4]) -> Weight {
+    Weight { sort, weights }
+}
+
+/// Returns the weights, in the order of the kinds: cow, lazy, mmap, mixed.
+fn weights() -> [Weight; 23] {
+    [
+        weighed(Sort::Load, [80, 70, 80, 80]),
+        weighed(Sort::Store, [90, 60, 80, 80]),
+        weighed(Sort::Map, [0, 0, 60, 40]),
+        weighed(Sort::Unmap, [0, 0, 40, 30]),
+        weighed(Sort::Show, [0, 0, 20, 15]),
+        weighed(Sort::SomePages, [30, 30, 0, 20]),
+        weighed(Sort::Sbrk, [30, 60, 10, 40]),
+        weighed(Sort::Shrink, [10, 30, 0, 15]),
+        weighed(Sort::ManyLazyPages, [0, 10, 0, 3]),
+        weighed(Sort::Fork, [50, 20, 20, 40]),
+        weighed(Sort::Switch, [80, 30, 40, 60]),
+        weighed(Sort::End, [30, 20, 20, 25]),
+        weighed(Sort::Denied, [20, 40, 40, 30]),
+        weighed(Sort::Peek, [20, 40, 20, 20]),
+        weighed(Sort::Copy, [80, 80, 30, 60]),
+        weighed(Sort::Wait, [10, 10, 0, 10]),
+        weighed(Sort::BoundFrames, [10, 10, 0, 10]),
+        weighed(Sort::CopyToText, [5, 2, 0, 2]),
+        weighed(Sort::CopyAfterLoad, [15, 0, 0, 7]),
+        weighed(Sort::Execute, [8, 6, 5, 5]),
+        weighed(Sort::Kill, [5, 3, 8, 5]),
+        weighed(Sort::KillAfterStores, [0, 0, 12, 5]),
+        weighed(Sort::Huge, [0, 6, 0, 2]),
+    ]
+}
+
+impl Weight {
+    /// Returns how often the step is made in a test of a kind.
+    fn of(&self, kind: Kind) -> u64 {
+        self.weights.get(kind.number()).copied().unwrap_or(0)
+    }
+}
+
+impl Test {
+    /// Returns the sort of the next step.
+    fn next_sort(&mut self) -> Sort {
+        let weights = weights();
+        let mut total = 0u64;
+        for weight in weights.iter() {
+            total = total.saturating_add(weight.of(self.kind));
+        }
+        let drawn = self.random.below(total);
+        sort_at(&weights, self.kind, drawn)
+    }
+
+    /// Makes a step, and returns whether it can be made now; else nothing is done.
+    fn make_step(&mut self, sort: Sort) -> Result<bool, AllocError> {
+        match sort {
+            Sort::Load => self.load_any(),
+            Sort::Store => self.store_any(),
+            Sort::Map => self.map_any(),
+            Sort::Unmap => self.unmap(),
+            Sort::Show => self.show_some(),
+            Sort::SomePages => self.some_pages(),
+            Sort::Sbrk => self.sbrk(),
+            Sort::Shrink => self.shrink(),
+            Sort::ManyLazyPages => self.many_lazy_pages(),
+            Sort::Fork => self.fork(),
+            Sort::Switch => self.switch(),
+            Sort::End => self.end(),
+            _ => self.make_rare_step(sort),
+        }
+    }
+
+    /// `make_step`, for the other steps.
+    fn make_rare_step(&mut self, sort: Sort) -> Result<bool, AllocError> {
+        match sort {
+            Sort::Denied => self.deny_any(),
+            Sort::Peek => self.peek(),
+            Sort::Copy => self.copy(),
+            Sort::Wait => self.wait(),
+            Sort::BoundFrames => self.bound_frames(),
+            Sort::CopyToText => self.copy_to_text(),
+            Sort::CopyAfterLoad => self.copy_after_load(),
+            Sort::Execute => self.execute_anew(),
+            Sort::Kill => self.kill_child(),
+            Sort::KillAfterStores => self.kill_after_stores(),
+            Sort::Huge => self.huge(),
+            _ => Ok(false),
+        }
+    }
+
+    /// Makes up to so many steps: fewer only if 100 times as many cannot be made.
+    fn make_steps(&mut self, steps: u32) -> Result<(), AllocError> {
+        let mut made = 0u32;
+        for _ in 0..u64::from(steps).saturating_mul(100) {
+            if made >= steps {
+                break;
+            }
+            let sort = self.next_sort();
+            if self.make_step(sort)? {
+                made = made.saturating_add(1);
+            }
+        }
+        Ok(())
+    }
+
+    /// Makes up the files of the model. With `offsets`, two of them are parts of one file of the C program.
+    fn make_files(&mut self, offsets: bool) -> Result<(), AllocError> {
+        let of_two = self.random.between(PAGE + 100, 3 * PAGE);
+        let small = self.random.between(100, 2 * PAGE);
+        let fixed = self.random.between(PAGE, 2 * PAGE);
+        let (second, offset) = if offsets { (0, 2 * PAGE) } else { (3, 0) };
+        self.add_file(0, 0, 2 * PAGE, false)?;
+        self.add_file(second, offset, of_two, false)?;
+        self.add_file(1, 0, small, false)?;
+        self.add_file(2, 0, fixed, true)
+    }
+
+    /// Adds a file, and declares it in the script.
+    fn add_file(
+        &mut self,
+        c_number: u64,
+        offset: u64,
+        size: u64,
+        read_only: bool,
+    ) -> Result<(), AllocError> {
+        let file = File {
+            number: self.world.files.len(),
+            c_number,
+            offset,
+            size,
+            seed: self.random.between(1, 250),
+            read_only,
+        };
+        self.world.files.push(file).map_err(AllocError::from)?;
+        let mode = if read_only { "ro" } else { "rw" };
+        let mut text = format!(in self.alloc; "file {size} {mode} ")?;
+        for at in 0..size {
+            let byte = file.byte_at(at);
+            write!(&mut text, "{byte:02x}")?;
+        }
+        self.declare(text)
+    }
+
+    /// Begins the script: declares an image, boots a machine and starts a process of the image.
+    fn begin(&mut self, offsets: bool) -> Result<(), AllocError> {
+        self.begin_life(0)?;
+        if self.kind.has_maps() {
+            self.make_files(offsets)?;
+        }
+        let image = "image 0x0:0x1000:rx:13050000 0x1000:0x1000:rw:-";
+        self.declare(String::from_str(self.alloc, image)?)?;
+        self.say_words("boot 1 1024 32 full", "ok")?;
+        self.say_words("start 0", "slot 0")?;
+        self.say_words("on 0 0", "ok")?;
+        self.first_audit = self.next_line();
+        self.say_words("audit", "free")
+    }
+
+    /// Makes a load from the heap, if the heap has so many bytes.
+    fn look_at(&mut self, offset: u64) -> Result<(), AllocError> {
+        let has_room = offset.saturating_add(8) <= self.world.me().size;
+        if offset.is_multiple_of(8) && has_room {
+            self.load(Place::heap(offset), 8)
+        } else {
+            Ok(())
+        }
+    }
+
+    /// Loads from the last `count` of some heap offsets.
+    fn look_at_last(&mut self, offsets: &[u64], count: usize) -> Result<(), AllocError> {
+        let before = offsets.len().saturating_sub(count);
+        for offset in offsets.iter().skip(before) {
+            self.look_at(*offset)?;
+        }
+        Ok(())
+    }
+
+    /// Makes loads before a process ends, from where its family has stored.
+    fn last_looks(&mut self) -> Result<(), AllocError> {
+        let spots = Vec::from_slice(self.alloc, self.world.me().spots.as_slice())?;
+        self.look_at_last(spots.as_slice(), 4)?;
+        if self.kind.shares_copies() {
+            let hot = Vec::from_slice(self.alloc, self.hot.as_slice())?;
+            self.look_at_last(hot.as_slice(), 3)?;
+        }
+        self.load_any()?;
+        Ok(())
+    }
+
+    /// Returns any living process but the first that has no children; `None` if there is none.
+    fn any_leaf(&mut self) -> Result<Option<usize>, AllocError> {
+        let mut leaves = Vec::new(self.alloc);
+        for number in 1..self.world.count() {
+            if self.world.process(number).lives && !self.world.has_children(number) {
+                leaves.push(number).map_err(AllocError::from)?;
+            }
+        }
+        let at = self.random.index(leaves.len());
+        Ok(leaves.get(at).copied())
+    }
+
+    /// All processes but the first end, children first.
+    fn end_children(&mut self) -> Result<(), AllocError> {
+        for _ in 0..self.world.count() {
+            let Some(leaf) = self.any_leaf()? else {
+                break;
+            };
+            self.pass_turn(leaf)?;
+            self.last_looks()?;
+            self.end()?;
+        }
+        Ok(())
+    }
+
+    /// The first process ends. Returns the step in which it does.
+    fn end_first(&mut self) -> Result<usize, AllocError> {
+        self.pass_turn(0)?;
+        self.last_looks()?;
+        let step = self.next_line();
+        self.say_exit("0")?;
+        self.write_text(format!(in self.alloc; "  done({step}, 0);\n")?)?;
+        self.world.end(0);
+        self.is_over = true;
+        Ok(step)
+    }
+
+    /// Shows all pages of a file that labs determine.
+    fn show_file(&mut self, file: &File) -> Result<(), AllocError> {
+        for page in 0..file.pages() {
+            self.show(file, page)?;
+        }
+        Ok(())
+    }
+
+    /// Shows all pages of files that labs determine.
+    fn show_files(&mut self) -> Result<(), AllocError> {
+        for number in 0..self.world.files.len() {
+            if let Some(file) = self.world.files.get(number).copied() {
+                self.show_file(&file)?;
+            }
+        }
+        Ok(())
+    }
+
+    /// Ends the functions of processes, and puts those of children before that of their parent.
+    fn end_lives(&mut self) -> Result<(), AllocError> {
+        for life in self.lives.as_mut_slice() {
+            let end = String::from_str(self.alloc, "}\n")?;
+            life.rows.push(Row::Text(end)).map_err(AllocError::from)?;
+        }
+        self.lives.as_mut_slice().reverse();
+        Ok(())
+    }
+
+    /// Returns the rows that make the files in C, or those that remove them.
+    fn file_rows(&self, make: bool) -> Result<String, AllocError> {
+        let mut text = String::new(self.alloc);
+        for file in self.world.files.as_slice() {
+            let (number, offset, size, seed) = (file.c_number, file.offset, file.size, file.seed);
+            if make {
+                writeln!(
+                    &mut text,
+                    "  file_make(\"kitf{number}\", {offset}, {size}, {seed});"
+                )?;
+            } else if offset == 0 {
+                writeln!(&mut text, "  unlink(\"kitf{number}\");")?;
+            }
+        }
+        Ok(text)
+    }
+
+    /// Returns the beginning of the function that makes the test, in which the first process ends in this step.
+    fn first_rows(&self, step: usize) -> Result<Vec<Row>, AllocError> {
+        let (alloc, prefix, name) = (self.alloc, self.prefix.as_str(), self.name.as_str());
+        let files = self.file_rows(true)?;
+        let files = files.as_str();
+        let begin = format!(in alloc;
+            "\nstatic void {prefix}test(void)\n{{\n{files}  begin_all(\"{name}\", {step});\n"
+        )?;
+        let held = StepRow {
+            call: Call::Held,
+            step: self.first_audit,
+            arguments: String::new(alloc),
+        };
+        let spawn = format!(in alloc; "  spawn(0, 0, {prefix}p0);\n")?;
+        let reap = StepRow {
+            call: Call::Reap,
+            step,
+            arguments: String::from_str(alloc, "0, ")?,
+        };
+        let mut rows = Vec::new(alloc);
+        rows.push(Row::Text(begin)).map_err(AllocError::from)?;
+        rows.push(Row::Step(held)).map_err(AllocError::from)?;
+        rows.push(Row::Text(spawn)).map_err(AllocError::from)?;
+        rows.push(Row::Step(reap)).map_err(AllocError::from)?;
+        Ok(rows)
+    }
+
+    /// Adds the function that makes the test: it makes the files, waits for the first process, and looks at the end.
+    fn write_test(&mut self, step: usize) -> Result<(), AllocError> {
+        let first = Life {
+            rows: self.first_rows(step)?,
+            last_turn: None,
+        };
+        self.lives.push(first).map_err(AllocError::from)?;
+        let files = self.file_rows(false)?;
+        let files = files.as_str();
+        let end = format!(in self.alloc; "{files}  end_all();\n}}\n")?;
+        self.last_rows
+            .push(Row::Text(end))
+            .map_err(AllocError::from)?;
+        let last = Life {
+            rows: std::mem::replace(&mut self.last_rows, Vec::new(self.alloc)),
+            last_turn: None,
+        };
+        self.lives.push(last).map_err(AllocError::from)
+    }
+
+    /// Makes the end of the test: all processes end, and the files are shown.
+    fn finish(&mut self) -> Result<(), AllocError> {
+        self.end_children()?;
+        let step = self.end_first()?;
+        self.show_files()?;
+        self.end_lives()?;
+        self.write_test(step)
+    }
+}
+
+/// Returns the sort of the step at which the weights of a kind, one after the other, come to more than `drawn`.
+fn sort_at(weights: &[Weight], kind: Kind, drawn: u64) -> Sort {
+    let mut left = drawn;
+    for weight in weights {
+        match left.checked_sub(weight.of(kind)) {
+            Some(rest) => left = rest,
+            None => return weight.sort,
+        }
+    }
+    Sort::Load
+}
+
+/// Returns the test of a kind and a seed, of up to so many steps. Without `offsets`, mmap is asked with offset 0 alone. `parts` is how
+/// many functions that go on after an exec earlier tests of the same C program have.
+///
+/// # Errors
+/// `AllocError`: the host is out of memory.
+pub fn make(
+    alloc: Global,
+    kind: Kind,
+    seed: u64,
+    steps: u32,
+    offsets: bool,
+    parts: usize,
+) -> Result<Test, AllocError> {
+    let mut test = Test::new(alloc, kind, seed, parts)?;
+    test.begin(offsets)?;
+    if kind != Kind::Mmap && test.random.chance(800) {
+        test.sbrk()?;
+    }
+    if kind.shares_copies() && test.random.chance(300) {
+        test.fork_of_many_pages()?;
+    }
+    test.make_steps(steps)?;
+    test.finish()?;
+    Ok(test)
+}
