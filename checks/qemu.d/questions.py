@@ -88,8 +88,8 @@ def asked(program, questions, may_refuse=False):
 
 def outcomes_of(answer):
     """The outcomes by memory as it is that an answer lists, as a set. Others may be listed: that a hart holds another PTE of a
-    NAPOT range (chapter 5)."""
-    return {outcome_of(part, answer) for part in BETWEEN.split(answer) if not part.startswith("held ")}
+    NAPOT range (chapter 5). None: a wrong program may permit nothing."""
+    return set() if answer == "none" else {outcome_of(part, answer) for part in BETWEEN.split(answer) if not part.startswith("held ")}
 
 
 def outcome_of(part, answer):
