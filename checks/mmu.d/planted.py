@@ -276,10 +276,6 @@ PROGRAM = {
         "access_judge/src/seen.rt",
         ("as_slice().contains(table)", "as_slice().iter().any(|other| other.ppn == table.ppn && other.level == table.level)"),
     ),
-    "the fence right after a store is overlooked": (
-        "access_judge/src/judge.rt",
-        ("step.last < log.now() &&", "step.last + 1 < log.now() &&"),
-    ),
     "a pointer of before a fence of its ASID is kept": (
         "access_judge/src/search.rt",
         ("(step.global || table.epoch <= step.last)", "(step.global || table.epoch < 1_000_000_000)"),
