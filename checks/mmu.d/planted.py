@@ -287,7 +287,7 @@ PROGRAM = {
     ),
     "a PTE of another ASID serves": ("access_judge/src/judge.rt", ("(step.asid == satp.asid() || step.global)", "step.level < 5")),
     "a fence for an address that is not canonical covers": (
-        "mmu/src/history.rt",
+        "mmu_lines/src/player.rt",
         ("Some(top) => is_canonical(top, va),", "Some(_) => true,"),
     ),
     "a fence for an address removes a superpage for its first page alone": (
