@@ -20,14 +20,14 @@ pub struct ChosenLine {
 }
 
 impl ChosenLine {
-    /// Returns the line of a number, before any step.
-    pub fn new(number: u64) -> ChosenLine {
-        ChosenLine {
-            number,
+    /// Returns the line of the number that `--line` gives, if it does, before any step.
+    pub fn named(number: Option<u64>) -> Option<ChosenLine> {
+        Some(ChosenLine {
+            number: number?,
             is_step: false,
             before: None,
             after: None,
-        }
+        })
     }
 
     /// Takes note of a step. Steps come in the order of their lines.

@@ -1,9 +1,9 @@
-// `InspectDump`: reads a dump of physical memory, and prints what address spaces in it map and what is suspicious about them. `InspectWords`: what a
-// command line says of that.
+// `InspectDump`: reads a dump of physical memory, and prints what address spaces in it map and what is suspicious about them.
 
 ghost use Rattle.std.specs.Prelude.{IfOk};
 
 use crate::fault::Fault;
+use crate::inspect_words::InspectWords;
 use crate::lab::Reading;
 use crate::screen::Screen;
 use dump_lines::{
@@ -17,25 +17,9 @@ use sv39_entry::Satp;
 use table_dumps::{Dump, Space};
 use walk_rules::Extensions;
 
-/// What a command line says of a dump.
-#[derive(Debug, Drop)]
-pub struct InspectWords {
-    /// The physical page number of its first byte.
-    pub base: u64,
-    /// The words of satp, one for each address space.
-    pub satps: Vec<u64>,
-    pub extensions: Extensions,
-    /// Whether leaves with A or D clear are told.
-    pub needing_update: bool,
-    /// Whether JSON objects are printed in place of text.
-    pub json: bool,
-}
-
 /// Prints what a dump says.
 #[derive(Drop)]
 pub struct InspectDump<'a> {
-    /// The path of the file, for what is wrong with it.
-    pub file: &'a str,
     pub words: &'a InspectWords,
 }
 
@@ -72,7 +56,7 @@ impl InspectDump<'_> {
             match Space::read(alloc, dump, self.words.extensions, satp) {
                 Ok(space) => spaces.push(space).map_err(AllocError::from)?,
                 Err(error) => {
-                    let file = self.file;
+                    let file = self.words.file.as_str();
                     screen.err(format!(in alloc; "{file}: satp 0x{word:x}: {error}\n")?.as_str())?;
                     return Err(Fault::Told);
                 }

@@ -3,11 +3,15 @@
 ghost use Rattle.std.specs.Prelude.{◌≡◌, ◌≤◌, IfOk};
 
 use crate::check::{BareLines, CheckLines, Tally};
-use crate::command_line::{CommandLine, Task};
+use crate::check_words::CheckWords;
+use crate::chosen_line::ChosenLine;
+use crate::command_line::Task;
 use crate::draw::{DrawLines, KeptLines, PageLines, Paper};
+use crate::draw_words::DrawWords;
 use crate::elf::ElfLine;
 use crate::fault::Fault;
 use crate::inspect::InspectDump;
+use crate::mmu_words::MmuWords;
 use crate::play::{Listener, each_line};
 use crate::reference::AnswerLines;
 use crate::repl::ReplLines;
@@ -16,7 +20,9 @@ use crate::screen::Screen;
 use crate::show::ShowLines;
 use crate::shrink::ShrinkLines;
 use crate::trace::TraceLines;
+use crate::trace_words::TraceWords;
 use crate::usertest::{Program, Tests};
+use crate::usertest_words::UsertestWords;
 use std::alloc::Global;
 use std::fs;
 use std::io::Read;
@@ -139,18 +145,13 @@ impl<F: Files, I: Read + Drop> Host<'_, F, I> {
     ///
     /// # Errors
     /// `Told`: an answer differs, or a file is refused or cannot be read. `Memory`: the host is out of memory. `Io`: printing failed.
-    fn check<S: Screen>(
-        &mut self,
-        screen: &mut S,
-        strict: bool,
-        files: &[String],
-    ) -> Result<(), Fault>
+    fn check<S: Screen>(&mut self, screen: &mut S, words: &CheckWords) -> Result<(), Fault>
         ensures whole { IfOk result (λ _. S.whole screen.old → S.whole screen.new) }
     {
-        let alloc = self.alloc;
+        let (alloc, files) = (self.alloc, words.files.as_slice());
         let mut total = Tally::NOTHING;
         'files: for file in files {
-            let tally = self.check_file(screen, strict, file.as_str())?;
+            let tally = self.check_file(screen, words.strict, file.as_str())?;
             if files.len() > 1 {
                 let (name, counts) = (file.as_str(), tally.counts());
                 screen.out(format!(in alloc; "{name}: {counts}\n")?.as_str())?;
@@ -200,11 +201,11 @@ impl<F: Files, I: Read + Drop> Host<'_, F, I> {
 
     /// Writes a page to step through a script, line by line as each is played. Before that the script is played to its end, so that
     /// nothing is written of one that is refused.
-    fn draw_steps<S: Screen>(&mut self, screen: &mut S, words: &CommandLine) -> Result<(), Fault>
+    fn draw_steps<S: Screen>(&mut self, screen: &mut S, words: &DrawWords) -> Result<(), Fault>
         ensures whole { IfOk result (λ _. S.whole screen.old → S.whole screen.new) }
     {
-        let (alloc, file) = (self.alloc, words.file());
-        let mut kept = KeptLines::new(alloc, file, words.chosen());
+        let (alloc, file) = (self.alloc, words.file.as_str());
+        let mut kept = KeptLines::new(alloc, file, ChosenLine::named(words.line));
         self.play(screen, file, &mut kept)?;
         let mut page = PageLines::new(alloc, self.paper(words.out.as_str())?);
         page.begin(screen, file, words.line)?;
@@ -212,15 +213,10 @@ impl<F: Files, I: Read + Drop> Host<'_, F, I> {
     }
 
     /// Draws the machine of a script, after its last line or after each, if the script is played to its end.
-    fn draw<S: Screen>(
-        &mut self,
-        screen: &mut S,
-        steps: bool,
-        words: &CommandLine,
-    ) -> Result<(), Fault>
+    fn draw<S: Screen>(&mut self, screen: &mut S, words: &DrawWords) -> Result<(), Fault>
         ensures whole { IfOk result (λ _. S.whole screen.old → S.whole screen.new) }
     {
-        let (file, out) = (words.file(), words.out.as_str());
+        let (file, out) = (words.file.as_str(), words.out.as_str());
         if out == file && out != "-" {
             let text = format!(in self.alloc;
                 "{out} is the script, and stays as it is; name another file after -o\n"
@@ -228,7 +224,7 @@ impl<F: Files, I: Read + Drop> Host<'_, F, I> {
             screen.err(text.as_str())?;
             return Err(Fault::Told);
         }
-        if steps {
+        if words.steps {
             return self.draw_steps(screen, words);
         }
         let mut drawn = DrawLines::new(self.alloc, file);
@@ -270,9 +266,10 @@ impl<F: Files, I: Read + Drop> Host<'_, F, I> {
     }
 
     /// Writes a C program and the scripts of its tests, or prints the script of the first.
-    fn usertest<S: Screen>(&self, screen: &mut S, tests: Tests, out: &str) -> Result<(), Fault>
+    fn usertest<S: Screen>(&self, screen: &mut S, words: &UsertestWords) -> Result<(), Fault>
         ensures whole { IfOk result (λ _. S.whole screen.old → S.whole screen.new) }
     {
+        let (tests, out) = (words.tests, words.out.as_str());
         if tests.script {
             return screen.out(tests.script(self.alloc)?.as_str());
         }
@@ -284,49 +281,70 @@ impl<F: Files, I: Read + Drop> Host<'_, F, I> {
         self.write(screen, out, text.as_slice())
     }
 
-    /// Does what a command line says.
-    fn do_all<S: Screen>(&mut self, screen: &mut S, words: &CommandLine) -> Result<(), Fault>
+    /// Plays a script and prints what happens on its lines.
+    fn trace<S: Screen>(&mut self, screen: &mut S, words: &TraceWords) -> Result<(), Fault>
         ensures whole { IfOk result (λ _. S.whole screen.old → S.whole screen.new) }
     {
-        let (alloc, file) = (self.alloc, words.file());
-        match words.task {
-            Task::Run(telling) => {
-                let mut listener = RunLines::new(alloc, file, telling);
-                self.play(screen, file, &mut listener)
+        let file = words.file.as_str();
+        let mut listener = TraceLines {
+            alloc: self.alloc,
+            file,
+            json: words.json,
+            only: ChosenLine::named(words.line),
+        };
+        self.play(screen, file, &mut listener)
+    }
+
+    /// Answers lines that ask a reference MMU.
+    fn mmu<S: Screen>(&mut self, screen: &mut S, words: &MmuWords) -> Result<(), Fault>
+        ensures whole { IfOk result (λ _. S.whole screen.old → S.whole screen.new) }
+    {
+        let file = words.file.as_str();
+        if words.shrink {
+            self.give(screen, file, &mut ShrinkLines)
+        } else {
+            self.give(screen, file, &mut AnswerLines { json: words.json })
+        }
+    }
+
+    /// Plays the lines of standard input one by one.
+    fn repl<S: Screen>(&mut self, screen: &mut S) -> Result<(), Fault>
+        ensures whole { IfOk result (λ _. S.whole screen.old → S.whole screen.new) }
+    {
+        let mut listener = ReplLines::new(self.alloc, self.files, screen)?;
+        self.play(screen, "-", &mut listener)
+    }
+
+    /// Does what a command line says.
+    fn do_task<S: Screen>(&mut self, screen: &mut S, task: &Task) -> Result<(), Fault>
+        ensures whole { IfOk result (λ _. S.whole screen.old → S.whole screen.new) }
+    {
+        let alloc = self.alloc;
+        match task {
+            Task::Run(words) => {
+                let file = words.file.as_str();
+                self.play(screen, file, &mut RunLines::new(alloc, file, words.telling))
             }
-            Task::Check(strict) => self.check(screen, strict, words.files.as_slice()),
-            Task::Bare => self.bare(screen, words.files.as_slice()),
-            Task::Trace(json) => {
-                let only = words.chosen();
-                let mut listener = TraceLines {
-                    alloc,
-                    file,
-                    json,
-                    only,
-                };
-                self.play(screen, file, &mut listener)
+            Task::Check(words) if words.bare => self.bare(screen, words.files.as_slice()),
+            Task::Check(words) => self.check(screen, words),
+            Task::Trace(words) => self.trace(screen, words),
+            Task::Draw(words) => self.draw(screen, words),
+            Task::Show(file) => {
+                let file = file.as_str();
+                self.play(screen, file, &mut ShowLines { alloc, file })
             }
-            Task::Draw(steps) => self.draw(screen, steps, words),
-            Task::Show => self.play(screen, file, &mut ShowLines { alloc, file }),
-            Task::Repl => {
-                let mut listener = ReplLines::new(alloc, self.files, screen)?;
-                self.play(screen, "-", &mut listener)
+            Task::Repl => self.repl(screen),
+            Task::Mmu(words) => self.mmu(screen, words),
+            Task::Inspect(words) => self.give(
+                screen,
+                words.file.as_str(),
+                &mut InspectDump { words },
+            ),
+            Task::Elf(file) => {
+                let file = file.as_str();
+                self.give(screen, file, &mut ElfLine { file })
             }
-            Task::Mmu(json) => self.give(screen, file, &mut AnswerLines { json }),
-            Task::Shrink => self.give(screen, file, &mut ShrinkLines),
-            Task::Inspect => {
-                let inspect = &words.inspect;
-                self.give(
-                    screen,
-                    file,
-                    &mut InspectDump {
-                        file,
-                        words: inspect,
-                    },
-                )
-            }
-            Task::Elf => self.give(screen, file, &mut ElfLine { file }),
-            Task::Usertest(tests) => self.usertest(screen, tests, words.out.as_str()),
+            Task::Usertest(words) => self.usertest(screen, words),
         }
     }
 }
@@ -354,11 +372,11 @@ pub fn do_words<F: Files, I: Read + Drop, S: Screen>(
     ensures whole { result ≡ 0 → S.whole screen.old → S.whole screen.new }
 {
     let alloc = host.alloc;
-    let words = match CommandLine::parse(alloc, words) {
-        Ok(words) => words,
+    let task = match Task::parse(alloc, words) {
+        Ok(task) => task,
         Err(fault) => return told(alloc, screen, &fault),
     };
-    match host.do_all(screen, &words) {
+    match host.do_task(screen, &task) {
         Ok(()) => 0,
         Err(fault) => match told(alloc, screen, &fault) {
             0 => 1,

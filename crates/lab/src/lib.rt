@@ -7,27 +7,35 @@
 #![tactic(auto)]
 
 mod check;
+mod check_words;
 mod chosen_line;
 mod command_line;
 mod draw;
+mod draw_words;
 mod elf;
 mod expected;
 mod fault;
 mod inspect;
+mod inspect_words;
 mod lab;
 mod looks;
 mod mistakes;
+mod mmu_words;
+mod options;
 mod plain;
 mod play;
 mod reference;
 mod repl;
 mod run;
+mod run_words;
 mod screen;
 mod show;
 mod shrink;
 mod threads;
 mod trace;
+mod trace_words;
 mod usertest;
+mod usertest_words;
 
 pub use expected::{Expected, split};
 pub use fault::Fault;

@@ -1,0 +1,53 @@
+// `DrawWords`: a struct, what a command line of `draw` says.
+
+use crate::options::{SCRIPT, file, file_of, flag, line};
+use clap::{Arg, ArgAction, ArgMatches, Command};
+use std::alloc::{AllocError, Global};
+
+/// The machine of a script is drawn.
+#[derive(Debug, Drop)]
+pub struct DrawWords {
+    pub file: String,
+    /// The path of the file that is written; `-` is standard output.
+    pub out: String,
+    /// Whether it is drawn after each line, in a page to step through, in place of after the last one.
+    pub steps: bool,
+    /// The number of the line at which the page opens, if one is given.
+    pub line: Option<u64>,
+}
+
+/// Returns the word `draw`.
+pub fn draw<'a>(alloc: Global) -> Result<Command<'a>, AllocError> {
+    let out = Arg::new(alloc, "OUT")
+        .short('o')
+        .long("out")
+        .required(true)
+        .action(ArgAction::Set)
+        .value_name("OUT")
+        .help("The file to write; - is standard output");
+    let steps = flag(
+        alloc,
+        "steps",
+        "Write a page (HTML) to step from line to line, in place of a picture (SVG)",
+    );
+    let line = line(alloc, "Open the page at line N of the file").requires_arg("steps")?;
+    Command::new(alloc, "draw")
+        .about("Draw the machine after the last line: regions, pages, tables, frames, TLBs")
+        .arg(file(alloc, SCRIPT))?
+        .arg(out)?
+        .arg(steps)?
+        .arg(line)
+}
+
+impl DrawWords {
+    /// Returns what the word is told.
+    pub fn of(alloc: Global, given: &ArgMatches<'_>) -> Result<DrawWords, AllocError> {
+        let out = given.get_str("OUT").unwrap_or("-");
+        Ok(DrawWords {
+            file: file_of(alloc, given)?,
+            out: String::from_str(alloc, out)?,
+            steps: given.get_flag("steps"),
+            line: given.get_one::<u64>("line"),
+        })
+    }
+}

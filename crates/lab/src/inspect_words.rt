@@ -1,0 +1,112 @@
+// `InspectWords`: a struct, what a command line of `inspect` says.
+
+use crate::fault::Fault;
+use crate::options::{file, file_of, flag, json, number_of};
+use clap::{Arg, ArgAction, ArgMatches, Command};
+use std::alloc::{AllocError, Global};
+use sv39_entry::{KERNBASE, PAGE_SIZE};
+use walk_rules::{AdScheme, Extensions};
+
+/// A dump of physical memory is read, and it is printed what address spaces in it map.
+#[derive(Debug, Drop)]
+pub struct InspectWords {
+    pub file: String,
+    /// The physical page number of the dump's first byte.
+    pub base: u64,
+    /// The words of satp, one for each address space.
+    pub satps: Vec<u64>,
+    pub extensions: Extensions,
+    /// Whether leaves with A or D clear are told.
+    pub needing_update: bool,
+    /// Whether JSON objects are printed in place of text.
+    pub json: bool,
+}
+
+/// Returns the word `inspect`.
+pub fn inspect<'a>(alloc: Global) -> Result<Command<'a>, AllocError> {
+    let at = Arg::new(alloc, "at")
+        .long("at")
+        .action(ArgAction::Set)
+        .value_name("ADDRESS")
+        .help("The physical address of the first byte, 0x80000000 if none is given");
+    let satp = Arg::new(alloc, "satp")
+        .long("satp")
+        .required(true)
+        .action(ArgAction::Append)
+        .value_name("WORD")
+        .help("A value of satp; once for each address space");
+    Command::new(alloc, "inspect")
+        .about(
+            "Look into a kernel: page tables, mappings and what is suspicious, in a dump of memory",
+        )
+        .arg(file(
+            alloc,
+            "The dump, as pmemsave of QEMU writes it; - is standard input",
+        ))?
+        .arg(at)?
+        .arg(satp)?
+        .arg(flag(
+            alloc,
+            "svade",
+            "Tell leaves with A clear, or with W and D clear, too",
+        ))?
+        .arg(flag(alloc, "svnapot", "The hart has Svnapot: leaves of 64 KiB"))?
+        .arg(flag(
+            alloc,
+            "svpbmt",
+            "The hart has Svpbmt: memory types in leaves",
+        ))?
+        .arg(json(alloc, "Print JSON objects, one a line"))
+}
+
+/// Returns the physical page number of the first byte of a dump.
+///
+/// # Errors
+/// `Word`: `--at` is no number, or no multiple of 4,096. `Memory`: the host is out of memory.
+fn base_of(alloc: Global, given: &ArgMatches<'_>) -> Result<u64, Fault> {
+    let address = match given.get_str("at") {
+        Some(word) => number_of(alloc, "--at", word)?,
+        None => KERNBASE,
+    };
+    if address % PAGE_SIZE != 0 {
+        let text = format!(in alloc; "--at: 0x{address:x} is no multiple of {PAGE_SIZE}")?;
+        return Err(Fault::Word(text));
+    }
+    Ok(address / PAGE_SIZE)
+}
+
+/// Returns the values of satp.
+///
+/// # Errors
+/// `Word`: one is no number. `Memory`: the host is out of memory.
+fn satps_of(alloc: Global, given: &ArgMatches<'_>) -> Result<Vec<u64>, Fault> {
+    let mut satps = Vec::new(alloc);
+    if let Some(words) = given.get_strs("satp") {
+        for word in words {
+            let satp = number_of(alloc, "--satp", word)?;
+            satps.push(satp).map_err(AllocError::from)?;
+        }
+    }
+    Ok(satps)
+}
+
+impl InspectWords {
+    /// Returns what the word is told.
+    ///
+    /// # Errors
+    /// `Word`: a number is wrong. `Memory`: the host is out of memory.
+    pub fn of(alloc: Global, given: &ArgMatches<'_>) -> Result<InspectWords, Fault> {
+        Ok(InspectWords {
+            file: file_of(alloc, given)?,
+            base: base_of(alloc, given)?,
+            satps: satps_of(alloc, given)?,
+            extensions: Extensions {
+                svnapot: given.get_flag("svnapot"),
+                svpbmt: given.get_flag("svpbmt"),
+                ad: AdScheme::Either,
+            },
+            needing_update: given.get_flag("svade"),
+            json: given.get_flag("json"),
+        })
+    }
+}

@@ -1,0 +1,35 @@
+// `TraceWords`: a struct, what a command line of `trace` says.
+
+use crate::options::{SCRIPT, file, file_of, json, line};
+use clap::{ArgMatches, Command};
+use std::alloc::{AllocError, Global};
+
+/// A script is played, and it is printed what happens on its lines.
+#[derive(Debug, Drop)]
+pub struct TraceWords {
+    pub file: String,
+    /// Whether that is one JSON object a line.
+    pub json: bool,
+    /// The number of the only line that is told of, if one is given.
+    pub line: Option<u64>,
+}
+
+/// Returns the word `trace`.
+pub fn trace<'a>(alloc: Global) -> Result<Command<'a>, AllocError> {
+    Command::new(alloc, "trace")
+        .about("See what happens on each line: regions, rules, walks, TLBs, frames")
+        .arg(file(alloc, SCRIPT))?
+        .arg(json(alloc, "Print one JSON object a line"))?
+        .arg(line(alloc, "Print only what happens on line N of the file"))
+}
+
+impl TraceWords {
+    /// Returns what the word is told.
+    pub fn of(alloc: Global, given: &ArgMatches<'_>) -> Result<TraceWords, AllocError> {
+        Ok(TraceWords {
+            file: file_of(alloc, given)?,
+            json: given.get_flag("json"),
+            line: given.get_one::<u64>("line"),
+        })
+    }
+}
