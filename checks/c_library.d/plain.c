@@ -120,12 +120,14 @@ struct xv6vm_outcome plain_translate(const struct memory *memory, uint64_t satp,
     if (found.why != GIVES_LEAF)
         return plain_page_fault(access);
     struct xv6vm_outcome leaf = plain_use(found.word, found.level, address, access, mode, why);
-    if (leaf.status != XV6VM_LEAF)
+    if (*why == WRONG_MODE || *why == NO_RIGHT)
         return leaf;
     if (is_misaligned(found.word, found.level)) {
         *why = MISALIGNED;
         return plain_page_fault(access);
     }
+    if (leaf.status != XV6VM_LEAF)
+        return leaf;
     uint64_t unused;
     if (!plain_read(memory, leaf.address, &unused)) {
         *why = BYTE_OUTSIDE;

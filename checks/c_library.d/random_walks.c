@@ -1,4 +1,5 @@
-/* Random accesses to random page tables: xv6vm_translate and xv6vm_lookup must return what the plain walk does. */
+/* Random accesses to random page tables: xv6vm_translate, xv6vm_lookup, and xv6vm_translate_by over the memory in two regions must return what the plain
+   walk does; the last also why. */
 #include "check.h"
 #include <stdio.h>
 
@@ -23,6 +24,13 @@ static const char *const WHY[WHYS] = {
     "D clear",
 };
 
+/* The step of the standard's 4.3.2 of each fault. */
+static const uint64_t STEPS[WHYS] = {[TABLE_OUTSIDE] = 2, [NOT_VALID] = 3,         [WRITE_WITHOUT_READ] = 3, [RESERVED_BIT] = 3, [RESERVED_IN_POINTER] = 3,
+                                     [POINTER_AT_LEVEL_0] = 4, [WRONG_MODE] = 5, [NO_RIGHT] = 5,           [MISALIGNED] = 6,   [NOT_ACCESSED] = 7,
+                                     [NOT_DIRTY] = 7,     [BYTE_OUTSIDE] = 8};
+
+static unsigned long long questions;
+
 static unsigned long long whys[2][WHYS], levels[2][4], causes[16], global_leaves, bare_leaves, no_leaves, outside, unknown_modes;
 
 static void count(uint64_t satp, struct xv6vm_outcome outcome, enum why why) {
@@ -45,6 +53,36 @@ static void count_leaf(struct xv6vm_leaf leaf) {
     global_leaves += leaf.global == 1;
 }
 
+/* The reader of a memory in two regions, which counts. */
+static int read_counted(void *context, uint64_t address, uint64_t *word) {
+    questions++;
+    return xv6vm_read_regions(context, address, word);
+}
+
+/* The PTE at which a walk ends must be the one that it tells. */
+static int is_pte(const struct memory *memory, const struct xv6vm_walk *walk, enum why why) {
+    uint64_t place = walk->at.table * 4096 + walk->at.index * 8, word;
+    if (why == NO_TRANSLATION || why == BAD_ARGUMENT || why == NOT_CANONICAL)
+        return 1;
+    return plain_read(memory, place, &word) ? why != TABLE_OUTSIDE && word == walk->at.word : why == TABLE_OUTSIDE;
+}
+
+static void try_reader(const struct memory *memory, uint64_t satp, uint64_t address, uint32_t access, uint32_t mode,
+                       struct xv6vm_outcome want, enum why why) {
+    int is_last = memory->base_ppn > UINT64_MAX - MOST_FRAMES; /* no page has a number above: one region then */
+    size_t cut = below(memory->count / 512 + 1), first = is_last ? memory->count : cut * 512;
+    struct xv6vm_region regions[2] = {{memory->words, first, memory->base_ppn},
+                                      {memory->words + first, memory->count - first, memory->base_ppn + cut}};
+    struct xv6vm_regions all = {regions, is_last ? 1 : 2};
+    struct xv6vm_walk walk;
+    unsigned long long before = questions;
+    struct xv6vm_outcome got = xv6vm_translate_by(read_counted, &all, satp, address, access, mode, &walk);
+    if (!same_outcome(got, want) || walk.at.step != STEPS[why] || !is_pte(memory, &walk, why) || questions - before > 5)
+        differs("by a reader, %zu words from page %#" PRIx64 ", satp %#" PRIx64 ", address %#" PRIx64 ", access %" PRIu32 ", mode %" PRIu32
+                ": %s in place of %s, step %" PRIu64 " in place of %" PRIu64,
+                memory->count, memory->base_ppn, satp, address, access, mode, outcome_text(got), outcome_text(want), walk.at.step, STEPS[why]);
+}
+
 static void try_access(const struct memory *memory) {
     uint64_t satp = random_satp(memory), address = random_address(satp);
     uint32_t access = (uint32_t)(one_in(64) ? any_number() : below(3));
@@ -57,6 +95,7 @@ static void try_access(const struct memory *memory) {
         differs("%zu words from page %#" PRIx64 ", satp %#" PRIx64 ", address %#" PRIx64 ", access %" PRIu32 ", mode %" PRIu32
                 ": %s in place of %s",
                 memory->count, memory->base_ppn, satp, address, access, mode, outcome_text(got), outcome_text(want));
+    try_reader(memory, satp, address, access, mode, want, why);
     struct xv6vm_leaf leaf = plain_lookup(memory, satp, address);
     struct xv6vm_leaf found = CALL(lookup)(memory->words, memory->count, memory->base_ppn, satp, address);
     count_leaf(leaf);
@@ -89,6 +128,7 @@ static void print_counts(void) {
         snprintf(what, sizeof what, "accesses with %s", WHY[why]);
         often(what, whys[0][why]);
     }
+    often("words that a reader was asked for", questions);
     often("look-ups of no leaf", no_leaves);
     often("look-ups of a table outside the memory", outside);
     often("look-ups of a global leaf", global_leaves);

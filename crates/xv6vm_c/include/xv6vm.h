@@ -8,7 +8,7 @@
      the last frame may be there in part.
    - `entries`, `places`: a TLB of whole walks in the caller's memory, an array of `places` places. All zeros is an empty TLB.
    - `hart`, `events`, `capacity`: a hart's history in the caller's memory. Any bytes are allowed there; xv6vm_hart_begin makes a new one.
-   - A pointer is never null, not even with a count of 0, and is aligned as its type.
+   - A pointer is aligned as its type. It may be null where its count is 0, as `data()` of an empty vector may be; nowhere else.
    - While a call runs nobody writes what it reads, and nobody else reads or writes what it writes. Calls on other memory may run at
      the same time on other threads. A call keeps no pointer. Only xv6vm_play takes memory from malloc, and it gives all back.
    - "The standard" is the RISC-V Privileged Architecture 20211203. */
@@ -114,6 +114,47 @@ void xv6vm_tlb_fence(struct xv6vm_entry *entries, size_t places, uint32_t has_ad
    MODE 0, or an argument without meaning, only the outcome of xv6vm_translate. */
 uint32_t xv6vm_permits(const struct xv6vm_entry *entries, size_t places, const uint64_t *words, size_t count, uint64_t base_ppn,
                        uint64_t satp, uint64_t address, uint32_t access, uint32_t mode, struct xv6vm_outcome outcome);
+
+/* ---- A walk over memory of any kind
+
+   The calls above take one array. For memory in several regions, or behind a call of yours, the walk asks for each word: xv6vm_walk_begin, then
+   xv6vm_walk_next while `at.status` is XV6VM_READ or XV6VM_BYTE, five times at most. xv6vm_translate_by, at the end of this file, is that loop. If
+   each answer is what the memory has, the end is the outcome of xv6vm_translate over that memory; it also says why an access faults. */
+
+/* status of a walk that asks */
+enum {
+    XV6VM_READ = 8, /* for the 64-bit word at the physical address `place` */
+    XV6VM_BYTE = 9  /* whether the byte at the physical address `place` is in the memory */
+};
+
+/* How far a walk has come. */
+struct xv6vm_reached {
+    uint32_t status; /* XV6VM_READ or XV6VM_BYTE; at the end XV6VM_LEAF, _PAGE_FAULT, _ACCESS_FAULT, _BARE or _UNKNOWN */
+    uint32_t level;  /* of the page table entry (PTE) that is asked for, or was read last */
+    uint64_t table;  /* the physical page number of its table */
+    uint64_t index;  /* its index there */
+    uint64_t place;  /* the physical address that is asked for; of XV6VM_LEAF and XV6VM_BARE that of the access; of a page fault that of the PTE */
+    uint64_t word;   /* the PTE that was read last; 0 if there is none */
+    uint64_t cause;  /* of a fault the exception code; of XV6VM_UNKNOWN 1 access, 2 mode, 3 the MODE of satp, 4 no xv6vm_walk_begin made it */
+    uint64_t step;   /* of a fault the step of the standard's 4.3.2 at which it is one: 2, the PTE is outside the memory; 3, it is invalid or has a
+                        reserved form; 4, a pointer at level 0; 5, it does not grant the access; 6, a misaligned superpage; 7, A is clear, or D at
+                        a store; 8, the byte is outside the memory; 0, the address is not canonical */
+};
+
+/* A walk: what it is for, and how far it has come. */
+struct xv6vm_walk {
+    uint64_t satp;
+    uint64_t address;
+    uint32_t access;
+    uint32_t mode;
+    struct xv6vm_reached at;
+};
+
+/* Begins a walk. */
+void xv6vm_walk_begin(struct xv6vm_walk *walk, uint64_t satp, uint64_t address, uint32_t access, uint32_t mode);
+
+/* Goes on with what is asked for. `is_there` 0: it is outside the memory. `word` counts with XV6VM_READ alone. A walk that has ended stays as it is. */
+void xv6vm_walk_next(struct xv6vm_walk *walk, uint32_t is_there, uint64_t word);
 
 /* ---- What the standard permits, given the history of a hart
 
@@ -259,6 +300,108 @@ struct xv6vm_played {
    whole text, also with XV6VM_NO_ROOM; with other statuses 0. If the status is not XV6VM_PLAYED, `text` is as it was. Link
    libxv6vm_play_c.a, and liblibc_c.a of the kit, which is malloc to it. */
 struct xv6vm_played xv6vm_play(const char *script, size_t length, char *text, size_t capacity, size_t *written);
+
+/* ---- In C alone: what follows is not proved, and short enough to read */
+
+/* Memory of yours. If a physical address, a multiple of 8, is in it, writes the 64-bit word there, and returns a number other than 0; else 0. Within
+   one translation it must answer the same for the same address. */
+typedef int xv6vm_reader(void *context, uint64_t address, uint64_t *word);
+
+/* Translates the address of an access, over memory that is read by `read`. `walk` may be null; else it has the end of the walk, with the reason of a
+   fault. */
+static inline struct xv6vm_outcome xv6vm_translate_by(xv6vm_reader *read, void *context, uint64_t satp, uint64_t address,
+                                                      uint32_t access, uint32_t mode, struct xv6vm_walk *walk) {
+    struct xv6vm_walk own;
+    struct xv6vm_outcome outcome = {0, 0, 0, 0, 0};
+    if (walk == NULL)
+        walk = &own;
+    xv6vm_walk_begin(walk, satp, address, access, mode);
+    while (walk->at.status == XV6VM_READ || walk->at.status == XV6VM_BYTE) {
+        uint64_t word = 0;
+        int is_there = read(context, walk->at.place & ~(uint64_t)7, &word);
+        xv6vm_walk_next(walk, is_there != 0, word);
+    }
+    outcome.status = walk->at.status;
+    if (outcome.status == XV6VM_LEAF) {
+        outcome.level = walk->at.level;
+        outcome.word = walk->at.word;
+    }
+    if (outcome.status == XV6VM_LEAF || outcome.status == XV6VM_BARE)
+        outcome.address = walk->at.place;
+    else
+        outcome.cause = walk->at.cause;
+    return outcome;
+}
+
+/* A region of memory: `count` words from physical page number `base_ppn` on. */
+struct xv6vm_region {
+    const uint64_t *words;
+    size_t count;
+    uint64_t base_ppn;
+};
+
+/* Regions of memory. Of two that have an address, the first counts. */
+struct xv6vm_regions {
+    const struct xv6vm_region *regions;
+    size_t count;
+};
+
+/* The reader of regions: `context` is a struct xv6vm_regions. */
+static inline int xv6vm_read_regions(void *context, uint64_t address, uint64_t *word) {
+    const struct xv6vm_regions *all = (const struct xv6vm_regions *)context;
+    for (size_t n = 0; n < all->count; n++) {
+        uint64_t place = address / 8, first = all->regions[n].base_ppn * 512;
+        if (all->regions[n].base_ppn <= UINT64_MAX / 512 && place >= first && place - first < all->regions[n].count) {
+            *word = all->regions[n].words[place - first];
+            return 1;
+        }
+    }
+    return 0;
+}
+
+/* What xv6vm_permits is asked, by names: as that call takes it. */
+struct xv6vm_question {
+    const struct xv6vm_entry *entries;
+    size_t places;
+    struct xv6vm_region memory;
+    uint64_t satp;
+    uint64_t address;
+    uint32_t access;
+    uint32_t mode;
+};
+
+/* The pointer itself; in place of null one that may be passed with a count of 0. */
+static inline void *xv6vm_lent(const void *pointer) {
+    static uint64_t nothing[8];
+    return pointer == NULL ? (void *)nothing : (void *)pointer;
+}
+
+#define xv6vm_translate(words, ...) xv6vm_translate((const uint64_t *)xv6vm_lent(words), __VA_ARGS__)
+#define xv6vm_lookup(words, ...) xv6vm_lookup((const uint64_t *)xv6vm_lent(words), __VA_ARGS__)
+#define xv6vm_tlb_fill(entries, places, words, ...) \
+    xv6vm_tlb_fill((struct xv6vm_entry *)xv6vm_lent(entries), places, (const uint64_t *)xv6vm_lent(words), __VA_ARGS__)
+#define xv6vm_tlb_match(entries, ...) xv6vm_tlb_match((const struct xv6vm_entry *)xv6vm_lent(entries), __VA_ARGS__)
+#define xv6vm_tlb_use(entries, ...) xv6vm_tlb_use((const struct xv6vm_entry *)xv6vm_lent(entries), __VA_ARGS__)
+#define xv6vm_tlb_evict(entries, ...) xv6vm_tlb_evict((struct xv6vm_entry *)xv6vm_lent(entries), __VA_ARGS__)
+#define xv6vm_tlb_fence(entries, ...) xv6vm_tlb_fence((struct xv6vm_entry *)xv6vm_lent(entries), __VA_ARGS__)
+#define xv6vm_permits(entries, places, words, ...) \
+    xv6vm_permits((const struct xv6vm_entry *)xv6vm_lent(entries), places, (const uint64_t *)xv6vm_lent(words), __VA_ARGS__)
+#define xv6vm_hart_mem(hart, events, ...) xv6vm_hart_mem(hart, (struct xv6vm_event *)xv6vm_lent(events), __VA_ARGS__)
+#define xv6vm_hart_satp(hart, events, ...) xv6vm_hart_satp(hart, (struct xv6vm_event *)xv6vm_lent(events), __VA_ARGS__)
+#define xv6vm_hart_pmp(hart, events, ...) xv6vm_hart_pmp(hart, (struct xv6vm_event *)xv6vm_lent(events), __VA_ARGS__)
+#define xv6vm_hart_fence(hart, events, ...) xv6vm_hart_fence(hart, (struct xv6vm_event *)xv6vm_lent(events), __VA_ARGS__)
+#define xv6vm_hart_judge(hart, events, capacity, words, ...) \
+    xv6vm_hart_judge(hart, (const struct xv6vm_event *)xv6vm_lent(events), capacity, (const uint64_t *)xv6vm_lent(words), __VA_ARGS__)
+#define xv6vm_hart_outcomes(hart, events, capacity, words, count, base_ppn, access, found, ...) \
+    xv6vm_hart_outcomes(hart, (const struct xv6vm_event *)xv6vm_lent(events), capacity, (const uint64_t *)xv6vm_lent(words), count, base_ppn, access, \
+                        (struct xv6vm_judged *)xv6vm_lent(found), __VA_ARGS__)
+
+/* xv6vm_permits, of a question. */
+static inline uint32_t xv6vm_permits_of(const struct xv6vm_question *q, struct xv6vm_outcome outcome) {
+    uint32_t answer = xv6vm_permits(q->entries, q->places, q->memory.words, q->memory.count, q->memory.base_ppn, q->satp, q->address, q->access,
+                                    q->mode, outcome);
+    return answer;
+}
 
 #ifdef __cplusplus
 }

@@ -1,2 +1,3 @@
 mod Permits
+mod Steps
 mod Walks

@@ -1,3 +1,4 @@
 pub mod Codes
 pub mod Answers
 pub mod Harts
+pub mod Walks

@@ -5,6 +5,7 @@
 
 mod codes;
 mod hart;
+mod walk;
 
 ghost use Rattle.std.specs.Prelude.{◌≡◌, ◌≢◌, ◌≤◌, ◌<◌, ◌⊎◌, ◌↔◌, ℕ, true, false, None, Some, filter, length, not, remove};
 ghost use Rattle.hart_tlb.specs.Buffer.{Fills};
@@ -32,6 +33,7 @@ pub use hart::{
 use lent_memory::{LentEntry, LentWords, evict, fence, fill, next_match, use_entry};
 use sv39_entry::{Access, Mode, Satp, Va};
 use table_walk::{Found, lookup, one_outcome, translate};
+pub use walk::{Walk, xv6vm_walk_begin, xv6vm_walk_next};
 
 /// Translates the address of an access as the hardware does (RISC-V Privileged Architecture 20211203, 4.3.2): by the page
 /// table in `satp`, over a memory of these words, those of the frames from physical page number `base_ppn` on, 512 of each.
