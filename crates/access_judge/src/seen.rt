@@ -9,7 +9,7 @@ use arrayvec::ArrayVec;
 use std::marker::Model;
 
 /// So many tables are kept in mind. What a search comes to later is searched as often as it comes there.
-const MOST_SEEN: usize = 64;
+const MOST_SEEN: usize = 16;
 
 /// Tables that were searched.
 #[derive(Drop)]

@@ -184,16 +184,17 @@ impl MmuPlayer {
         Ok(Answer::Ok)
     }
 
-    fn telling(&self, request: access_history::Request) -> Telling<'_> {
+    /// An access with the history; `found` are those of its outcomes that were found.
+    fn telling(&self, request: access_history::Request, found: &[Told]) -> Telling<'_> {
         let extensions = self.profile.extensions;
-        Telling::new(self.alloc, &self.recorded, extensions, request)
+        Telling::new(self.alloc, &self.recorded, extensions, request, found)
     }
 
     /// The outcomes that were found, as they are shown.
     fn lines(&self, request: access_history::Request) -> Result<Vec<OutcomeLine>, AllocError>
         ensures { IfOk result (λ lines. map outcome_in lines.items ≡ listed self.now.findings) }
     {
-        let telling = self.telling(request);
+        let telling = self.telling(request, self.findings.found());
         let mut lines = Vec::new(self.alloc);
         'outcomes: for told in self.findings.found() {
             lines.push(telling.line(told)?)?;
@@ -226,7 +227,7 @@ impl MmuPlayer {
     {
         let extensions = self.profile.extensions;
         if let Some(told) = seek_refusal(&self.recorded.unit, extensions, request, pa) {
-            if let Some(text) = self.telling(request).refused_text(&told)? {
+            if let Some(text) = self.telling(request, &[]).refused_text(&told)? {
                 return out.push_str(text.as_str());
             }
         }
@@ -260,7 +261,7 @@ impl MmuPlayer {
     ) -> Result<(), AllocError>
         requires { 1 ≤ request.width }
     {
-        match self.telling(request).by_address() {
+        match self.telling(request, &[]).by_address() {
             Some(By::Misaligned) => return out.push_str("the address is misaligned"),
             Some(By::NotCanonical) => return out.push_str("the address is not canonical"),
             _ => {}
@@ -332,7 +333,7 @@ impl MmuPlayer {
     fn likely_type(&self, request: access_history::Request, claim: Claim) -> MemoryType {
         match claim.by {
             Some(word) => MemoryType::of_entry(Entry::from_word(word)).unwrap_or(MemoryType::Pma),
-            None => self.telling(request).memory_type(),
+            None => self.telling(request, &[]).memory_type(),
         }
     }
 
@@ -347,7 +348,7 @@ impl MmuPlayer {
         ensures some { IfOk result (λ line. IfSome line (λ it. it.outcome ≡ outcome)) }
         ensures none { IfOk result (λ line. IfNone line (claim.by ≡ None → ⊥)) }
     {
-        let telling = self.telling(request);
+        let telling = self.telling(request, &[]);
         let walked = Told {
             outcome,
             way: NO_WAY,

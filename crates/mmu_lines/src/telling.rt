@@ -4,7 +4,7 @@ ghost use Rattle.std.specs.Prelude.{◌≡◌, IfOk, IfSome};
 
 use crate::outcomes::{By, OutcomeLine};
 use crate::recorded::Recorded;
-use crate::walking::walk_now;
+use crate::walking::walk_among;
 use crate::ways::end_of;
 use access_history::{Outcome, Request};
 use access_judge::{Log, Told, Way};
@@ -25,11 +25,13 @@ pub(crate) struct Telling<'a> {
 }
 
 impl<'a> Telling<'a> {
+    /// Returns an access with its history, and with those of its outcomes that were found.
     pub fn new(
         alloc: Global,
         recorded: &'a Recorded,
         extensions: Extensions,
         request: Request,
+        found: &[Told],
     ) -> Telling<'a> {
         let telling = Telling {
             alloc,
@@ -42,7 +44,7 @@ impl<'a> Telling<'a> {
             return telling;
         }
         Telling {
-            walk: walk_now(recorded, extensions, request.va),
+            walk: walk_among(recorded, extensions, request.va, found),
             ..telling
         }
     }

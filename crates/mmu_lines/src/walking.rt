@@ -1,10 +1,10 @@
-// The walk over memory, satp and PMP as they are (`walk_now`).
+// The walk over memory, satp and PMP as they are (`walk_now`), which may be the way to an outcome that was found (`walk_among`).
 
 ghost use Rattle.std.specs.Prelude.{◌≤◌};
 
 use crate::recorded::Recorded;
-use crate::ways::place_at;
-use access_judge::{Log, PastSatp, Step, Way};
+use crate::ways::{LEVELS, end_of, place_at, step_at};
+use access_judge::{Log, PastSatp, Step, Told, Way};
 use bitflags::Flags;
 use sv39_entry::{Entry, EntryFlags, Kind, Va};
 use walk_rules::{Extensions, pmp_permits_read, top_level};
@@ -49,7 +49,7 @@ fn steps_now(recorded: &Recorded, extensions: Extensions, va: Va, top: u32) -> [
 }
 
 /// Returns the walk for an address over memory, satp and PMP as they are; `None` under Bare.
-pub(crate) fn walk_now(recorded: &Recorded, extensions: Extensions, va: Va) -> Option<Way> {
+fn walk_now(recorded: &Recorded, extensions: Extensions, va: Va) -> Option<Way> {
     let (satp, last) = (recorded.unit.satp(), recorded.unit.now());
     let top = top_level(satp)?;
     let root = PastSatp {
@@ -61,4 +61,46 @@ pub(crate) fn walk_now(recorded: &Recorded, extensions: Extensions, va: Va) -> O
         root: Some(root),
         steps: steps_now(recorded, extensions, va, top),
     })
+}
+
+/// Whether a PTE is the one that the walk for an address reads in its table.
+fn is_read(recorded: &Recorded, va: Va, step: &Step) -> bool {
+    let unit = &recorded.unit;
+    step.last == unit.now()
+        && step.index == va.page().index(step.level)
+        && pmp_permits_read(unit.pmp(), place_at(step.ppn, step.index))
+}
+
+/// Whether a way to a PTE at which a walk stops is the walk for an address over memory, satp and PMP as they are.
+fn is_walk(recorded: &Recorded, extensions: Extensions, va: Va, way: &Way) -> bool {
+    let is_present = match &way.root {
+        Some(root) => root.last == recorded.unit.now(),
+        None => false,
+    };
+    if !is_present || end_of(extensions, way).is_none() {
+        return false;
+    }
+    'levels: for level in 0..LEVELS {
+        if let Some(step) = step_at(way, level) {
+            if !is_read(recorded, va, &step) {
+                return false;
+            }
+        }
+    }
+    true
+}
+
+/// Returns what `walk_now` returns, for an access whose outcomes were found.
+pub(crate) fn walk_among(
+    recorded: &Recorded,
+    extensions: Extensions,
+    va: Va,
+    found: &[Told],
+) -> Option<Way> {
+    'found: for told in found {
+        if is_walk(recorded, extensions, va, &told.way) {
+            return Some(told.way);
+        }
+    }
+    walk_now(recorded, extensions, va)
 }

@@ -305,7 +305,7 @@ impl Witness {
         if self.put_excluded(out, extensions, request.va, told)? {
             return Ok(true);
         }
-        let telling = Telling::new(self.alloc, &self.unfenced, extensions, request);
+        let telling = Telling::new(self.alloc, &self.unfenced, extensions, request, &[]);
         self.put_excluded_pmp(out, &telling, told)
     }
 
