@@ -387,12 +387,27 @@ static void begin_all(const char *test, int last)
 #endif
 }
 
+#ifdef KIT_FREE
+static void fail_pages(int before, int now)
+{
+  int lost = before - now;
+  fail_begin(last_step);
+  dec(lost > 0 ? lost : -lost);
+  put(lost > 0 ? " pages lost: " : " pages free that were not: ");
+  dec(before);
+  put(" free at the beginning, ");
+  dec(now);
+  put(" at the end");
+  fail_end();
+}
+#endif
+
 static void end_all(void)
 {
 #ifdef KIT_FREE
   int n = KIT_FREE();
   if (n != frames_before)
-    differ(last_step, "free pages at the end", 0, frames_before, n);
+    fail_pages(frames_before, n);
 #endif
   begin_line();
   put(name);
