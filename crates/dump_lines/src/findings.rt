@@ -9,7 +9,7 @@ use sv39_entry::{Entry, EntryFlags, PAGE_SIZE};
 use table_dumps::{Space, ValidEntry};
 
 /// What is suspicious (own choice: most of it the standard permits).
-#[derive(Clone, Copy, PartialEq, Eq, Debug)]
+#[derive(Clone, Copy, PartialEq, Eq)]
 pub enum Reason {
     /// A table, whole or in part, is outside the memory: that of a pointer, or the root.
     TableOutside,
@@ -34,7 +34,7 @@ pub enum Reason {
 }
 
 /// A PTE, or the root, of an address space.
-#[derive(Clone, Copy, PartialEq, Eq, Debug)]
+#[derive(Clone, Copy)]
 pub struct Subject {
     /// The number of the space.
     pub space: usize,
@@ -75,7 +75,7 @@ impl Subject {
 }
 
 /// Something suspicious: of a PTE, or of several that follow one another.
-#[derive(Clone, Copy, PartialEq, Eq, Debug)]
+#[derive(Clone, Copy)]
 pub struct Finding {
     pub reason: Reason,
     /// The first PTE.

@@ -7,7 +7,7 @@ use sv39_entry::{Entry, EntryFlags};
 use table_dumps::{Dump, Space, ValidEntry};
 
 /// Which leaves are looked for.
-#[derive(Clone, Copy, PartialEq, Eq, Debug)]
+#[derive(Clone, Copy)]
 pub struct Leaves {
     /// Those with A clear, or with W and D clear, too.
     pub needing_update: bool,

@@ -15,7 +15,7 @@ pub fn scheme_name(top: u32) -> &'static str {
 }
 
 /// The line of an address space.
-#[derive(Clone, Copy, PartialEq, Eq, Debug)]
+#[derive(Clone, Copy)]
 pub struct SpaceLine {
     /// Its number, in the order of the command line, from 0.
     pub number: usize,
@@ -35,7 +35,7 @@ impl fmt::Display for SpaceLine {
 }
 
 /// The first line of a listing of page tables: `page table `, and the physical address of the root table.
-#[derive(Clone, Copy, PartialEq, Eq, Debug)]
+#[derive(Clone, Copy)]
 pub struct TablesLine {
     /// The physical page number of the root table.
     pub root: u64,
@@ -50,7 +50,7 @@ impl fmt::Display for TablesLine {
 
 /// The line of a PTE in a listing: ` ..` for the root's level, and once more for each level below; the first virtual address that the PTE
 /// maps or leads to; `pte` and its word; `pa` and the physical address of the frame that it names.
-#[derive(Clone, Copy, PartialEq, Eq, Debug)]
+#[derive(Clone, Copy)]
 pub struct EntryLine {
     /// The level of the root's PTEs.
     pub top: u32,

@@ -11,7 +11,7 @@ use walk_lines::{Flags, Hex};
 use walk_rules::Extensions;
 
 /// A mapping: a leaf. Numbers in hexadecimal digits are texts, `"0x.."`.
-#[derive(Clone, Copy, PartialEq, Eq, Debug, Serialize)]
+#[derive(Clone, Copy, Serialize)]
 pub struct MappingObject {
     /// The first virtual address.
     pub va: Hex,
@@ -42,7 +42,7 @@ impl MappingObject {
 }
 
 /// A page table to which a pointer leads.
-#[derive(Clone, Copy, PartialEq, Eq, Debug, Serialize)]
+#[derive(Clone, Copy, Serialize)]
 pub struct TableObject {
     /// The first virtual address that it maps.
     pub va: Hex,
@@ -57,7 +57,7 @@ pub struct TableObject {
 }
 
 /// An address space: one object, on a line of its own.
-#[derive(PartialEq, Eq, Debug, Serialize, Drop)]
+#[derive(Serialize, Drop)]
 pub struct SpaceObject {
     /// Its number, in the order of the command line, from 0.
     pub space: usize,
@@ -122,7 +122,7 @@ impl SpaceObject {
 }
 
 /// A PTE or a root that a finding names.
-#[derive(Clone, Copy, PartialEq, Eq, Debug, Serialize)]
+#[derive(Clone, Copy, Serialize)]
 pub struct SubjectObject {
     /// The number of the space.
     pub space: usize,
@@ -169,7 +169,7 @@ impl SubjectObject {
 }
 
 /// Something suspicious: one object, on a line of its own.
-#[derive(PartialEq, Eq, Debug, Serialize, Drop)]
+#[derive(Serialize, Drop)]
 pub struct FindingObject {
     /// What it is, as `"writable and executable"`.
     pub suspicious: &'static str,

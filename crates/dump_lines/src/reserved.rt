@@ -8,7 +8,7 @@ use table_dumps::{Dump, Space, ValidEntry};
 use walk_rules::Extensions;
 
 /// Why a PTE with V is invalid to a walk (RISC-V Privileged Architecture 20211203, "the standard", 4.3.2, step 3; 4.4.1; chapters 5 and 6).
-#[derive(Clone, Copy, PartialEq, Eq, Debug)]
+#[derive(Clone, Copy, PartialEq, Eq)]
 pub enum Reserved {
     /// W is set and R is not.
     WriteWithoutRead,

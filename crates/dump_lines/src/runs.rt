@@ -8,7 +8,7 @@ use table_dumps::{Space, ValidEntry};
 use walk_lines::Flags;
 
 /// Mappings that follow one another: each begins where the one before it ends, in addresses and in frames, and all have one level and one set of flags.
-#[derive(Clone, Copy, PartialEq, Eq, Debug)]
+#[derive(Clone, Copy)]
 pub struct Run {
     /// The first of them.
     pub first: ValidEntry,
@@ -71,7 +71,7 @@ pub fn size_name(level: u32) -> &'static str {
 }
 
 /// A run, as it is printed.
-#[derive(Clone, Copy, PartialEq, Eq, Debug)]
+#[derive(Clone, Copy)]
 pub struct RunLine {
     pub run: Run,
     /// The level of the root's PTEs.

@@ -7,7 +7,7 @@ use sv39_entry::{Entry, EntryFlags};
 use table_dumps::{Space, ValidEntry};
 
 /// The frames of a mapping for user mode: those from one physical page number on that are below another.
-#[derive(Clone, Copy, PartialEq, Eq, Debug)]
+#[derive(Clone, Copy)]
 pub struct Holding {
     pub start: u64,
     pub end: u64,

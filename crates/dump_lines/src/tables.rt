@@ -9,7 +9,7 @@ use table_dumps::{Dump, Space};
 use walk_rules::Extensions;
 
 /// A table, with the pointer that leads to it, or as a root.
-#[derive(Clone, Copy, PartialEq, Eq, Debug)]
+#[derive(Clone, Copy)]
 struct Table {
     /// Its physical page number.
     number: u64,

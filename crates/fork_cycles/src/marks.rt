@@ -6,7 +6,7 @@ ghost use Rattle.fork_cycles.specs.Search.{mark_of};
 use script_language::MOST_LISTS;
 
 /// How far the search is with a list of calls.
-#[derive(Clone, Copy, PartialEq, Eq, Debug)]
+#[derive(Clone, Copy)]
 pub enum Mark {
     /// It was not looked at.
     New,

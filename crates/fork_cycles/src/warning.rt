@@ -9,7 +9,7 @@ use script_reader::{ThreadScript, first_field, number, trim_return};
 use std::alloc::{AllocError, Global};
 
 /// What is told of lists that fork one another.
-#[derive(PartialEq, Eq, Debug, Drop)]
+#[derive(Drop)]
 pub struct Warning {
     /// The line in which the first of them forks the next, counted from 1.
     pub line: u64,

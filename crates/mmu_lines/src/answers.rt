@@ -8,7 +8,7 @@ use std::alloc::AllocError;
 use walk_lines::Hex;
 
 /// What a write of a PMP entry leaves as it was (RISC-V Privileged Architecture 20211203, 3.7.1).
-#[derive(Clone, Copy, PartialEq, Eq, Debug)]
+#[derive(Clone, Copy)]
 pub enum Lock {
     /// Both registers are written.
     Nothing,
@@ -19,7 +19,7 @@ pub enum Lock {
 }
 
 /// What is answered to a line.
-#[derive(PartialEq, Eq, Debug, Drop)]
+#[derive(Drop)]
 pub enum Answer {
     /// It was done.
     Ok,

@@ -11,7 +11,7 @@ use walk_lines::Hex;
 const PROTOCOL: u32 = 2;
 
 /// The PTE that a hart writes to set A and D.
-#[derive(Clone, Copy, PartialEq, Eq, Debug, Serialize)]
+#[derive(Clone, Copy, Serialize)]
 pub struct SetObject {
     /// Its physical address, as `"0x.."`.
     pub place: Hex,
@@ -20,7 +20,7 @@ pub struct SetObject {
 }
 
 /// An outcome. Each key always has one type; one that does not apply is left out.
-#[derive(PartialEq, Eq, Debug, Serialize, Drop)]
+#[derive(Serialize, Drop)]
 pub struct OutcomeObject {
     /// `"walk"`, `"held"`, `"bare"`, `"misaligned"` or `"not canonical"`.
     pub by: &'static str,
@@ -51,7 +51,7 @@ pub struct OutcomeObject {
 }
 
 /// What is wrong with a line.
-#[derive(PartialEq, Eq, Debug, Serialize, Drop)]
+#[derive(Serialize, Drop)]
 pub struct ErrorObject {
     /// The column of the field at fault, a number, from 1.
     #[serde(skip_serializing_if = "Option::is_none")]
@@ -60,7 +60,7 @@ pub struct ErrorObject {
 }
 
 /// An answer with the number of its line. Each key always has one type; one that does not apply is left out.
-#[derive(PartialEq, Eq, Debug, Serialize, Drop)]
+#[derive(Serialize, Drop)]
 pub struct AnswerObject {
     /// The number of the line, from 1.
     pub line: u64,

@@ -7,7 +7,7 @@ use walk_lines::Hex;
 use walk_rules::MemoryType;
 
 /// What an outcome is by.
-#[derive(Clone, Copy, PartialEq, Eq, Debug)]
+#[derive(Clone, Copy, PartialEq, Eq)]
 pub enum By {
     /// The walk over memory, satp and PMP as they are.
     Walk,
@@ -43,7 +43,7 @@ impl By {
 }
 
 /// An outcome of an access, and what it is by.
-#[derive(PartialEq, Eq, Debug, Drop)]
+#[derive(PartialEq, Eq, Drop)]
 pub struct OutcomeLine {
     pub by: By,
     pub outcome: Outcome,

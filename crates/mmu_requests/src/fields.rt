@@ -23,7 +23,7 @@ use walk_rules::{PmpEntry, Privilege, Status};
 const PHYSICAL_LIMIT: u64 = 1 << 56;
 
 /// Why a line is no request.
-#[derive(Debug, Drop)]
+#[derive(Drop)]
 pub enum Refusal {
     /// It is faulty.
     Mistake(Mistake),

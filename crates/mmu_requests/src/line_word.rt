@@ -5,7 +5,7 @@ ghost use Rattle.mmu_requests.specs.Lines.{counts, word_text};
 ghost use Rattle.mmu_requests.specs.declared.line_word.Word.{Word};
 
 /// The first field of a line.
-#[derive(Clone, Copy, PartialEq, Eq, Debug)]
+#[derive(Clone, Copy)]
 pub enum Word {
     Version,
     Profile,

@@ -7,7 +7,7 @@ use crate::profile_word::ProfileWord;
 use walk_rules::{AdScheme, Extensions};
 
 /// Which extensions a hart has.
-#[derive(Clone, Copy, PartialEq, Eq, Debug)]
+#[derive(Clone, Copy)]
 pub struct Profile {
     /// Whether satp may have MODE 8.
     pub sv39: bool,

@@ -12,7 +12,7 @@ pub const PROFILE_WORDS: &str =
     "sv39, sv48, sv57, svade, svadu, ad-either, svnapot, svpbmt, pmp0, pmp16, pmp64, asid0 to asid16";
 
 /// A word of a profile.
-#[derive(Clone, Copy, PartialEq, Eq, Debug)]
+#[derive(Clone, Copy)]
 pub enum ProfileWord {
     Sv39,
     Sv48,

@@ -7,7 +7,7 @@ use sv39_entry::{Access, Satp, Va};
 use walk_rules::{MemoryType, PmpEntry, Privilege, Status};
 
 /// What came of an access, by its client.
-#[derive(Clone, Copy, PartialEq, Eq, Debug)]
+#[derive(Clone, Copy)]
 pub enum End {
     Granted {
         /// The physical address.
@@ -20,7 +20,7 @@ pub enum End {
 }
 
 /// An outcome of an access that a client tells.
-#[derive(Clone, Copy, PartialEq, Eq, Debug)]
+#[derive(Clone, Copy)]
 pub struct Claim {
     pub end: End,
     /// The PTE that the hart wrote to set A and D.
@@ -76,7 +76,7 @@ impl Claim {
 }
 
 /// What a line asks for.
-#[derive(Clone, Copy, PartialEq, Eq, Debug)]
+#[derive(Clone, Copy)]
 pub enum Request {
     /// Which protocol this is.
     Version,

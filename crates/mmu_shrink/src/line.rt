@@ -1,7 +1,7 @@
 // `Line`: a struct, a line of a transcript.
 
 /// A line, without its line feed.
-#[derive(PartialEq, Eq, Debug, Drop)]
+#[derive(Drop)]
 pub struct Line {
     pub text: Vec<u8>,
 }

@@ -1,7 +1,7 @@
 // `Kind`: what a test asks of a kernel.
 
 /// What a test asks of a kernel.
-#[derive(Clone, Copy, PartialEq, Eq, Debug)]
+#[derive(Clone, Copy)]
 pub enum Kind {
     /// Copy-on-write forks.
     Cow,

@@ -1,7 +1,7 @@
 // `Row`: a line of the C program. The runtime says what each call does.
 
 /// A call of the runtime that expects what the machine answered.
-#[derive(Clone, Copy, PartialEq, Eq, Debug)]
+#[derive(Clone, Copy)]
 pub enum Call {
     /// A load of a value.
     Load,
@@ -26,7 +26,7 @@ pub enum Call {
 }
 
 /// A call that expects what the machine answered.
-#[derive(Debug, Drop)]
+#[derive(Drop)]
 pub struct StepRow {
     pub call: Call,
     /// The number of the line of the script with which the step begins.
@@ -36,7 +36,7 @@ pub struct StepRow {
 }
 
 /// A line of the C program.
-#[derive(Debug, Drop)]
+#[derive(Drop)]
 pub enum Row {
     /// Text with its line end, which expects nothing of the machine.
     Text(String),
@@ -44,7 +44,7 @@ pub enum Row {
 }
 
 /// The lines of a function of the C program: what a process does.
-#[derive(Debug, Drop)]
+#[derive(Drop)]
 pub struct Life {
     pub rows: Vec<Row>,
     /// The row of the parent's function in which this process got its last turn.

@@ -1,7 +1,7 @@
 // `Line`: a line of a script, with what the generator predicts of its answer.
 
 /// What the generator predicts of an answer.
-#[derive(Debug, Drop)]
+#[derive(Drop)]
 pub enum Expected {
     /// There is none: the line is a declaration.
     Nothing,
@@ -14,7 +14,7 @@ pub enum Expected {
 }
 
 /// A line of a script.
-#[derive(Debug, Drop)]
+#[derive(Drop)]
 pub struct Line {
     pub text: String,
     pub expected: Expected,

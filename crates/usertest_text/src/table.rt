@@ -10,7 +10,7 @@ use std::alloc::{AllocError, Global};
 use usertest_rows::{Call, Life, Row, StepRow};
 
 /// Why functions cannot be written.
-#[derive(Clone, Copy, PartialEq, Eq, Debug)]
+#[derive(Clone, Copy)]
 pub enum TextFault {
     /// The host is out of memory.
     Memory,

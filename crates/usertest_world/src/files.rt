@@ -3,7 +3,7 @@
 use crate::places::{PAGE, pages_of};
 
 /// A file of the model: a part of a file of the C program, since the model's mmap has no offset.
-#[derive(Clone, Copy, PartialEq, Eq, Debug)]
+#[derive(Clone, Copy)]
 pub struct File {
     /// Its number in the script.
     pub number: usize,

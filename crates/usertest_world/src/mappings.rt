@@ -4,7 +4,7 @@ use crate::files::File;
 use crate::places::{Base, PAGE, Place};
 
 /// What a process knows of a page of a mapping.
-#[derive(Clone, Copy, PartialEq, Eq, Debug)]
+#[derive(Clone, Copy)]
 pub struct View {
     /// Labs leave open what the page contains: it is not accessed.
     pub unknown: bool,
@@ -31,7 +31,7 @@ impl View {
 }
 
 /// A mapping of a process.
-#[derive(Clone, Copy, PartialEq, Eq, Debug)]
+#[derive(Clone, Copy)]
 pub struct Mapping {
     /// Its index in `M` of the C text.
     pub number: u64,

@@ -34,7 +34,7 @@ pub fn rounded_up(size: u64) -> u64 {
 }
 
 /// From where the C program counts a place.
-#[derive(Clone, Copy, PartialEq, Eq, Debug)]
+#[derive(Clone, Copy, PartialEq, Eq)]
 pub enum Base {
     /// From the beginning of the heap.
     Heap,
@@ -53,7 +53,7 @@ pub enum Base {
 }
 
 /// An address in a script, and the same place in the text of a C program.
-#[derive(Clone, Copy, PartialEq, Eq, Debug)]
+#[derive(Clone, Copy)]
 pub struct Place {
     pub base: Base,
     /// The bytes from the base.

@@ -8,7 +8,7 @@ use std::alloc::{AllocError, Global};
 pub const MOST_SPOTS: usize = 12;
 
 /// A page that munmap took.
-#[derive(Clone, Copy, PartialEq, Eq, Debug)]
+#[derive(Clone, Copy)]
 pub struct Unmapped {
     /// The number of the mapping that it was in.
     pub number: u64,

@@ -6,7 +6,7 @@ use usertest_rows::{Call, Expected};
 use usertest_world::{Base, NOBODYS, PAGE, Place};
 
 /// A place of a copy, and how many bytes can be copied there.
-#[derive(Clone, Copy, PartialEq, Eq, Debug)]
+#[derive(Clone, Copy)]
 struct Target {
     place: Place,
     done: u64,

@@ -14,7 +14,7 @@ pub const NO_REGION: u64 = 5;
 const NO_RIGHT: u64 = 7;
 
 /// An access that must end the process.
-#[derive(Clone, Copy, PartialEq, Eq, Debug)]
+#[derive(Clone, Copy)]
 pub struct Denied {
     pub place: Place,
     pub width: u64,

@@ -6,7 +6,7 @@ use usertest_rows::{Call, Kind, Life, Row, StepRow};
 use usertest_world::{File, PAGE, Place};
 
 /// A step of a test.
-#[derive(Clone, Copy, PartialEq, Eq, Debug)]
+#[derive(Clone, Copy)]
 enum Sort {
     Load,
     Store,
@@ -34,7 +34,7 @@ enum Sort {
 }
 
 /// How often a step is made in a test of each kind, beside the others.
-#[derive(Clone, Copy, PartialEq, Eq, Debug)]
+#[derive(Clone, Copy)]
 struct Weight {
     sort: Sort,
     weights: [u64; 4],

@@ -18,7 +18,7 @@ const IN_A_PAGE: [u64; 6] = [0, 8, 24, 512, 2040, 4088];
 const MOST_SHOWN: u64 = 32;
 
 /// What mmap is asked for.
-#[derive(Clone, Copy, PartialEq, Eq, Debug)]
+#[derive(Clone, Copy)]
 struct MapRequest {
     file: File,
     length: u64,

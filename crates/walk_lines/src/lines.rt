@@ -9,7 +9,7 @@ use std::fmt;
 use sv39_entry::{Entry, PAGE_SIZE, Scheme};
 
 /// A number as 16 hexadecimal digits after `0x`.
-#[derive(Clone, Copy, PartialEq, Eq, Debug)]
+#[derive(Clone, Copy)]
 struct Wide(u64);
 
 impl fmt::Display for Wide {
@@ -26,7 +26,7 @@ impl fmt::Display for Wide {
 
 /// The first line of a listing of page tables: `page table `, and the physical address of the root table as 16 hexadecimal
 /// digits (MIT 6.1810, the page table lab of 2024).
-#[derive(Clone, Copy, PartialEq, Eq, Debug)]
+#[derive(Clone, Copy)]
 pub struct TableTitle {
     /// The physical page number of the root table, below 2^44 (the low 64 bits of its address are printed).
     pub root: u64,
@@ -47,7 +47,7 @@ impl fmt::Display for TableTitle {
 /// The line of a page table entry in a listing (MIT 6.1810, the page table lab of 2024): ` ..` for the root's level, and once
 /// more for each level below; the first virtual address that the entry maps or leads to; `pte` and its word; `pa` and the
 /// physical address of the frame that it names. Each number has 16 hexadecimal digits.
-#[derive(Clone, Copy, PartialEq, Eq, Debug)]
+#[derive(Clone, Copy)]
 pub struct TableLine {
     /// The scheme of the tables: it has the root's level.
     pub scheme: Scheme,

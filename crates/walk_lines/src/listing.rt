@@ -12,7 +12,7 @@ use sv39_entry::{Entry, Kind, PAGE_SIZE, Scheme, Va};
 use table_walk::Words;
 
 /// A valid page table entry, and where it is.
-#[derive(Clone, Copy, PartialEq, Eq, Debug)]
+#[derive(Clone, Copy)]
 pub struct TableEntry {
     /// The level of the table: 3 to 0, that of the root being 2 under Sv39 and 3 under Sv48.
     pub level: u32,

@@ -4,7 +4,7 @@ use serde::{Described, Serialize, Serializer};
 use std::fmt;
 
 /// A number that is written in hexadecimal digits, as `0x1000`, in JSON as a text: many readers of JSON keep only 53 bits of a number.
-#[derive(Clone, Copy, PartialEq, Eq, Debug)]
+#[derive(Clone, Copy, PartialEq, Eq)]
 pub struct Hex(pub u64);
 
 impl fmt::Display for Hex {

@@ -19,7 +19,7 @@ fn letter(word: u64, bit: u32, letter: &'static str) -> &'static str
 
 /// The flags of a page table entry, printed by letters: `VRWXUGADC`, with a dash for each that is clear. C is bit 8, by which the
 /// kernel marks copy-on-write. JSON has them as this text.
-#[derive(Clone, Copy, PartialEq, Eq, Debug)]
+#[derive(Clone, Copy)]
 pub struct Flags(pub u64);
 
 impl fmt::Display for Flags {
@@ -54,7 +54,7 @@ impl Serialize for Flags {
 }
 
 /// What a page table entry says to a walk, as text: the table or the page that it leads to, or that there is no leaf.
-#[derive(Clone, Copy, PartialEq, Eq, Debug)]
+#[derive(Clone, Copy)]
 struct Meaning(u64);
 
 impl fmt::Display for Meaning {
@@ -75,7 +75,7 @@ impl fmt::Display for Meaning {
 }
 
 /// A word that a walk reads, as text.
-#[derive(Clone, Copy, PartialEq, Eq, Debug)]
+#[derive(Clone, Copy)]
 struct Word(Option<u64>);
 
 impl fmt::Display for Word {

@@ -11,7 +11,7 @@ use sv39_entry::{Entry, Kind, Scheme, Va};
 use table_walk::Words;
 
 /// A word that a walk reads: the level, the table, the index in it, and the word there.
-#[derive(Clone, Copy, PartialEq, Eq, Debug)]
+#[derive(Clone, Copy)]
 pub struct WalkEntry {
     /// The level of the table: 3 to 0, that of the root being 2 under Sv39 and 3 under Sv48.
     pub level: u32,
