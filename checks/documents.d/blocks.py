@@ -11,7 +11,7 @@ import shutil
 import subprocess
 import tempfile
 
-LINKED = ("crates", "checks", "docs", "examples", "labs")
+LINKED = ("crates", "checks", "docs", "examples", "labs", "teaching")
 PROGRAM = re.compile(r"^(?:crates/\w+/out/)?(xv6lab|xv6vm) (.*)$")
 WRONG = re.compile(r"^(\S+):(\d+): (.*)$")
 
@@ -28,7 +28,7 @@ class Player:
             text = path.with_suffix(".expect").read_text(errors="replace")
             self.stored[words, given] = text[: text.rindex("status ")]
             self.printed.update(line.strip() for line in text.splitlines())
-        for path in [*data.glob("examples/*.script"), *data.glob("labs/answers/*.script")]:
+        for path in [*data.glob("examples/*.script"), *data.glob("teaching/*.script")]:
             lines = [it.partition("=>") for it in path.read_text().splitlines() if it and not it.startswith("#")]
             self.answers["\n".join(it[0].rstrip() for it in lines)] = [it[2].strip() for it in lines]
 

@@ -57,7 +57,7 @@ class Sources:
             self.read_definitions(crate, self.text(path))
         elif path.startswith("checks/documents"):
             pass
-        elif path.endswith((".c", ".h", ".py", ".rs")) or path.startswith(("checks/", "bench/")) and (self.root / path).is_file():
+        elif path.endswith((".c", ".h", ".py", ".rs")) or path.startswith(("checks/", "bench/", "release/")) and (self.root / path).is_file():
             self.read_other(self.text(path))
         elif path.endswith(".edit"):
             self.names[os.path.basename(path)[:-5]].add(crate)

@@ -1,5 +1,5 @@
 #!/usr/bin/env python3
-"""A toy emulator of Sv39 with a TLB of pages and superpages, a cache of pointers and ASIDs, which sends its trace: toy_hart.py [CLASS]
+"""A toy emulator of Sv39 with a TLB of pages and superpages, a cache of pointers and ASIDs, which sends its trace: toy_hart.py [CLASS[+CLASS] [SEED [ACCESSES]]]
 
 Prints lines for `xv6lab mmu`: what the hart does, and each access with what came of it. None of them says when the hart caches, so
 that is all that an emulator has to send. The classes at the end each have one error, of those that emulators have.
@@ -287,6 +287,12 @@ def trace(kind, seed, accesses):
     return lines
 
 
+def kind_named(text):
+    """The class of a name, or one with the errors of several, with + between their names."""
+    named = {kind.__name__: kind for kind in [ToyHart, *ERRORS]}
+    return type(text, tuple(named[name] for name in text.split("+")), {})
+
+
 if __name__ == "__main__":
-    named = {kind.__name__: kind for kind in ERRORS}
-    print(*trace(named[sys.argv[1]] if len(sys.argv) > 1 else ToyHart, 1, 1000), sep="\n")
+    given = sys.argv[1:] + ["ToyHart", "1", "1000"][len(sys.argv) - 1 :]
+    print(*trace(kind_named(given[0]), int(given[1]), int(given[2])), sep="\n")

@@ -3,7 +3,7 @@
 use script_reader::{first_field, number};
 
 /// How a line was answered. Numbers are those of the answer's text.
-#[derive(Clone, Copy, PartialEq, Eq, Debug)]
+#[derive(Clone, Copy, PartialEq, Eq)]
 pub enum Answer {
     /// A step was refused, by the refusal of this number.
     Refused(u64),

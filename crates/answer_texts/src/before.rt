@@ -15,7 +15,7 @@ use script_reader::{LineFault, line_item, trim_return};
 use std::alloc::{AllocError, Global};
 
 /// What is seen of a machine before a line.
-#[derive(Clone, Copy, PartialEq, Eq, Debug)]
+#[derive(Clone, Copy)]
 pub struct Before {
     /// The access that faulted, of the process on the line's hart.
     pub pending: Option<Pending>,

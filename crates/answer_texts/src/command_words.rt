@@ -4,7 +4,7 @@ use process_model::Step;
 use script_language::Command;
 
 /// What a line needs of the hart that it names.
-#[derive(Clone, Copy, PartialEq, Eq, Debug)]
+#[derive(Clone, Copy)]
 pub enum Need {
     /// User mode: an access of the process, or a trap.
     User,
@@ -23,7 +23,7 @@ pub enum Need {
 }
 
 /// A command as its line begins.
-#[derive(Clone, Copy, PartialEq, Eq, Debug)]
+#[derive(Clone, Copy)]
 pub struct CommandWord {
     pub word: &'static str,
     /// The hart that the line names; `None` if it names none.

@@ -5,7 +5,6 @@ ghost use Rattle.std.specs.Prelude.{◌≡◌, IfOk};
 ghost use Rattle.line_player.specs.Answers.{HasPlayed};
 ghost use Rattle.line_player.specs.PlayedLines.{Played};
 
-use crate::expected::split;
 use crate::fault::Fault;
 use crate::lab::Reading;
 use crate::mistakes::{Place, tell_end, tell_refused};
@@ -14,13 +13,14 @@ use crate::run::tell_unexpected;
 use crate::screen::Screen;
 use crate::threads::{begins_for_threads, judge, read_rest};
 use answer_texts::{Before, explain_answer};
+use handouts::split;
 use line_player::{LinePlayer, LineReply};
 use std::alloc::{AllocError, Global};
 use std::fmt;
 use std::io::{BufReader, Read};
 
 /// How many files, answers and differences there were.
-#[derive(Clone, Copy, PartialEq, Eq, Debug)]
+#[derive(Clone, Copy)]
 pub struct Tally {
     pub files: u64,
     pub answers: u64,
@@ -30,7 +30,7 @@ pub struct Tally {
 }
 
 /// What was counted of one file, as text: for example `12 answers, 1 differs`.
-#[derive(Clone, Copy, PartialEq, Eq, Debug)]
+#[derive(Clone, Copy)]
 pub struct Counts {
     answers: u64,
     differ: u64,
@@ -245,7 +245,7 @@ impl Reading for CheckLines<'_> {
 }
 
 /// Prints a script without the answers that its lines expect.
-#[derive(Clone, Copy, Debug)]
+#[derive(Clone, Copy)]
 pub struct BareLines;
 
 impl Listener for BareLines {

@@ -5,7 +5,7 @@ use clap::{Arg, ArgAction, ArgMatches, Command};
 use std::alloc::{AllocError, Global};
 
 /// Scripts are played, and the answers compared with those that their lines expect; files for threads are judged.
-#[derive(Debug, Drop)]
+#[derive(Drop)]
 pub struct CheckWords {
     pub files: Vec<String>,
     /// Whether the scripts are printed without those answers, and not played.

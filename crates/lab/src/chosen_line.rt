@@ -8,7 +8,7 @@ use crate::screen::Screen;
 use std::alloc::{AllocError, Global};
 
 /// The line of a script that a command line names. A step is a line that has an answer.
-#[derive(Clone, Copy, Debug)]
+#[derive(Clone, Copy)]
 pub struct ChosenLine {
     /// Its number; the first line has 1.
     pub number: u64,

@@ -4,9 +4,12 @@
 use crate::check_words::{CheckWords, check};
 use crate::draw_words::{DrawWords, draw};
 use crate::fault::Fault;
+use crate::grade_words::{GradeWords, grade};
 use crate::inspect_words::{InspectWords, inspect};
+use crate::lab_words::{LabWords, labs};
 use crate::mmu_words::{MmuWords, mmu};
 use crate::options::{SCRIPT, file, file_of};
+use crate::quiz_words::{QuizWords, quiz};
 use crate::run_words::{RunWords, run};
 use crate::trace_words::{TraceWords, trace};
 use crate::usertest_words::{UsertestWords, usertest};
@@ -15,10 +18,11 @@ use std::alloc::{AllocError, Global};
 use version::VERSION;
 
 /// What the program does.
-#[derive(Debug, Drop)]
+#[derive(Drop)]
 pub enum Task {
     Run(RunWords),
     Check(CheckWords),
+    Grade(GradeWords),
     Trace(TraceWords),
     Draw(DrawWords),
     /// Plays a script, some of whose lines may ask for a look at the machine.
@@ -30,6 +34,8 @@ pub enum Task {
     /// Prints the line of a script that declares an ELF file.
     Elf(String),
     Usertest(UsertestWords),
+    Lab(LabWords),
+    Quiz(QuizWords),
 }
 
 /// Returns the word `elf`.
@@ -55,6 +61,7 @@ fn command<'a>(alloc: Global) -> Result<Command<'a>, AllocError> {
         .subcommand_required(true)
         .subcommand(run(alloc)?)?
         .subcommand(check(alloc)?)?
+        .subcommand(grade(alloc)?)?
         .subcommand(trace(alloc)?)?
         .subcommand(draw(alloc)?)?
         .subcommand(show)?
@@ -62,7 +69,9 @@ fn command<'a>(alloc: Global) -> Result<Command<'a>, AllocError> {
         .subcommand(mmu(alloc)?)?
         .subcommand(inspect(alloc)?)?
         .subcommand(elf(alloc)?)?
-        .subcommand(usertest(alloc)?)
+        .subcommand(usertest(alloc)?)?
+        .subcommand(labs(alloc)?)?
+        .subcommand(quiz(alloc)?)
 }
 
 /// Returns what a word says.
@@ -73,6 +82,7 @@ fn task_of(alloc: Global, name: &str, given: &ArgMatches<'_>) -> Result<Task, Fa
     Ok(match name {
         "run" => Task::Run(RunWords::of(alloc, given)?),
         "check" => Task::Check(CheckWords::of(alloc, given)?),
+        "grade" => Task::Grade(GradeWords::of(alloc, given)?),
         "trace" => Task::Trace(TraceWords::of(alloc, given)?),
         "draw" => Task::Draw(DrawWords::of(alloc, given)?),
         "show" => Task::Show(file_of(alloc, given)?),
@@ -80,6 +90,8 @@ fn task_of(alloc: Global, name: &str, given: &ArgMatches<'_>) -> Result<Task, Fa
         "inspect" => Task::Inspect(InspectWords::of(alloc, given)?),
         "elf" => Task::Elf(file_of(alloc, given)?),
         "usertest" => Task::Usertest(UsertestWords::of(alloc, given)?),
+        "lab" => Task::Lab(LabWords::of(alloc, given)?),
+        "quiz" => Task::Quiz(QuizWords::of(alloc, given)?),
         _ => Task::Repl,
     })
 }

@@ -6,11 +6,11 @@ ghost use Rattle.line_player.specs.Answers.{HasPlayed};
 ghost use Rattle.line_player.specs.PlayedLines.{Played};
 
 use crate::chosen_line::ChosenLine;
-use crate::expected::split;
 use crate::fault::Fault;
 use crate::mistakes::{Place, tell_end};
 use crate::play::{Listener, played};
 use crate::screen::Screen;
+use handouts::split;
 use line_player::{LinePlayer, LineReply};
 use line_traces::trace_line;
 use pictures::{put_page_end, put_page_start, put_picture, put_step};

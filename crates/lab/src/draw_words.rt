@@ -5,7 +5,7 @@ use clap::{Arg, ArgAction, ArgMatches, Command};
 use std::alloc::{AllocError, Global};
 
 /// The machine of a script is drawn.
-#[derive(Debug, Drop)]
+#[derive(Drop)]
 pub struct DrawWords {
     pub file: String,
     /// The path of the file that is written; `-` is standard output.

@@ -8,7 +8,7 @@ use std::alloc::{AllocError, Global};
 use std::{fmt, io};
 
 /// Why the program ends before its end.
-#[derive(Debug, Drop)]
+#[derive(Drop)]
 pub enum Fault {
     /// The command line is wrong, or asks for help or the version.
     CommandLine(clap::Error),

@@ -8,7 +8,7 @@ use sv39_entry::{KERNBASE, PAGE_SIZE};
 use walk_rules::{AdScheme, Extensions};
 
 /// A dump of physical memory is read, and it is printed what address spaces in it map.
-#[derive(Debug, Drop)]
+#[derive(Drop)]
 pub struct InspectWords {
     pub file: String,
     /// The physical page number of the dump's first byte.

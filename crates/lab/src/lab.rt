@@ -13,6 +13,8 @@ use crate::fault::Fault;
 use crate::inspect::InspectDump;
 use crate::mmu_words::MmuWords;
 use crate::play::{Listener, each_line};
+use crate::quiz::{Game, Order};
+use crate::quiz_words::{Form, QuizWords};
 use crate::reference::AnswerLines;
 use crate::repl::ReplLines;
 use crate::run::RunLines;
@@ -71,7 +73,7 @@ impl<F: Files, I: Read + Drop> Host<'_, F, I> {
     ///
     /// # Errors
     /// `File`: the file cannot be opened or read. Those of the reading.
-    fn give<S: Screen, T: Reading>(
+    pub(crate) fn give<S: Screen, T: Reading>(
         &mut self,
         screen: &mut S,
         name: &str,
@@ -315,6 +317,28 @@ impl<F: Files, I: Read + Drop> Host<'_, F, I> {
         self.play(screen, "-", &mut listener)
     }
 
+    /// Asks the questions of a quiz, with standard input for guesses; or writes it as a page, or prints its script.
+    fn quiz<S: Screen>(&mut self, screen: &mut S, words: &QuizWords) -> Result<(), Fault>
+        ensures whole { IfOk result (λ _. S.whole screen.old → S.whole screen.new) }
+    {
+        let order = Order {
+            subject: words.subject,
+            seed: words.seed,
+            count: words.count,
+            draws: words.form == Form::Page,
+        };
+        let game = Game::play(self.alloc, screen, order)?;
+        match words.form {
+            Form::Ask => match self.input.take() {
+                Some(input) => game.ask(screen, input),
+                None => game.ask(screen, b"".as_slice()),
+            },
+            Form::Page => self.write(screen, words.out.as_str(), game.page()?.as_str().as_bytes()),
+            Form::Script => screen.out(game.script(false)?.as_str()),
+            Form::Answers => screen.out(game.script(true)?.as_str()),
+        }
+    }
+
     /// Does what a command line says.
     fn do_task<S: Screen>(&mut self, screen: &mut S, task: &Task) -> Result<(), Fault>
         ensures whole { IfOk result (λ _. S.whole screen.old → S.whole screen.new) }
@@ -327,6 +351,7 @@ impl<F: Files, I: Read + Drop> Host<'_, F, I> {
             }
             Task::Check(words) if words.bare => self.bare(screen, words.files.as_slice()),
             Task::Check(words) => self.check(screen, words),
+            Task::Grade(words) => self.grade(screen, words),
             Task::Trace(words) => self.trace(screen, words),
             Task::Draw(words) => self.draw(screen, words),
             Task::Show(file) => {
@@ -345,6 +370,8 @@ impl<F: Files, I: Read + Drop> Host<'_, F, I> {
                 self.give(screen, file, &mut ElfLine { file })
             }
             Task::Usertest(words) => self.usertest(screen, words),
+            Task::Lab(words) => self.hand_out(screen, words),
+            Task::Quiz(words) => self.quiz(screen, words),
         }
     }
 }

@@ -1,8 +1,9 @@
 //! The words of the program `xv6lab`. It plays scripts of `xv6vm` for people: `run` prints the answers beside the lines, `check`
 //! compares them with those that the lines expect, `trace` tells what happens on each line, `draw` draws the machine, `show`
-//! answers questions about it between lines, and `repl` takes lines one by one. `check` also judges files for threads, `mmu` answers
-//! programs that ask a reference MMU, `inspect` looks into a dump of memory, `elf` makes a line of an ELF file, and `usertest` makes programs that
-//! test a kernel. `do_words` does what a command line says; text goes to a
+//! answers questions about it between lines, and `repl` takes lines one by one. `check` also judges files for threads, `grade` grades
+//! what students hand in for a lab, `mmu` answers programs that ask a reference MMU, `inspect` looks into a dump of memory, `elf` makes a
+//! line of an ELF file, `usertest` makes programs that test a kernel, `lab` makes the scripts of the labs, and `quiz` asks questions about
+//! random scripts. `do_words` does what a command line says; text goes to a
 //! `Screen`.
 #![tactic(auto)]
 
@@ -13,17 +14,24 @@ mod command_line;
 mod draw;
 mod draw_words;
 mod elf;
-mod expected;
 mod fault;
+mod grade;
+mod grade_files;
+mod grade_words;
 mod inspect;
 mod inspect_words;
 mod lab;
+mod lab_scripts;
+mod lab_words;
 mod looks;
 mod mistakes;
 mod mmu_words;
 mod options;
 mod plain;
 mod play;
+mod quiz;
+mod quiz_terminal;
+mod quiz_words;
 mod reference;
 mod repl;
 mod run;
@@ -37,7 +45,6 @@ mod trace_words;
 mod usertest;
 mod usertest_words;
 
-pub use expected::{Expected, split};
 pub use fault::Fault;
 pub use lab::{Host, do_words};
 pub use screen::Screen;

@@ -15,7 +15,7 @@ pub const NO_MACHINE: &str =
     "this needs a machine: a line such as \"boot 1 64 4 full\" must stand before it";
 
 /// A question about the machine.
-#[derive(Clone, Copy, PartialEq, Eq, Debug)]
+#[derive(Clone, Copy)]
 pub enum Look {
     /// The regions of the process in a slot.
     Regions(usize),
@@ -28,7 +28,7 @@ pub enum Look {
 }
 
 /// What a line that may ask a question is.
-#[derive(Clone, Copy, PartialEq, Eq, Debug)]
+#[derive(Clone, Copy)]
 pub enum Asked {
     /// No question: a line of a script.
     No,

@@ -5,7 +5,7 @@ use clap::{ArgMatches, Command};
 use std::alloc::{AllocError, Global};
 
 /// Lines that ask a reference MMU are answered.
-#[derive(Debug, Drop)]
+#[derive(Drop)]
 pub struct MmuWords {
     pub file: String,
     /// Whether that is by JSON objects.

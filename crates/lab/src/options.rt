@@ -19,10 +19,10 @@ pub fn file<'a>(alloc: Global, help: &'a str) -> Arg<'a> {
 
 /// Returns the path of the word's only file, or of the first; `-` if there is none.
 pub fn file_of(alloc: Global, given: &ArgMatches<'_>) -> Result<String, AllocError> {
-    let Some(mut files) = given.get_strs("FILE") else {
-        return String::from_str(alloc, "-");
-    };
-    String::from_str(alloc, files.next().unwrap_or("-"))
+    match given.get_strs("FILE") {
+        Some([file, ..]) => String::from_str(alloc, file),
+        _ => String::from_str(alloc, "-"),
+    }
 }
 
 /// Returns the paths of the word's files.

@@ -1,6 +1,7 @@
 // `plain_line`: a line as `xv6vm` takes it, of one as people write it: without the comment behind it, with numbers for `PROT_READ` and
 // its kin, and bytes without `0x`.
 
+use handouts::without_comment;
 use memchr::{memchr, memmem, memrchr};
 use script_language::FieldKind;
 use script_reader::{Row, first_field};
@@ -86,21 +87,6 @@ fn put_line(out: &mut Vec<u8>, line: &[u8]) -> Result<(), AllocError> {
         rest = after;
     }
     out.extend_from_slice(rest)
-}
-
-/// Returns a line without the comment behind it, which begins with `#` after a blank. A line that is a comment stays.
-fn without_comment(line: &[u8]) -> &[u8] {
-    if line.trim_ascii_start().starts_with(b"#") {
-        return line;
-    }
-    let hash = match memmem::find(line, b" #") {
-        Some(at) => Some(at),
-        None => memmem::find(line, b"\t#"),
-    };
-    match hash {
-        Some(at) => line.split_at(at.min(line.len())).0.trim_ascii_end(),
-        None => line,
-    }
 }
 
 /// Returns a line as `xv6vm` takes it, with the answer that it expects if it has one. A comment stays.

@@ -5,13 +5,13 @@ ghost use Rattle.std.specs.Prelude.{◌≡◌, ◌-◌, ◌<◌, IfOk, length, m
 ghost use Rattle.line_player.specs.Answers.{HasPlayed};
 ghost use Rattle.line_player.specs.PlayedLines.{Played, nothing_played, played_lines};
 
-use crate::expected::split;
 use crate::fault::Fault;
 use crate::looks::{Asked, Look, NO_MACHINE, look_of, put_look};
 use crate::play::Listener;
 use crate::screen::Screen;
 use answer_texts::{Before, explain_answer};
 use fault_texts::{explain, field_names};
+use handouts::split;
 use line_player::{LinePlayer, LineReply};
 use script_language::Cause;
 use script_reader::{Row, first_field, trim_return};

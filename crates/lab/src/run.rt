@@ -4,18 +4,18 @@ ghost use Rattle.std.specs.Prelude.{IfOk};
 ghost use Rattle.line_player.specs.Answers.{HasPlayed};
 ghost use Rattle.line_player.specs.PlayedLines.{Played};
 
-use crate::expected::{Expected, split};
 use crate::fault::Fault;
 use crate::mistakes::{Place, tell_end, tell_refused};
 use crate::play::Listener;
 use crate::screen::Screen;
 use answer_texts::{Before, explain_answer};
+use handouts::{Expected, split};
 use line_player::{LinePlayer, LineReply};
 use script_reader::trim_return;
 use std::alloc::Global;
 
 /// What `run` prints of answers beside them.
-#[derive(Clone, Copy, PartialEq, Eq, Debug)]
+#[derive(Clone, Copy)]
 pub struct Telling {
     /// Whether it is told why an answer is no plain success; else that is told of images alone.
     pub explain: bool,

@@ -6,7 +6,7 @@ use clap::{ArgMatches, Command};
 use std::alloc::{AllocError, Global};
 
 /// A script is played, and each line printed with its answer.
-#[derive(Debug, Drop)]
+#[derive(Drop)]
 pub struct RunWords {
     pub file: String,
     pub telling: Telling,

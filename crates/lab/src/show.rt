@@ -4,13 +4,13 @@ ghost use Rattle.std.specs.Prelude.{IfOk};
 ghost use Rattle.line_player.specs.Answers.{HasPlayed};
 ghost use Rattle.line_player.specs.PlayedLines.{Played};
 
-use crate::expected::split;
 use crate::fault::Fault;
 use crate::looks::{Asked, Look, NO_MACHINE, look_of, put_look};
 use crate::mistakes::{Place, tell_end};
 use crate::play::Listener;
 use crate::run::{ANSWERS_ALONE, run_line};
 use crate::screen::Screen;
+use handouts::split;
 use line_player::LinePlayer;
 use std::alloc::Global;
 

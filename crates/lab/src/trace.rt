@@ -5,11 +5,11 @@ ghost use Rattle.line_player.specs.Answers.{HasPlayed};
 ghost use Rattle.line_player.specs.PlayedLines.{Played};
 
 use crate::chosen_line::ChosenLine;
-use crate::expected::split;
 use crate::fault::Fault;
 use crate::mistakes::{Place, tell_end, tell_refused};
 use crate::play::{Listener, played};
 use crate::screen::Screen;
+use handouts::split;
 use line_player::{LinePlayer, LineReply};
 use line_traces::{LineTrace, put_trace, trace_line};
 use std::alloc::Global;

@@ -5,7 +5,7 @@ use clap::{ArgMatches, Command};
 use std::alloc::{AllocError, Global};
 
 /// A script is played, and it is printed what happens on its lines.
-#[derive(Debug, Drop)]
+#[derive(Drop)]
 pub struct TraceWords {
     pub file: String,
     /// Whether that is one JSON object a line.

@@ -14,7 +14,7 @@ use usertests::{Test, make};
 pub static KINDS: [&str; 4] = ["cow", "lazy", "mmap", "mixed"];
 
 /// The tests of a C program.
-#[derive(Clone, Copy, PartialEq, Eq, Debug)]
+#[derive(Clone, Copy)]
 pub struct Tests {
     pub kind: Kind,
     /// The seed of the first.

@@ -7,7 +7,7 @@ use std::alloc::{AllocError, Global};
 use usertest_rows::Kind;
 
 /// A C program that tests a kernel is written, and the scripts of its tests.
-#[derive(Debug, Drop)]
+#[derive(Drop)]
 pub struct UsertestWords {
     pub tests: Tests,
     /// The path of the program; `-` is standard output; empty: by its name.

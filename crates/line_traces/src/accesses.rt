@@ -14,7 +14,7 @@ use sv39_entry::{Access, Entry, EntryFlags, Kind, Rule, Va};
 use walk_lines::Hex;
 
 /// A rule that denies an access.
-#[derive(Clone, Copy, PartialEq, Eq, Debug, Serialize)]
+#[derive(Clone, Copy, Serialize)]
 pub struct RuleLine {
     /// Its number, 1 to 9.
     pub number: u64,
@@ -22,7 +22,7 @@ pub struct RuleLine {
 }
 
 /// A user access, and how the regions of the process decide it.
-#[derive(Clone, Copy, PartialEq, Eq, Debug, Serialize)]
+#[derive(Clone, Copy, Serialize)]
 pub struct AccessLine {
     /// `fetch`, `load` or `store`.
     pub access: &'static str,

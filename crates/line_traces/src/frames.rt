@@ -12,7 +12,7 @@ use sv39_entry::FrameNo;
 use walk_lines::Hex;
 
 /// A frame whose number of references is another after a line.
-#[derive(Clone, Copy, PartialEq, Eq, Debug, Serialize)]
+#[derive(Clone, Copy, Serialize)]
 pub struct Recount {
     /// The physical page number of the frame.
     pub frame: Hex,

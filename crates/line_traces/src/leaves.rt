@@ -14,7 +14,7 @@ use sv39_entry::{Entry, Kind, Scheme};
 use walk_lines::{Hex, LeafLine, TableEntry, table_entries};
 
 /// A leaf that a line changed: what it was and what it is; none if there was none, or is none.
-#[derive(Clone, Copy, PartialEq, Eq, Debug, Serialize)]
+#[derive(Clone, Copy, Serialize)]
 pub struct LeafChange {
     /// The first address that it maps.
     pub address: Hex,

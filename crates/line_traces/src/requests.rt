@@ -7,7 +7,7 @@ use script_language::Command;
 use sv39_entry::{Access, Mode, Scheme, Va};
 
 /// An access that a line makes, or a fill.
-#[derive(Clone, Copy, PartialEq, Eq, Debug)]
+#[derive(Clone, Copy)]
 pub struct Request {
     pub hart: usize,
     /// What is asked for; `None` for a fill.

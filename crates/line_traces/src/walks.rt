@@ -14,7 +14,7 @@ use table_walk::StoredWords;
 use walk_lines::{Flags, Hex, WalkEntry, walk_entries};
 
 /// A word that a page table walk read.
-#[derive(Clone, Copy, PartialEq, Eq, Debug)]
+#[derive(Clone, Copy)]
 pub struct WalkLine {
     pub entry: WalkEntry,
     /// How many references the frame of a leaf has; `None` if the word is no leaf.

@@ -12,7 +12,7 @@ use sv39_entry::Scheme;
 use walk_lines::Hex;
 
 /// Where a hart is, and what its satp names.
-#[derive(Clone, Copy, PartialEq, Eq, Debug, Serialize)]
+#[derive(Clone, Copy, Serialize, PartialEq, Eq)]
 pub struct HartPlace {
     pub hart: usize,
     /// The name of its phase between user mode and kernel.

@@ -8,7 +8,7 @@ use sv39_entry::{PAGE_SIZE, Rights};
 use walk_lines::Hex;
 
 /// A region of a process.
-#[derive(Clone, Copy, PartialEq, Eq, Debug, Serialize)]
+#[derive(Clone, Copy, Serialize)]
 pub struct RegionLine {
     /// `segment`, `guard`, `stack`, `heap`, `shared mapping` or `private mapping`.
     pub kind: &'static str,

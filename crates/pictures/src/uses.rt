@@ -9,14 +9,14 @@ use sv39_entry::{Entry, FrameNo, Kind, Scheme};
 use walk_lines::{TableEntry, table_entries};
 
 /// What the page tables of a process have in a frame.
-#[derive(Clone, Copy, PartialEq, Eq, Debug)]
+#[derive(Clone, Copy)]
 pub struct FrameUse {
     pub slot: usize,
     pub holds: Holds,
 }
 
 /// What is in a frame.
-#[derive(Clone, Copy, PartialEq, Eq, Debug)]
+#[derive(Clone, Copy)]
 pub enum Holds {
     /// The root of the page tables.
     Root,

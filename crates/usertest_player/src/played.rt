@@ -14,7 +14,7 @@ use usertest_rows::{Expected, Life, Line};
 use usertest_text::{TextFault, put_lives};
 
 /// Why a test cannot be written.
-#[derive(Debug, Drop)]
+#[derive(Drop)]
 pub enum PlayFault {
     /// The host is out of memory.
     Memory,
@@ -83,7 +83,7 @@ fn difference(
 ///
 /// # Errors
 /// `Differs`: of the first answer that is another. `Memory`: the host is out of memory.
-fn compare(alloc: Global, lines: &[Line], answers: &[Vec<u8>]) -> Result<(), PlayFault> {
+pub fn compare(alloc: Global, lines: &[Line], answers: &[Vec<u8>]) -> Result<(), PlayFault> {
     let mut number = 0usize;
     'lines: for (line, answer) in lines.iter().zip(answers) {
         number = number.saturating_add(1);
@@ -92,6 +92,18 @@ fn compare(alloc: Global, lines: &[Line], answers: &[Vec<u8>]) -> Result<(), Pla
         }
     }
     Ok(())
+}
+
+/// Plays the lines of a script, and returns the machine's answers, one for each; it is empty if there is none.
+///
+/// # Errors
+/// `Differs`: the machine answers a line otherwise than the generator predicts. `Memory`: the host is out of memory.
+pub fn predicted_answers(alloc: Global, lines: &[Line]) -> Result<Vec<Vec<u8>>, PlayFault>
+    ensures answers { IfOk result (λ answers. map (λ it. it.items) answers.items ≡ answers_of nothing_played (script_bytes lines.now)) }
+{
+    let answers = play(alloc, lines)?;
+    compare(alloc, lines, answers.as_slice())?;
+    Ok(answers)
 }
 
 /// Plays the lines of a test's script, and appends the functions of its C program. What their rows expect is what the machine answered.
@@ -106,8 +118,7 @@ pub fn put_test(
 ) -> Result<(), PlayFault>
     ensures table { IfOk result (λ _. out.new.items ≡ out.old.items ++ table_text (answers_of nothing_played (script_bytes lines.now)) lives.now) }
 {
-    let answers = play(alloc, lines)?;
-    compare(alloc, lines, answers.as_slice())?;
+    let answers = predicted_answers(alloc, lines)?;
     match put_lives(alloc, out, answers.as_slice(), lives) {
         Ok(()) => Ok(()),
         Err(TextFault::Memory) => Err(PlayFault::Memory),

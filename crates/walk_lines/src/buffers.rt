@@ -11,7 +11,7 @@ use std::fmt;
 use sv39_entry::Entry;
 
 /// A leaf, by its flags and the page to which it leads.
-#[derive(Clone, Copy, Serialize)]
+#[derive(Clone, Copy, Serialize, PartialEq, Eq)]
 pub struct LeafLine {
     /// Its level: 0 for a page of 4,096 bytes, 1 to 3 for superpages.
     pub level: u32,
@@ -36,7 +36,7 @@ impl LeafLine {
 }
 
 /// An entry of a hart's TLB.
-#[derive(Clone, Copy, Serialize)]
+#[derive(Clone, Copy, Serialize, PartialEq, Eq)]
 pub struct BufferLine {
     /// Its number: 0 is the oldest.
     pub number: usize,

@@ -19,7 +19,7 @@ fn letter(word: u64, bit: u32, letter: &'static str) -> &'static str
 
 /// The flags of a page table entry, printed by letters: `VRWXUGADC`, with a dash for each that is clear. C is bit 8, by which the
 /// kernel marks copy-on-write. JSON has them as this text.
-#[derive(Clone, Copy)]
+#[derive(Clone, Copy, PartialEq, Eq)]
 pub struct Flags(pub u64);
 
 impl fmt::Display for Flags {

@@ -1,6 +1,6 @@
 /* xv6vm.h: page-table walks of RISC-V Sv39 and Sv48, a TLB of whole walks, a judge of what the standard permits given a hart's history, and
    the scripts of xv6vm, for C. Each call is proved to do what its
-   comment says; nothing checks the caller. x86-64 Linux. Link libxv6vm_c.a; xv6vm_play alone needs other archives.
+   comment says; nothing checks the caller. x86-64 Linux. Link libxv6vm; in a clone libxv6vm_c.a, and for xv6vm_play other archives.
 
    For all calls:
    - `words`, `count`: the physical memory that a call may read, 64-bit words in the host's byte order (little-endian), those of the

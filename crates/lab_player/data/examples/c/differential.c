@@ -1,12 +1,11 @@
 /* Compares the MMU of a toy emulator with xv6vm_translate on random page tables. At the first difference it clears all bits of the
    memory and the address that the difference does without, and prints what is left. To test another MMU, replace toy_has,
-   toy_fault and toy_translate: docs/C_LIBRARY.md says how. At the top of the repository:
+   toy_fault and toy_translate: docs/C_LIBRARY.md says how. With a release:
 
-     (cd crates/xv6vm_c && rt lib)
-     gcc -O2 -I crates/xv6vm_c/include examples/c/differential.c crates/xv6vm_c/out/libxv6vm_c.a -o differential
+     gcc -O2 examples/c/differential.c $(pkg-config --cflags --libs xv6vm) -o differential
      ./differential
 
-   What it prints is at the end of this file. */
+   docs/C_LIBRARY.md says how in a clone. What it prints is at the end of this file. */
 #include "xv6vm.h"
 #include <inttypes.h>
 #include <stdio.h>

@@ -1,12 +1,10 @@
-/* Plays a script as `xv6vm play` does, without a program beside yours: reads FILE, prints its text, or the line at fault. At the
-   top of the repository:
+/* Plays a script as `xv6vm play` does, without a program beside yours: reads FILE, prints its text, or the line at fault. With a
+   release:
 
-     (cd crates/xv6vm_play_c && rt lib)
-     gcc -I crates/xv6vm_c/include examples/c/play.c crates/xv6vm_play_c/out/libxv6vm_play_c.a \
-         "$(dirname "$(rt doc)")/c/liblibc_c.a" -o play
+     gcc examples/c/play.c $(pkg-config --cflags --libs xv6vm) -o play
      ./play examples/c/store_and_load.script
 
-   What it prints of that script is at the end of this file. */
+   docs/C_LIBRARY.md says how in a clone. What it prints of that script is at the end of this file. */
 #include "xv6vm.h"
 #include <inttypes.h>
 #include <stdio.h>

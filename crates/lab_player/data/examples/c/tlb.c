@@ -1,12 +1,11 @@
 /* Asks of each load of a toy emulator with a TLB whether its outcome is the walk's or one by an entry that the fences left. The
    toy's fence with an address removes the entry of one page; it should remove those of all pages of the superpage that holds the
-   address. At the top of the repository:
+   address. With a release:
 
-     (cd crates/xv6vm_c && rt lib)
-     gcc -I crates/xv6vm_c/include examples/c/tlb.c crates/xv6vm_c/out/libxv6vm_c.a -o tlb
+     gcc examples/c/tlb.c $(pkg-config --cflags --libs xv6vm) -o tlb
      ./tlb
 
-   What it prints is at the end of this file. */
+   docs/C_LIBRARY.md says how in a clone. What it prints is at the end of this file. */
 #include "xv6vm.h"
 #include <inttypes.h>
 #include <stdio.h>

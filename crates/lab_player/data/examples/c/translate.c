@@ -1,10 +1,9 @@
-/* Translates three accesses by a page table of Sv39 in an array. At the top of the repository:
+/* Translates three accesses by a page table of Sv39 in an array. With a release:
 
-     (cd crates/xv6vm_c && rt lib)
-     gcc -I crates/xv6vm_c/include examples/c/translate.c crates/xv6vm_c/out/libxv6vm_c.a -o translate
+     gcc examples/c/translate.c $(pkg-config --cflags --libs xv6vm) -o translate
      ./translate
 
-   What it prints is at the end of this file. */
+   docs/C_LIBRARY.md says how in a clone. What it prints is at the end of this file. */
 #include "xv6vm.h"
 #include <inttypes.h>
 #include <stdio.h>

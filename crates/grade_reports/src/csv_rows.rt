@@ -1,0 +1,74 @@
+// `csv_row`: a graded file as a row of CSV (RFC 4180, with line feeds alone); `csv_head`: the names of its fields.
+
+use crate::file_grade::FileGrade;
+use crate::table::notes_of;
+use csv::{ByteRecord, WriterBuilder};
+use std::alloc::{AllocError, Global};
+
+/// The names of the fields.
+const HEAD: &str =
+    "file,id,status,lines,kept,changed,missing,added,blanks,right,first_wrong_line,notes\n";
+
+/// Returns the row of names.
+pub fn csv_head() -> &'static str {
+    HEAD
+}
+
+/// Returns a row of these fields.
+///
+/// # Errors
+/// `AllocError`: the host is out of memory. A writer to memory fails by nothing else.
+fn row_of(alloc: Global, fields: &ByteRecord) -> Result<Vec<u8>, AllocError> {
+    let mut writer = WriterBuilder::new().from_writer(Vec::new(alloc));
+    if writer.write_byte_record(fields).is_err() {
+        return Err(AllocError);
+    }
+    match writer.into_inner() {
+        Ok(row) => Ok(row),
+        Err(_) => Err(AllocError),
+    }
+}
+
+/// Adds a field with a number.
+fn push_number(alloc: Global, fields: &mut ByteRecord, number: usize) -> Result<(), AllocError> {
+    fields.push_field(format!(in alloc; "{number}")?.as_bytes())
+}
+
+/// Adds the fields with what was kept of the handout, and with the blanks.
+fn push_counts(
+    alloc: Global,
+    fields: &mut ByteRecord,
+    grade: &FileGrade,
+) -> Result<(), AllocError> {
+    push_number(alloc, fields, grade.lines())?;
+    push_number(alloc, fields, grade.kept)?;
+    push_number(alloc, fields, grade.changed)?;
+    push_number(alloc, fields, grade.missing)?;
+    push_number(alloc, fields, grade.added)?;
+    push_number(alloc, fields, grade.blanks.len())?;
+    push_number(alloc, fields, grade.right)
+}
+
+/// Returns a graded file as a row, with its line feed.
+///
+/// # Errors
+/// `AllocError`: the host is out of memory.
+pub fn csv_row(alloc: Global, grade: &FileGrade) -> Result<Vec<u8>, AllocError> {
+    let mut fields = ByteRecord::new(alloc);
+    fields.push_field(grade.file.as_bytes())?;
+    match &grade.id {
+        Some(id) => fields.push_field(id.as_bytes())?,
+        None => fields.push_field(b"")?,
+    }
+    fields.push_field(grade.standing.name().as_bytes())?;
+    push_counts(alloc, &mut fields, grade)?;
+    match grade.first_wrong() {
+        Some(blank) => {
+            let line = blank.line;
+            fields.push_field(format!(in alloc; "{line}")?.as_bytes())?;
+        }
+        None => fields.push_field(b"")?,
+    }
+    fields.push_field(notes_of(alloc, grade)?.as_bytes())?;
+    row_of(alloc, &fields)
+}

@@ -1,0 +1,156 @@
+// `FileObject`, a graded file as it is in JSON; `ResultsObject`, one as Gradescope takes it: the file `results.json` of an autograder.
+
+use crate::file_grade::{BlankText, FileGrade};
+use crate::table::notes_of;
+use handouts::Mark;
+use serde::Serialize;
+use std::alloc::{AllocError, Global};
+
+/// What a student has at a blank.
+#[derive(Serialize, Drop)]
+pub struct MarkObject {
+    /// The number of its line in the handout, from 1.
+    pub line: usize,
+    /// `"right"`, `"open"`, `"wrong"`, `"changed"` or `"gone"`.
+    pub mark: &'static str,
+    /// Why it is not right, a text; left out if it is.
+    #[serde(skip_serializing_if = "Option::is_none")]
+    pub reason: Option<String>,
+}
+
+/// A graded file: one object, on a line of its own.
+#[derive(Serialize, Drop)]
+pub struct FileObject {
+    pub file: String,
+    /// The student's id, if the handout was made for it.
+    #[serde(skip_serializing_if = "Option::is_none")]
+    pub id: Option<String>,
+    /// The id that the file names, if it is another.
+    #[serde(skip_serializing_if = "Option::is_none")]
+    pub made_for: Option<String>,
+    /// `"graded"`, `"truncated"`, `"empty"`, `"missing"`, `"unreadable"`, `"too long"` or `"binary"`.
+    pub status: &'static str,
+    /// How many lines the handout has.
+    pub lines: usize,
+    pub kept: usize,
+    pub changed: usize,
+    pub missing: usize,
+    pub added: usize,
+    /// How many blanks the handout has.
+    pub blanks: usize,
+    pub right: usize,
+    /// The blanks, in the order of the handout.
+    pub marks: Vec<MarkObject>,
+}
+
+/// A blank as a test of Gradescope.
+#[derive(Serialize, Drop)]
+pub struct TestObject {
+    pub name: String,
+    pub score: u32,
+    pub max_score: u32,
+    pub output: String,
+    pub visibility: &'static str,
+}
+
+/// The results of a file, as Gradescope takes them.
+#[derive(Serialize, Drop)]
+pub struct ResultsObject {
+    pub score: usize,
+    pub output: String,
+    pub tests: Vec<TestObject>,
+}
+
+/// Returns what a mark is called.
+fn mark_name(mark: Mark) -> &'static str {
+    match mark {
+        Mark::Right => "right",
+        Mark::Open => "open",
+        Mark::Wrong => "wrong",
+        Mark::Changed => "changed",
+        Mark::Gone => "gone",
+    }
+}
+
+/// Returns a text again, if there is one.
+fn again(alloc: Global, text: &Option<String>) -> Result<Option<String>, AllocError> {
+    match text {
+        Some(text) => Ok(Some(String::from_str(alloc, text.as_str())?)),
+        None => Ok(None),
+    }
+}
+
+impl FileObject {
+    /// Returns a graded file as it is in JSON.
+    ///
+    /// # Errors
+    /// `AllocError`: the host is out of memory.
+    pub fn of(alloc: Global, grade: &FileGrade) -> Result<FileObject, AllocError> {
+        let mut marks = Vec::new(alloc);
+        'blanks: for blank in &grade.blanks {
+            marks.push(MarkObject {
+                line: blank.line,
+                mark: mark_name(blank.mark),
+                reason: again(alloc, &blank.reason)?,
+            })?;
+        }
+        Ok(FileObject {
+            file: String::from_str(alloc, grade.file.as_str())?,
+            id: again(alloc, &grade.id)?,
+            made_for: again(alloc, &grade.other_id)?,
+            status: grade.standing.name(),
+            lines: grade.lines(),
+            kept: grade.kept,
+            changed: grade.changed,
+            missing: grade.missing,
+            added: grade.added,
+            blanks: grade.blanks.len(),
+            right: grade.right,
+            marks,
+        })
+    }
+}
+
+/// Returns a blank as a test of one point.
+fn test_of(alloc: Global, blank: &BlankText) -> Result<TestObject, AllocError> {
+    let (line, bare) = (blank.line, blank.bare.as_str());
+    let output = match &blank.reason {
+        Some(reason) => String::from_str(alloc, reason.as_str())?,
+        None => String::from_str(alloc, "right")?,
+    };
+    Ok(TestObject {
+        name: format!(in alloc; "line {line}: {bare}")?,
+        score: u32::from(blank.reason.is_none()),
+        max_score: 1,
+        output,
+        visibility: "visible",
+    })
+}
+
+impl ResultsObject {
+    /// Returns a graded file as Gradescope takes it: each blank is a test of one point.
+    ///
+    /// # Errors
+    /// `AllocError`: the host is out of memory.
+    pub fn of(alloc: Global, grade: &FileGrade) -> Result<ResultsObject, AllocError> {
+        let mut tests = Vec::new(alloc);
+        'blanks: for blank in &grade.blanks {
+            tests.push(test_of(alloc, blank)?)?;
+        }
+        let (kept, lines) = (grade.kept, grade.lines());
+        let (right, blanks) = (grade.right, grade.blanks.len());
+        let mut output = format!(in alloc;
+            "{right} of {blanks} blanks, {kept} of {lines} lines kept"
+        )?;
+        let notes = notes_of(alloc, grade)?;
+        if !notes.is_empty() {
+            output.push_str("; ")?;
+            output.push_str(notes.as_str())?;
+        }
+        Ok(ResultsObject {
+            score: grade.right,
+            output,
+            tests,
+        })
+    }
+}

@@ -1,0 +1,7 @@
+use Rattle.std.proofs.Common.{◌≡◌}
+use Rattle.std.specs.Prelude.{vec_len}
+use Rattle.handouts.proofs.alignment.align.Given as goal
+
+-- one for each line so far
+abbrev pub invariant-lines : goal.invariant-lines
+invariant-lines l = vec_len l.found ≡ l.number

@@ -1,0 +1,3 @@
+pub mod Expected
+pub mod Lines
+pub mod Marks

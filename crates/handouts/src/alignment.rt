@@ -1,0 +1,166 @@
+// `align`: finds the lines of a handout in a student's file, as many as can be found in order. `Found`, an enum: where one is.
+
+ghost use Rattle.std.specs.Prelude.{◌≡◌, IfOk, length, vec_len};
+
+use crate::lines::Line;
+use crate::marks::Asked;
+use crate::same::is_kept;
+use std::alloc::{AllocError, Global};
+
+/// Where a line of the handout is in a student's file, by the number of a line there, from 0.
+#[derive(Clone, Copy)]
+pub enum Found {
+    /// This line is it.
+    Kept(usize),
+    /// This line stands in its place.
+    Changed(usize),
+    Missing,
+}
+
+/// For the last `a` lines of a handout and the last `b` of a file, at `[a][b]`: how many lines of the handout can be found in order.
+#[derive(Drop)]
+struct Table {
+    rows: Vec<Vec<u16>>,
+}
+
+impl Table {
+    /// Returns how many of the last lines of the handout can be found in so many last lines of the file.
+    fn at(&self, handout: usize, student: usize) -> u16 {
+        match self.rows.get(handout) {
+            Some(row) => match row.get(student) {
+                Some(most) => *most,
+                None => 0,
+            },
+            None => 0,
+        }
+    }
+}
+
+/// Returns the row of one line more of the handout.
+fn next_row(
+    alloc: Global,
+    asked: &Asked,
+    student: &[Line],
+    above: &[u16],
+) -> Result<Vec<u16>, AllocError> {
+    let mut row = Vec::with_capacity(alloc, above.len())?;
+    let (mut left, mut corner) = (0u16, 0u16);
+    row.push(0)?;
+    'lines: for (written, up) in student.iter().rev().zip(above.iter().skip(1)) {
+        let most = if is_kept(&asked.line, written) {
+            corner.saturating_add(1)
+        } else {
+            left.max(*up)
+        };
+        row.push(most)?;
+        left = most;
+        corner = *up;
+    }
+    Ok(row)
+}
+
+/// Returns the row of no line of the handout.
+fn first_row(alloc: Global, student: &[Line]) -> Result<Vec<u16>, AllocError> {
+    let mut row = Vec::new(alloc);
+    row.push(0)?;
+    'lines: for _ in student {
+        row.push(0)?;
+    }
+    Ok(row)
+}
+
+/// Returns how many lines can be found, for all ends of both.
+fn table_of(alloc: Global, handout: &[Asked], student: &[Line]) -> Result<Table, AllocError> {
+    let mut rows = Vec::new(alloc);
+    rows.push(first_row(alloc, student)?)?;
+    'lines: for asked in handout.iter().rev() {
+        let above = match rows.last() {
+            Some(above) => above.as_slice(),
+            None => &[],
+        };
+        let row = next_row(alloc, asked, student, above)?;
+        rows.push(row)?;
+    }
+    Ok(Table { rows })
+}
+
+/// Returns the first line of the file, from `next` on, that is the handout's and leaves as many lines to be found as can be; `after` is how
+/// many lines of the handout come after this one.
+fn place_of(
+    table: &Table,
+    asked: &Asked,
+    after: usize,
+    student: &[Line],
+    next: usize,
+) -> Option<usize> {
+    let most = table.at(after.saturating_add(1), student.len().saturating_sub(next));
+    'lines: for (place, written) in student.iter().enumerate().skip(next) {
+        let rest = table.at(after, student.len().saturating_sub(place).saturating_sub(1));
+        if rest.saturating_add(1) < most {
+            return None;
+        }
+        if rest.saturating_add(1) == most && is_kept(&asked.line, written) {
+            return Some(place);
+        }
+    }
+    None
+}
+
+/// Returns for each line of the handout the line of the file that is it, if one is.
+fn places_of(
+    alloc: Global,
+    handout: &[Asked],
+    student: &[Line],
+) -> Result<Vec<Option<usize>>, AllocError>
+    ensures { IfOk result (λ v. vec_len v ≡ length handout.now) }
+{
+    let table = table_of(alloc, handout, student)?;
+    let mut places = Vec::new(alloc);
+    let mut next = 0usize;
+    'lines: for (number, asked) in handout.iter().enumerate() {
+        let after = handout.len().saturating_sub(number).saturating_sub(1);
+        let place = place_of(&table, asked, after, student, next);
+        if let Some(place) = place {
+            next = place.saturating_add(1);
+        }
+        places.push(place)?;
+    }
+    Ok(places)
+}
+
+/// Returns the first of some places, or `end` if there is none.
+fn first_place(places: &[Option<usize>], end: usize) -> usize {
+    'places: for place in places {
+        if let Some(place) = place {
+            return *place;
+        }
+    }
+    end
+}
+
+/// Finds each line of the handout in a student's file. As many as can be are kept, in order. Between two that are kept, the lines of the
+/// handout that are not, and those of the file, stand in one another's place one by one.
+///
+/// # Errors
+/// `AllocError`: the host is out of memory.
+pub fn align(alloc: Global, handout: &[Asked], student: &[Line]) -> Result<Vec<Found>, AllocError>
+    ensures { IfOk result (λ v. vec_len v ≡ length handout.now) }
+{
+    let places = places_of(alloc, handout, student)?;
+    let mut found = Vec::new(alloc);
+    let mut next = 0usize;
+    'lines: for (number, place) in places.iter().enumerate() {
+        let rest = places.get(number..).unwrap_or(&[]);
+        let one = match place {
+            Some(place) => Found::Kept(*place),
+            None if next < first_place(rest, student.len()) => Found::Changed(next),
+            None => Found::Missing,
+        };
+        next = match one {
+            Found::Kept(place) | Found::Changed(place) => place.saturating_add(1),
+            Found::Missing => next,
+        };
+        found.push(one)?;
+    }
+    Ok(found)
+}

@@ -1,0 +1,326 @@
+// `form_of`: the parts of an answer, by the word of its line and its own; `Part`, an enum: one of them, and what it is called.
+
+/// A part of an answer after its word, and what it is called.
+#[derive(Clone, Copy)]
+pub enum Part {
+    /// This very text.
+    Text(&'static str),
+    /// Decimal digits.
+    Decimal(&'static str),
+    /// `0x` and hexadecimal digits.
+    Hexadecimal(&'static str),
+    /// Decimal digits, `-` before them if it is negative.
+    Signed(&'static str),
+    /// Letters and digits.
+    Name(&'static str),
+    /// Two hexadecimal digits a byte; `-` is none.
+    Bytes(&'static str),
+}
+
+/// A line's word, and the words of its answers.
+#[derive(Clone, Copy)]
+struct Row {
+    word: &'static str,
+    answers: &'static str,
+}
+
+/// The words of the answers to each line, as docs/SCRIPTS.md has them.
+static ROWS: [Row; 25] = [
+    Row {
+        word: "boot",
+        answers: "ok",
+    },
+    Row {
+        word: "start",
+        answers: "slot refused",
+    },
+    Row {
+        word: "on",
+        answers: "ok refused",
+    },
+    Row {
+        word: "switch",
+        answers: "ok refused",
+    },
+    Row {
+        word: "enter",
+        answers: "ok refused",
+    },
+    Row {
+        word: "leave",
+        answers: "ok refused",
+    },
+    Row {
+        word: "fix",
+        answers: "ready ended refused",
+    },
+    Row {
+        word: "trap",
+        answers: "ok refused",
+    },
+    Row {
+        word: "next",
+        answers: "ok refused",
+    },
+    Row {
+        word: "serve",
+        answers: "ready ended refused",
+    },
+    Row {
+        word: "fetch",
+        answers: "value fault refused",
+    },
+    Row {
+        word: "load",
+        answers: "value fault refused",
+    },
+    Row {
+        word: "store",
+        answers: "stored fault refused",
+    },
+    Row {
+        word: "fill",
+        answers: "entry nothing refused",
+    },
+    Row {
+        word: "evict",
+        answers: "ok refused",
+    },
+    Row {
+        word: "tramp",
+        answers: "frame fault refused",
+    },
+    Row {
+        word: "fork",
+        answers: "slot refused",
+    },
+    Row {
+        word: "exec",
+        answers: "ok refused",
+    },
+    Row {
+        word: "sbrk",
+        answers: "old refused",
+    },
+    Row {
+        word: "mmap",
+        answers: "at refused",
+    },
+    Row {
+        word: "munmap",
+        answers: "ok refused",
+    },
+    Row {
+        word: "copyin",
+        answers: "copied short refused",
+    },
+    Row {
+        word: "copyout",
+        answers: "copied short refused",
+    },
+    Row {
+        word: "exit",
+        answers: "exited refused",
+    },
+    Row {
+        word: "show",
+        answers: "file",
+    },
+];
+
+static SLOT: [Part; 1] = [Part::Decimal("slot")];
+
+static CAUSE: [Part; 1] = [Part::Decimal("cause")];
+
+static ENTRY: [Part; 1] = [Part::Decimal("entry")];
+
+static FRAME: [Part; 1] = [Part::Decimal("frame")];
+
+static VALUE: [Part; 1] = [Part::Hexadecimal("value")];
+
+static SIZE: [Part; 1] = [Part::Hexadecimal("size")];
+
+static ADDRESS: [Part; 1] = [Part::Hexadecimal("address")];
+
+static STATUS: [Part; 1] = [Part::Signed("status")];
+
+static RULE: [Part; 2] = [Part::Decimal("rule"), Part::Name("rule")];
+
+static REFUSAL: [Part; 2] = [Part::Decimal("refusal"), Part::Name("refusal")];
+
+static DETAIL: [Part; 3] = [
+    Part::Decimal("refusal"),
+    Part::Name("refusal"),
+    Part::Name("detail"),
+];
+
+static LENGTH: [Part; 1] = [Part::Decimal("length")];
+
+static BYTES: [Part; 2] = [Part::Decimal("length"), Part::Bytes("bytes")];
+
+static SHORT: [Part; 4] = [
+    Part::Decimal("rule"),
+    Part::Name("rule"),
+    Part::Text("done"),
+    Part::Decimal("length"),
+];
+
+static SHORT_BYTES: [Part; 5] = [
+    Part::Decimal("rule"),
+    Part::Name("rule"),
+    Part::Text("done"),
+    Part::Decimal("length"),
+    Part::Bytes("bytes"),
+];
+
+static COUNTS: [Part; 7] = [
+    Part::Decimal("free"),
+    Part::Text("held"),
+    Part::Decimal("held"),
+    Part::Text("shared"),
+    Part::Decimal("shared"),
+    Part::Text("references"),
+    Part::Decimal("references"),
+];
+
+/// Whether a word is one of some words with a blank between each two.
+fn has_word(words: &str, word: &str) -> bool {
+    'words: for one in words.split(' ') {
+        if one == word {
+            return true;
+        }
+    }
+    false
+}
+
+/// Whether lines of a word can have answers that begin with another.
+fn has_answer(line: &str, word: &str) -> bool {
+    if line == "audit" {
+        return word == "free";
+    }
+    'rows: for row in ROWS.as_slice() {
+        if row.word == line {
+            return has_word(row.answers, word);
+        }
+    }
+    false
+}
+
+/// Returns the parts of a refusal that has so many.
+fn refusal_of(count: usize) -> &'static [Part] {
+    if count > 2 {
+        DETAIL.as_slice()
+    } else {
+        REFUSAL.as_slice()
+    }
+}
+
+/// Returns the parts of the answer `copied`: with the bytes, if the line is `copyin`.
+fn copied_of(line: &str) -> &'static [Part] {
+    if line == "copyin" {
+        BYTES.as_slice()
+    } else {
+        LENGTH.as_slice()
+    }
+}
+
+/// Returns the parts of the answer `short`: with the bytes, if the line is `copyin`.
+fn short_of(line: &str) -> &'static [Part] {
+    if line == "copyin" {
+        SHORT_BYTES.as_slice()
+    } else {
+        SHORT.as_slice()
+    }
+}
+
+/// Returns the parts of an answer that has so many, by its word and that of its line; `None` if such a line has no such answer.
+pub fn form_of(line: &str, word: &str, count: usize) -> Option<&'static [Part]> {
+    if !has_answer(line, word) {
+        return None;
+    }
+    match word {
+        "ok" | "stored" | "ready" | "nothing" => Some(&[]),
+        "slot" => Some(SLOT.as_slice()),
+        "fault" => Some(CAUSE.as_slice()),
+        "entry" => Some(ENTRY.as_slice()),
+        "frame" => Some(FRAME.as_slice()),
+        "value" => Some(VALUE.as_slice()),
+        "old" => Some(SIZE.as_slice()),
+        "at" => Some(ADDRESS.as_slice()),
+        "exited" => Some(STATUS.as_slice()),
+        "ended" => Some(RULE.as_slice()),
+        "refused" => Some(refusal_of(count)),
+        "copied" => Some(copied_of(line)),
+        "short" => Some(short_of(line)),
+        "file" => Some(BYTES.as_slice()),
+        _ => Some(COUNTS.as_slice()),
+    }
+}
+
+/// Whether a text is a number in decimal digits, without zeros before it.
+fn is_decimal(text: &str) -> bool {
+    match text.as_bytes() {
+        [b'0'] => true,
+        [b'1'..=b'9', rest @ ..] => rest.iter().all(|digit| digit.is_ascii_digit()),
+        _ => false,
+    }
+}
+
+/// Whether a byte is a hexadecimal digit in lower case.
+fn is_hex(digit: u8) -> bool {
+    matches!(digit, b'0'..=b'9' | b'a'..=b'f')
+}
+
+/// Whether a text is `0x` and a number in hexadecimal digits, without zeros before it.
+fn is_hexadecimal(text: &str) -> bool {
+    match text.as_bytes() {
+        [b'0', b'x', b'0'] => true,
+        [b'0', b'x', b'0', ..] => false,
+        [b'0', b'x', first, rest @ ..] => is_hex(*first) && rest.iter().all(|digit| is_hex(*digit)),
+        _ => false,
+    }
+}
+
+/// Whether a text is bytes in hexadecimal digits, or `-`.
+fn is_bytes(text: &str) -> bool {
+    let digits = text.as_bytes();
+    text == "-"
+        || (!digits.is_empty()
+            && digits.len() % 2 == 0
+            && digits.iter().all(|digit| is_hex(*digit)))
+}
+
+impl Part {
+    /// Whether a text has the form of this part.
+    pub fn fits(self, text: &str) -> bool {
+        match self {
+            Part::Text(own) => text == own,
+            Part::Decimal(_) => is_decimal(text),
+            Part::Hexadecimal(_) => is_hexadecimal(text),
+            Part::Signed(_) => match text.strip_prefix('-') {
+                Some(digits) => digits != "0" && is_decimal(digits),
+                None => is_decimal(text),
+            },
+            Part::Name(_) => {
+                !text.is_empty()
+                    && text
+                        .as_bytes()
+                        .iter()
+                        .all(|byte| byte.is_ascii_alphanumeric())
+            }
+            Part::Bytes(_) => is_bytes(text),
+        }
+    }
+
+    /// Returns what the part is called.
+    pub fn name(self) -> &'static str {
+        match self {
+            Part::Text(name)
+            | Part::Decimal(name)
+            | Part::Hexadecimal(name)
+            | Part::Signed(name)
+            | Part::Name(name)
+            | Part::Bytes(name) => name,
+        }
+    }
+}

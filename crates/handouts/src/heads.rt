@@ -1,0 +1,52 @@
+// `Head`, a struct: the comment by which a variant of a handout names its student.
+
+use memchr::memmem;
+
+/// What comes before and after a student's id in the comment that names it.
+#[derive(Clone, Copy)]
+pub struct Head<'a> {
+    before: &'a [u8],
+    after: &'a [u8],
+}
+
+/// Whether a line is a comment.
+fn is_comment(line: &[u8]) -> bool {
+    line.starts_with(b"#")
+}
+
+impl<'a> Head<'a> {
+    /// Returns the head of a variant that was made for an id: the first comment that names it.
+    pub fn of(handout: &'a [u8], id: &[u8]) -> Option<Head<'a>> {
+        'lines: for line in handout.split(|byte| *byte == b'\n') {
+            let line = line.trim_ascii();
+            if !is_comment(line) {
+                continue;
+            }
+            if let Some(at) = memmem::find(line, id) {
+                return Some(Head {
+                    before: line.get(..at)?,
+                    after: line.get(at.saturating_add(id.len())..)?,
+                });
+            }
+        }
+        None
+    }
+
+    /// Returns the id that a comment names, if it is of this form.
+    fn id_in<'b>(&self, line: &'b [u8]) -> Option<&'b [u8]> {
+        if !is_comment(line) {
+            return None;
+        }
+        line.strip_prefix(self.before)?.strip_suffix(self.after)
+    }
+
+    /// Returns the id that a file names: that of its first comment of this form.
+    pub fn id_of<'b>(&self, text: &'b [u8]) -> Option<&'b [u8]> {
+        'lines: for line in text.split(|byte| *byte == b'\n') {
+            if let Some(id) = self.id_in(line.trim_ascii()) {
+                return Some(id);
+            }
+        }
+        None
+    }
+}

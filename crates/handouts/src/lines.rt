@@ -1,0 +1,89 @@
+// `Line`, a struct: a line of a script, its answer (`Answer`, an enum) apart; `lines_of`: the lines of a file that are neither empty nor
+// comments.
+
+use crate::expected::split;
+use memchr::memmem;
+use std::alloc::{AllocError, Global};
+
+/// What a line says after its `=>`.
+#[derive(Drop)]
+pub enum Answer {
+    /// It has no `=>`.
+    Absent,
+    /// `?`, or nothing.
+    Blank,
+    /// An answer.
+    Given(Vec<u8>),
+}
+
+/// A line of a script, without the comment behind it, and without blanks around it and its answer.
+#[derive(Drop)]
+pub struct Line {
+    /// Its number in its file, from 1.
+    pub number: usize,
+    /// What comes before `=>`.
+    pub bare: Vec<u8>,
+    pub answer: Answer,
+}
+
+/// Returns a line without the comment behind it, which begins with `#` after a blank. A line that is a comment stays.
+pub fn without_comment(line: &[u8]) -> &[u8] {
+    if line.trim_ascii_start().starts_with(b"#") {
+        return line;
+    }
+    let hash = match memmem::find(line, b" #") {
+        Some(at) => Some(at),
+        None => memmem::find(line, b"\t#"),
+    };
+    match hash {
+        Some(at) => line.split_at(at.min(line.len())).0.trim_ascii_end(),
+        None => line,
+    }
+}
+
+/// Returns what a line says after its `=>`.
+fn answer_of(alloc: Global, answer: Option<&[u8]>) -> Result<Answer, AllocError> {
+    match answer {
+        None => Ok(Answer::Absent),
+        Some([] | [b'?']) => Ok(Answer::Blank),
+        Some(answer) => Ok(Answer::Given(Vec::from_slice(alloc, answer)?)),
+    }
+}
+
+/// Returns a line of a file; `None` if it is empty or a comment.
+fn line_of(alloc: Global, number: usize, text: &[u8]) -> Result<Option<Line>, AllocError> {
+    let text = without_comment(text.trim_ascii());
+    if text.is_empty() || text.starts_with(b"#") {
+        return Ok(None);
+    }
+    let given = split(text);
+    Ok(Some(Line {
+        number,
+        bare: Vec::from_slice(alloc, given.line)?,
+        answer: answer_of(alloc, given.answer)?,
+    }))
+}
+
+/// Returns a text without the byte order mark that some editors write before it.
+fn without_mark(text: &[u8]) -> &[u8] {
+    match text {
+        [0xef, 0xbb, 0xbf, rest @ ..] => rest,
+        _ => text,
+    }
+}
+
+/// Returns the lines of a file that are neither empty nor comments.
+///
+/// # Errors
+/// `AllocError`: the host is out of memory.
+pub fn lines_of(alloc: Global, text: &[u8]) -> Result<Vec<Line>, AllocError> {
+    let mut lines = Vec::new(alloc);
+    let mut number = 0usize;
+    'lines: for line in without_mark(text).split(|byte| *byte == b'\n') {
+        number = number.saturating_add(1);
+        if let Some(line) = line_of(alloc, number, line)? {
+            lines.push(line)?;
+        }
+    }
+    Ok(lines)
+}

@@ -1,0 +1,208 @@
+// `reason_of`: why an answer is wrong, without the right one (`Reason`, an enum); `put_reason`: that in words.
+
+use crate::alignment::Found;
+use crate::forms::{Part, form_of};
+use crate::lines::{Answer, Line};
+use crate::marks::{Asked, BlankMark, Mark};
+use script_reader::first_field;
+use std::alloc::{AllocError, Global};
+
+/// Why a blank does not have the machine's answer.
+#[derive(Drop)]
+pub enum Reason {
+    /// It is still `?`.
+    Open,
+    /// Another line stands in the place of the blank's.
+    Changed,
+    /// The file does not have the line.
+    Gone,
+    /// No answer to such a line has this form.
+    Form,
+    /// The machine's answer begins with another word.
+    Word,
+    /// The word is right, and these parts after it are wrong.
+    Parts(Vec<&'static str>),
+}
+
+/// Returns the word of a line; empty if it is none.
+pub fn word_of(line: &[u8]) -> &str {
+    match first_field(line) {
+        Some((word, _)) => std::str::from_utf8(word).unwrap_or(""),
+        None => "",
+    }
+}
+
+/// Splits an answer into its word and what comes after it.
+fn cut(answer: &str) -> (&str, Option<&str>) {
+    match answer.split_once(' ') {
+        Some((word, rest)) => (word, Some(rest)),
+        None => (answer, None),
+    }
+}
+
+/// Returns how many parts there are after an answer's word.
+fn part_count(rest: Option<&str>) -> usize {
+    match rest {
+        Some(rest) => {
+            let blanks = rest.as_bytes().iter().filter(|byte| **byte == b' ').count();
+            blanks.saturating_add(1)
+        }
+        None => 0,
+    }
+}
+
+/// Whether what comes after an answer's word has this form.
+fn fits(parts: &[Part], rest: Option<&str>) -> bool {
+    let Some(rest) = rest else {
+        return parts.is_empty();
+    };
+    if part_count(Some(rest)) != parts.len() {
+        return false;
+    }
+    'parts: for (part, text) in parts.iter().zip(rest.split(' ')) {
+        if !part.fits(text) {
+            return false;
+        }
+    }
+    true
+}
+
+/// Returns the names of the parts in which two answers with one word differ.
+fn wrong_parts(
+    alloc: Global,
+    parts: &[Part],
+    given: &str,
+    right: &str,
+) -> Result<Vec<&'static str>, AllocError> {
+    let mut names: Vec<&'static str> = Vec::new(alloc);
+    let mut rights = right.split(' ');
+    'parts: for (part, text) in parts.iter().zip(given.split(' ')) {
+        let is_same = match rights.next() {
+            Some(right) => right == text,
+            None => false,
+        };
+        let name = part.name();
+        let is_told = match names.last() {
+            Some(last) => *last == name,
+            None => false,
+        };
+        if !is_same && !is_told {
+            names.push(name)?;
+        }
+    }
+    if names.is_empty() {
+        names.push("detail")?;
+    }
+    Ok(names)
+}
+
+/// Returns why an answer to a line is wrong; `word` is the line's.
+fn reason_of_text(
+    alloc: Global,
+    word: &str,
+    given: &[u8],
+    right: &[u8],
+) -> Result<Reason, AllocError> {
+    let (Ok(given), Ok(right)) = (std::str::from_utf8(given), std::str::from_utf8(right)) else {
+        return Ok(Reason::Form);
+    };
+    let ((first, rest), (right_first, right_rest)) = (cut(given), cut(right));
+    let Some(parts) = form_of(word, first, part_count(rest)) else {
+        return Ok(Reason::Form);
+    };
+    if !fits(parts, rest) {
+        return Ok(Reason::Form);
+    }
+    if first != right_first {
+        return Ok(Reason::Word);
+    }
+    let names = wrong_parts(alloc, parts, rest.unwrap_or(""), right_rest.unwrap_or(""))?;
+    Ok(Reason::Parts(names))
+}
+
+/// Returns what a student answered at a line.
+fn given_at(student: &[Line], found: Found) -> &[u8] {
+    let Found::Kept(place) = found else {
+        return b"";
+    };
+    match student.get(place) {
+        Some(
+            Line {
+                answer: Answer::Given(text),
+                ..
+            },
+        ) => text.as_slice(),
+        _ => b"",
+    }
+}
+
+/// Returns why a blank does not have the machine's answer; `None` if it has.
+///
+/// # Errors
+/// `AllocError`: the host is out of memory.
+pub fn reason_of(
+    alloc: Global,
+    handout: &[Asked],
+    student: &[Line],
+    blank: BlankMark,
+) -> Result<Option<Reason>, AllocError> {
+    match blank.mark {
+        Mark::Right => Ok(None),
+        Mark::Open => Ok(Some(Reason::Open)),
+        Mark::Changed => Ok(Some(Reason::Changed)),
+        Mark::Gone => Ok(Some(Reason::Gone)),
+        Mark::Wrong => {
+            let Some(asked) = handout.get(blank.place) else {
+                return Ok(Some(Reason::Gone));
+            };
+            let word = word_of(asked.line.bare.as_slice());
+            let given = given_at(student, blank.found);
+            let reason = reason_of_text(alloc, word, given, asked.right.as_slice())?;
+            Ok(Some(reason))
+        }
+    }
+}
+
+/// Whether names name more than one thing.
+fn is_plural(names: &[&'static str]) -> bool {
+    match names {
+        [name] => *name == "bytes" || *name == "references",
+        _ => true,
+    }
+}
+
+/// Appends names, as `a, b and c`, and that they are wrong.
+fn put_names(text: &mut String, names: &[&'static str]) -> Result<(), AllocError> {
+    'names: for (number, name) in names.iter().enumerate() {
+        if number > 0 {
+            let is_last = number.saturating_add(1) == names.len();
+            text.push_str(if is_last { " and " } else { ", " })?;
+        }
+        text.push_str(name)?;
+    }
+    text.push_str(if is_plural(names) {
+        " are wrong"
+    } else {
+        " is wrong"
+    })
+}
+
+/// Appends why a blank is wrong, in words; `word` is its line's.
+///
+/// # Errors
+/// `AllocError`: the host is out of memory.
+pub fn put_reason(text: &mut String, word: &str, reason: &Reason) -> Result<(), AllocError> {
+    text.push_str(word)?;
+    text.push_str(": ")?;
+    match reason {
+        Reason::Open => text.push_str("still ?"),
+        Reason::Changed => text.push_str("the line is changed"),
+        Reason::Gone => text.push_str("the line is gone"),
+        Reason::Form => {
+            text.push_str("not the form of an answer of ")?;
+            text.push_str(word)
+        }
+        Reason::Word => text.push_str("another word than the machine's"),
+        Reason::Parts(names) => put_names(text, names.as_slice()),
+    }
+}

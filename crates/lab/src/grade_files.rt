@@ -1,0 +1,499 @@
+// `grade` of `Host`: reads what students hand in, grades it, and prints the grades.
+
+ghost use Rattle.std.specs.Prelude.{◌≡◌, IfOk, true};
+
+use crate::fault::Fault;
+use crate::grade::play_handout;
+use crate::grade_words::{Form, GradeWords, Source};
+use crate::lab::{Host, Reading};
+use crate::screen::Screen;
+use class_lists::{ListFault, Student, students_of};
+use grade_reports::{
+    FileGrade, FileObject, ResultsObject, Standing, csv_head, csv_row, put_summary, put_table,
+};
+use handouts::{Asked, Head, Line, lines_of};
+use lab_variants::Lab;
+use memchr::memchr;
+use std::alloc::{AllocError, Global};
+use std::io::Read;
+use std::rt::Files;
+use std::{fs, io};
+
+/// The most bytes that a handout, or what a student hands in, may have.
+const MOST_BYTES: usize = 1_048_576;
+
+/// The most lines that what a student hands in may have that are neither empty nor comments.
+const MOST_LINES: usize = 2000;
+
+/// An id that no variant's text has but where it names its student.
+const NO_STUDENT: &str = "zq0student0qz";
+
+/// The bytes of a file, at most so many and one more.
+#[derive(Drop)]
+struct FirstBytes {
+    bytes: Vec<u8>,
+    most: usize,
+}
+
+impl Reading for FirstBytes {
+    fn read<R: Read + Drop, S: Screen>(
+        &mut self,
+        _alloc: Global,
+        reader: R,
+        _screen: &mut S,
+    ) -> Result<(), Fault> {
+        let most = (self.most as u64).saturating_add(1);
+        let read = reader.take(most).read_to_end(&mut self.bytes);
+        match read {
+            Ok(_) => Ok(()),
+            Err(error) => Err(Fault::of_reading(error)),
+        }
+    }
+}
+
+/// What a student hands in: where it is, and for which variant.
+#[derive(Drop)]
+struct Target {
+    file: String,
+    id: Option<String>,
+}
+
+/// What was read of a file.
+#[derive(Drop)]
+struct Content {
+    standing: Standing,
+    bytes: Vec<u8>,
+    /// Whether the file was there and could be read.
+    is_read: bool,
+}
+
+impl Content {
+    /// Returns what there is of a file that cannot be graded.
+    fn nothing(alloc: Global, standing: Standing, is_read: bool) -> Content
+        ensures { result.is_read ≡ is_read }
+    {
+        Content {
+            standing,
+            bytes: Vec::new(alloc),
+            is_read,
+        }
+    }
+
+    /// Returns what there is of a file with these bytes.
+    fn of(alloc: Global, bytes: Vec<u8>) -> Content {
+        if bytes.len() > MOST_BYTES {
+            return Content::nothing(alloc, Standing::TooLong, true);
+        }
+        if memchr(0, bytes.as_slice()).is_some() {
+            return Content::nothing(alloc, Standing::Binary, true);
+        }
+        Content {
+            standing: Standing::Whole,
+            bytes,
+            is_read: true,
+        }
+    }
+
+    /// Returns its lines, none if there are too many.
+    fn lines(&mut self, alloc: Global) -> Result<Vec<Line>, AllocError>
+        ensures { self.new.is_read ≡ self.old.is_read }
+    {
+        let lines = lines_of(alloc, self.bytes.as_slice())?;
+        if lines.len() > MOST_LINES {
+            self.standing = Standing::TooLong;
+            return Ok(Vec::new(alloc));
+        }
+        Ok(lines)
+    }
+}
+
+/// Whether a path names a folder.
+fn is_folder<F: Files>(files: &F, path: &str) -> bool {
+    match files.metadata(path) {
+        Ok(metadata) => metadata.is_dir(),
+        Err(_) => false,
+    }
+}
+
+/// Returns the paths of the files in a folder, in the order of their names, but those whose names begin with a dot.
+///
+/// # Errors
+/// The folder cannot be read, or the host is out of memory.
+fn files_in<F: Files>(files: &F, alloc: Global, folder: &str) -> io::Result<Vec<String>> {
+    let folder = folder.strip_suffix('/').unwrap_or(folder);
+    let mut paths = Vec::new(alloc);
+    for entry in fs::read_dir(&(files, alloc), folder)? {
+        let entry = entry?;
+        let name = entry.file_name();
+        let path = format!(in alloc; "{folder}/{name}")?;
+        if !name.starts_with('.') && !is_folder(files, path.as_str()) {
+            paths.push(path)?;
+        }
+    }
+    paths.sort()?;
+    Ok(paths)
+}
+
+/// Appends what is handed in at a path: a file, or the files of a folder.
+///
+/// # Errors
+/// `File`: the folder cannot be read. `Memory`: the host is out of memory.
+fn add_target<F: Files>(
+    files: &F,
+    alloc: Global,
+    targets: &mut Vec<Target>,
+    path: &str,
+) -> Result<(), Fault> {
+    if path == "-" || !is_folder(files, path) {
+        let target = Target {
+            file: String::from_str(alloc, path)?,
+            id: None,
+        };
+        return Ok(targets.push(target).map_err(AllocError::from)?);
+    }
+    match files_in(files, alloc, path) {
+        Ok(paths) => {
+            for file in paths {
+                let target = Target { file, id: None };
+                targets.push(target).map_err(AllocError::from)?;
+            }
+            Ok(())
+        }
+        Err(error) => Err(Fault::File(String::from_str(alloc, path)?, error)),
+    }
+}
+
+/// Prints grades.
+fn print_grades<S: Screen>(
+    alloc: Global,
+    screen: &mut S,
+    form: Form,
+    grades: &[FileGrade],
+) -> Result<(), Fault>
+    ensures whole { IfOk result (λ _. S.whole screen.old → S.whole screen.new) }
+{
+    match form {
+        Form::Table => print_table(alloc, screen, grades),
+        Form::Csv => print_csv(alloc, screen, grades),
+        Form::Json => print_objects(alloc, screen, grades),
+        Form::Gradescope => print_results(alloc, screen, grades),
+    }
+}
+
+/// Prints grades as a table, and what is counted of all.
+fn print_table<S: Screen>(alloc: Global, screen: &mut S, grades: &[FileGrade]) -> Result<(), Fault>
+    ensures whole { IfOk result (λ _. S.whole screen.old → S.whole screen.new) }
+{
+    let mut text = String::new(alloc);
+    put_table(alloc, &mut text, grades)?;
+    put_summary(&mut text, grades)?;
+    screen.out(text.as_str())
+}
+
+/// Prints grades as CSV.
+fn print_csv<S: Screen>(alloc: Global, screen: &mut S, grades: &[FileGrade]) -> Result<(), Fault>
+    ensures whole { IfOk result (λ _. S.whole screen.old → S.whole screen.new) }
+{
+    screen.out(csv_head())?;
+    'grades: for grade in grades {
+        screen.out_bytes(csv_row(alloc, grade)?.as_slice())?;
+    }
+    Ok(())
+}
+
+/// Prints grades as JSON objects, one a line.
+fn print_objects<S: Screen>(
+    alloc: Global,
+    screen: &mut S,
+    grades: &[FileGrade],
+) -> Result<(), Fault>
+    ensures whole { IfOk result (λ _. S.whole screen.old → S.whole screen.new) }
+{
+    'grades: for grade in grades {
+        let object = FileObject::of(alloc, grade)?;
+        let mut text = serde_json::to_string(alloc, &object)?;
+        text.push_str("\n")?;
+        screen.out(text.as_str())?;
+    }
+    Ok(())
+}
+
+/// Prints the grade of the first file as Gradescope takes it.
+fn print_results<S: Screen>(
+    alloc: Global,
+    screen: &mut S,
+    grades: &[FileGrade],
+) -> Result<(), Fault>
+    ensures whole { IfOk result (λ _. S.whole screen.old → S.whole screen.new) }
+{
+    let Some(grade) = grades.first() else {
+        return Ok(());
+    };
+    let object = ResultsObject::of(alloc, grade)?;
+    let mut text = serde_json::to_string(alloc, &object)?;
+    text.push_str("\n")?;
+    screen.out(text.as_str())
+}
+
+/// Returns the id that a file names, if it is not the one that the handout names.
+fn other_id(
+    alloc: Global,
+    head: Option<Head<'_>>,
+    handout: &[u8],
+    file: &[u8],
+) -> Result<Option<String>, AllocError> {
+    let Some(head) = head else {
+        return Ok(None);
+    };
+    match (head.id_of(handout), head.id_of(file)) {
+        (Some(own), Some(other)) if own != other => {
+            Ok(Some(String::from_utf8_lossy(alloc, other)?))
+        }
+        _ => Ok(None),
+    }
+}
+
+/// What was graded so far.
+#[derive(Drop)]
+struct Grading {
+    grades: Vec<FileGrade>,
+    /// Whether each file so far was there and could be read.
+    is_whole: bool,
+}
+
+impl Grading {
+    /// Returns a grading of no file.
+    fn new(alloc: Global) -> Grading {
+        Grading {
+            grades: Vec::new(alloc),
+            is_whole: true,
+        }
+    }
+
+    /// Grades what was read of a file.
+    fn add(
+        &mut self,
+        alloc: Global,
+        handout: &[Asked],
+        target: Target,
+        mut content: Content,
+        other_id: Option<String>,
+    ) -> Result<(), AllocError>
+        ensures { IfOk result (λ _. self.new.is_whole ≡ true → (self.old.is_whole ≡ true) × (content.is_read ≡ true)) }
+    {
+        self.is_whole = self.is_whole && content.is_read;
+        let lines = content.lines(alloc)?;
+        let Target { file, id } = target;
+        let grade = FileGrade::of(alloc, file, content.standing, handout, lines.as_slice())?;
+        let grade = FileGrade {
+            id,
+            other_id,
+            ..grade
+        };
+        Ok(self.grades.push(grade)?)
+    }
+}
+
+impl<F: Files, I: Read + Drop> Host<'_, F, I> {
+    /// Returns what there is of a file.
+    ///
+    /// # Errors
+    /// `Memory`: the host is out of memory.
+    fn content<S: Screen>(&mut self, screen: &mut S, file: &str) -> Result<Content, Fault>
+        ensures whole { IfOk result (λ c. c.is_read ≡ true → S.whole screen.old → S.whole screen.new) }
+    {
+        let alloc = self.alloc;
+        let mut first = FirstBytes {
+            bytes: Vec::new(alloc),
+            most: MOST_BYTES,
+        };
+        match self.give(screen, file, &mut first) {
+            Ok(()) => Ok(Content::of(alloc, first.bytes)),
+            Err(Fault::File(_, error)) => {
+                let standing = match error.kind() {
+                    io::ErrorKind::NotFound => Standing::Missing,
+                    _ => Standing::Unreadable,
+                };
+                Ok(Content::nothing(alloc, standing, false))
+            }
+            Err(Fault::Read(_)) => Ok(Content::nothing(alloc, Standing::Unreadable, false)),
+            Err(fault) => Err(fault),
+        }
+    }
+
+    /// Returns the bytes of a handout or a list, which may have so many.
+    ///
+    /// # Errors
+    /// `File`: it cannot be opened or read. `Told`: it has too many bytes; that was told. `Memory`: the host is out of memory.
+    fn whole_file<S: Screen>(
+        &mut self,
+        screen: &mut S,
+        file: &str,
+        most: usize,
+    ) -> Result<Vec<u8>, Fault>
+        ensures whole { IfOk result (λ _. S.whole screen.old → S.whole screen.new) }
+    {
+        let alloc = self.alloc;
+        let mut first = FirstBytes {
+            bytes: Vec::new(alloc),
+            most,
+        };
+        self.give(screen, file, &mut first)?;
+        if first.bytes.len() > most {
+            screen.err(format!(in alloc; "{file}: more than {most} bytes\n")?.as_str())?;
+            return Err(Fault::Told);
+        }
+        Ok(first.bytes)
+    }
+
+    /// Returns what is handed in at some paths, and at those of a list.
+    fn targets<S: Screen>(
+        &mut self,
+        screen: &mut S,
+        paths: &[String],
+        list: Option<&str>,
+    ) -> Result<Vec<Target>, Fault>
+        ensures whole { IfOk result (λ _. S.whole screen.old → S.whole screen.new) }
+    {
+        let alloc = self.alloc;
+        let mut targets = Vec::new(alloc);
+        for path in paths {
+            add_target(self.files, alloc, &mut targets, path.as_str())?;
+        }
+        let Some(list) = list else {
+            return Ok(targets);
+        };
+        let text = self.whole_file(screen, list, 16 * MOST_BYTES)?;
+        for path in text.split(|byte| *byte == b'\n') {
+            let path = String::from_utf8_lossy(alloc, path.trim_ascii())?;
+            if !path.is_empty() {
+                add_target(self.files, alloc, &mut targets, path.as_str())?;
+            }
+        }
+        Ok(targets)
+    }
+
+    /// Grades files by one handout.
+    fn grade_all<S: Screen>(
+        &mut self,
+        screen: &mut S,
+        handout: &str,
+        targets: Vec<Target>,
+    ) -> Result<Grading, Fault>
+        ensures whole { IfOk result (λ g. g.is_whole ≡ true → S.whole screen.old → S.whole screen.new) }
+    {
+        let alloc = self.alloc;
+        let text = self.whole_file(screen, handout, MOST_BYTES)?;
+        let asked = play_handout(alloc, screen, handout, text.as_slice())?;
+        let mut grading = Grading::new(alloc);
+        'targets: for target in targets {
+            let content = self.content(screen, target.file.as_str())?;
+            grading.add(alloc, asked.as_slice(), target, content, None)?;
+        }
+        Ok(grading)
+    }
+
+    /// Returns the students of a list.
+    ///
+    /// # Errors
+    /// `File`: the list cannot be opened or read. `Told`: it is faulty; that was told. `Memory`: the host is out of memory. `Io`: printing failed.
+    fn students<S: Screen>(&mut self, screen: &mut S, list: &str) -> Result<Vec<Student>, Fault>
+        ensures whole { IfOk result (λ _. S.whole screen.old → S.whole screen.new) }
+    {
+        let alloc = self.alloc;
+        let text = self.whole_file(screen, list, 16 * MOST_BYTES)?;
+        let text = match students_of(alloc, text.as_slice()) {
+            Ok(students) => return Ok(students),
+            Err(ListFault::Memory) => return Err(Fault::Memory),
+            Err(ListFault::Columns) => format!(in alloc;
+                "{list}: the first row does not name the columns id and file\n"
+            )?,
+            Err(ListFault::NoId(row)) => format!(in alloc; "{list}: row {row} has no id\n")?,
+        };
+        screen.err(text.as_str())?;
+        Err(Fault::Told)
+    }
+
+    /// Grades what one student hands in, by the student's variant of a lab.
+    fn grade_student<S: Screen>(
+        &mut self,
+        screen: &mut S,
+        lab: Lab,
+        head: Option<Head<'_>>,
+        grading: &mut Grading,
+        student: Student,
+    ) -> Result<(), Fault>
+        ensures whole { IfOk result (λ _. grading.new.is_whole ≡ true → (grading.old.is_whole ≡ true) × (S.whole screen.old → S.whole screen.new)) }
+    {
+        let alloc = self.alloc;
+        let (id, file) = (student.id.as_str(), student.file.as_str());
+        let handout = lab_variants::handout(alloc, lab, id)?;
+        let handout = handout.as_str().as_bytes();
+        let asked = play_handout(alloc, screen, id, handout)?;
+        let content = if file.is_empty() {
+            Content::nothing(alloc, Standing::Missing, true)
+        } else {
+            self.content(screen, file)?
+        };
+        let other = other_id(alloc, head, handout, content.bytes.as_slice())?;
+        let Student { id, file } = student;
+        let target = Target { file, id: Some(id) };
+        grading.add(alloc, asked.as_slice(), target, content, other)?;
+        Ok(())
+    }
+
+    /// Grades what the students of a list hand in, each by a variant of a lab.
+    fn grade_variants<S: Screen>(
+        &mut self,
+        screen: &mut S,
+        lab: Lab,
+        list: &str,
+    ) -> Result<Grading, Fault>
+        ensures whole { IfOk result (λ g. g.is_whole ≡ true → S.whole screen.old → S.whole screen.new) }
+    {
+        let alloc = self.alloc;
+        let students = self.students(screen, list)?;
+        let sample = lab_variants::handout(alloc, lab, NO_STUDENT)?;
+        let head = Head::of(sample.as_str().as_bytes(), NO_STUDENT.as_bytes());
+        let mut grading = Grading::new(alloc);
+        'students: for student in students {
+            self.grade_student(screen, lab, head, &mut grading, student)?;
+        }
+        Ok(grading)
+    }
+
+    /// Grades what a command line names, and prints the grades.
+    ///
+    /// # Errors
+    /// `Word`: there is not one file, and results for Gradescope are to be printed. `Told`: the handout or the list is faulty; or a file is
+    /// missing or cannot be read, after all grades were printed. `File`: the handout, a list or a folder cannot be read. `Memory`: the host is
+    /// out of memory. `Io`: printing failed.
+    pub fn grade<S: Screen>(&mut self, screen: &mut S, words: &GradeWords) -> Result<(), Fault>
+        ensures whole { IfOk result (λ _. S.whole screen.old → S.whole screen.new) }
+    {
+        let alloc = self.alloc;
+        let grading = match &words.source {
+            Source::Variants(lab, list) => self.grade_variants(screen, *lab, list.as_str())?,
+            Source::Handout(handout, list) => {
+                let list = match list {
+                    Some(list) => Some(list.as_str()),
+                    None => None,
+                };
+                let targets = self.targets(screen, words.files.as_slice(), list)?;
+                self.grade_all(screen, handout.as_str(), targets)?
+            }
+        };
+        if matches!(words.form, Form::Gradescope) && grading.grades.len() != 1 {
+            return Err(Fault::Word(String::from_str(
+                alloc,
+                "--gradescope takes exactly one FILE",
+            )?));
+        }
+        print_grades(alloc, screen, words.form, grading.grades.as_slice())?;
+        if grading.is_whole {
+            Ok(())
+        } else {
+            Err(Fault::Told)
+        }
+    }
+}

@@ -1,0 +1,70 @@
+// `LabWords`: a struct, what a command line of `lab` says.
+
+use clap::{Arg, ArgAction, ArgMatches, Command};
+use lab_variants::Lab;
+use std::alloc::{AllocError, Global};
+
+/// The names of the labs, as `Lab::of_name` takes them.
+static NAMES: [&str; 6] = [
+    "page_tables",
+    "traps",
+    "lazy_growth",
+    "copy_on_write",
+    "mmap",
+    "stale_entries",
+];
+
+/// The handout of a lab is printed, or written to a new file.
+#[derive(Drop)]
+pub struct LabWords {
+    pub lab: Lab,
+    /// What its numbers follow from; those of the lab's page, if there is none.
+    pub seed: Option<String>,
+    /// The path of the file that is written; `-` is standard output.
+    pub out: String,
+}
+
+/// Returns the word `lab`.
+pub fn labs<'a>(alloc: Global) -> Result<Command<'a>, AllocError> {
+    let name = Arg::new(alloc, "NAME")
+        .required(true)
+        .action(ArgAction::Set)
+        .value_parser(NAMES.as_slice())
+        .help("The lab");
+    let seed = Arg::new(alloc, "TEXT")
+        .long("seed")
+        .action(ArgAction::Set)
+        .value_name("TEXT")
+        .help(
+            "What the numbers follow from, as the name of a student; without it they are those of the page",
+        );
+    let out = Arg::new(alloc, "OUT")
+        .short('o')
+        .long("out")
+        .action(ArgAction::Set)
+        .value_name("FILE")
+        .default_value("-")
+        .help("The file to write, which must not be there yet; - is standard output");
+    Command::new(alloc, "lab")
+        .about("Print the script of a lab, in which answers are to be filled in")
+        .arg(name)?
+        .arg(seed)?
+        .arg(out)
+}
+
+impl LabWords {
+    /// Returns what the word is told. The name of the lab was checked.
+    pub fn of(alloc: Global, given: &ArgMatches<'_>) -> Result<LabWords, AllocError> {
+        let lab = given.get_str("NAME").and_then(Lab::of_name);
+        let seed = match given.get_str("TEXT") {
+            Some(text) => Some(String::from_str(alloc, text)?),
+            None => None,
+        };
+        let out = given.get_str("OUT").unwrap_or("-");
+        Ok(LabWords {
+            lab: lab.unwrap_or(Lab::PageTables),
+            seed,
+            out: String::from_str(alloc, out)?,
+        })
+    }
+}

@@ -1,0 +1,348 @@
+// `Game`: a quiz whose script was played: the answers, what happened on each line, and which lines are asked.
+
+ghost use Rattle.std.specs.Prelude.{IfOk};
+ghost use Rattle.line_player.specs.Answers.{HasPlayed};
+ghost use Rattle.line_player.specs.PlayedLines.{Played};
+
+use crate::fault::Fault;
+use crate::play::{Listener, each_line};
+use crate::screen::Screen;
+use line_player::LinePlayer;
+use line_traces::{put_trace, trace_line};
+use mmu_lines::{MmuPlayer, put_answer};
+use pictures::{QuizQuestion, put_picture};
+use quiz_answers::{Script, choose};
+use quizzes::{Quiz, Subject, Teller, make};
+use script_reader::{first_field, number};
+use std::alloc::{AllocError, Global};
+use usertest_player::{PlayFault, compare, predicted_answers};
+use usertest_rows::Line;
+
+/// Keeps what happens on each line of a script and, if it is to be drawn, a picture of the machine after it.
+#[derive(Drop)]
+struct Seen {
+    alloc: Global,
+    draws: bool,
+    traces: Vec<String>,
+    pictures: Vec<String>,
+}
+
+impl Seen {
+    /// Returns a picture of the machine; empty if there is none, or none is drawn.
+    fn drawing(&self, player: &LinePlayer) -> Result<String, AllocError>
+        requires played { (s : Played) × HasPlayed player.now s }
+    {
+        let mut text = String::new(self.alloc);
+        if !self.draws {
+            return Ok(text);
+        }
+        if let Some(machine) = player.machine() {
+            put_picture(&mut text, machine)?;
+        }
+        Ok(text)
+    }
+}
+
+impl Listener for Seen {
+    fn line<S: Screen>(
+        &mut self,
+        _screen: &mut S,
+        player: &mut LinePlayer,
+        number: u64,
+        line: &[u8],
+    ) -> Result<(), Fault> {
+        let trace = trace_line(self.alloc, player, number, line)?;
+        let mut text = String::new(self.alloc);
+        put_trace(&mut text, &trace)?;
+        let picture = self.drawing(player)?;
+        self.traces.push(text).map_err(AllocError::from)?;
+        self.pictures.push(picture).map_err(AllocError::from)?;
+        Ok(())
+    }
+
+    fn end<S: Screen>(
+        &mut self,
+        _screen: &mut S,
+        _player: &LinePlayer,
+        _lines: u64,
+    ) -> Result<(), Fault> {
+        Ok(())
+    }
+}
+
+/// A quiz whose script was played.
+#[derive(Drop)]
+pub struct Game {
+    pub alloc: Global,
+    pub quiz: Quiz,
+    /// The answer to each line; empty if it has none.
+    answers: Vec<Vec<u8>>,
+    /// What happens on each line.
+    traces: Vec<String>,
+    /// The machine after each line; empty if there is none, or none is drawn.
+    pictures: Vec<String>,
+    /// The places of the lines that are asked, ascending.
+    pub asked: Vec<usize>,
+}
+
+/// Returns the lines of a script as its text.
+fn script_of(alloc: Global, lines: &[Line]) -> Result<String, AllocError> {
+    let mut text = String::new(alloc);
+    for line in lines {
+        text.push_str(line.text.as_str())?;
+        text.push_str("\n")?;
+    }
+    Ok(text)
+}
+
+/// Returns the answer of the reference MMU to a line.
+fn mmu_answer(alloc: Global, player: &mut MmuPlayer, line: &Line) -> Result<Vec<u8>, AllocError> {
+    let mut text = String::new(alloc);
+    if let Some(answer) = player.line(line.text.as_str().as_bytes())? {
+        put_answer(&mut text, &answer)?;
+    }
+    Vec::from_slice(alloc, text.as_bytes().trim_ascii())
+}
+
+/// Returns the answers of the reference MMU to some lines.
+fn mmu_answers(alloc: Global, lines: &[Line]) -> Result<Vec<Vec<u8>>, PlayFault> {
+    let mut player = MmuPlayer::new(alloc);
+    let mut answers = Vec::new(alloc);
+    'lines: for line in lines {
+        let answer = mmu_answer(alloc, &mut player, line)?;
+        answers.push(answer).map_err(AllocError::from)?;
+    }
+    compare(alloc, lines, answers.as_slice())?;
+    Ok(answers)
+}
+
+/// Returns the indices of a virtual address of Sv39, one for each level, and its offset, as text.
+fn indices(alloc: Global, address: u64) -> Result<String, AllocError> {
+    let offset = address % 4096;
+    let page = address / 4096;
+    let (last, middle, first) = (page % 512, page / 512 % 512, page / 262_144 % 512);
+    format!(in alloc; "VPN[2] {first}, VPN[1] {middle}, VPN[0] {last}, offset 0x{offset:x}")
+}
+
+/// Returns what happens on a line for the reference MMU: the indices of its address, if it accesses one, and the whole answer.
+fn mmu_trace(
+    alloc: Global,
+    number_of_line: usize,
+    line: &str,
+    answer: &str,
+) -> Result<String, AllocError> {
+    let mut text = format!(in alloc; "{number_of_line:>4}  {line}\n")?;
+    if let Some((b"load" | b"store" | b"fetch", rest)) = first_field(line.as_bytes())
+        && let Some((field, _)) = first_field(rest)
+        && let Some(address) = number(field)
+    {
+        let indices = indices(alloc, address)?;
+        let indices = indices.as_str();
+        writeln!(&mut text, "        {indices}")?;
+    }
+    writeln!(&mut text, "        {answer}")?;
+    Ok(text)
+}
+
+/// Prints in which line the machine answers otherwise than the generator predicts.
+fn tell_difference<S: Screen>(
+    alloc: Global,
+    screen: &mut S,
+    order: Order,
+    fault: &PlayFault,
+) -> Result<Fault, Fault>
+    ensures whole { IfOk result (λ _. S.whole screen.old → S.whole screen.new) }
+{
+    match fault {
+        PlayFault::Memory => Ok(Fault::Memory),
+        PlayFault::Differs(text) => {
+            let (name, seed, text) = (order.subject.name(), order.seed, text.as_str());
+            screen.err(format!(in alloc; "quiz {name} {seed}: line {text}\n")?.as_str())?;
+            Ok(Fault::Told)
+        }
+    }
+}
+
+/// What is to be made.
+#[derive(Clone, Copy)]
+pub struct Order {
+    pub subject: Subject,
+    pub seed: u64,
+    /// How many lines are asked at most.
+    pub count: usize,
+    /// Whether the machine is drawn.
+    pub draws: bool,
+}
+
+/// How many questions are enough, if so many are wanted.
+const ENOUGH: usize = 4;
+
+/// How many quizzes of a seed are tried: the first with enough questions is taken.
+const ATTEMPTS: u64 = 8;
+
+impl Game {
+    /// Returns a quiz of a seed, played.
+    ///
+    /// # Errors
+    /// Those of `play`.
+    fn attempt<S: Screen>(
+        alloc: Global,
+        screen: &mut S,
+        order: Order,
+        attempt: u64,
+    ) -> Result<Game, Fault>
+        ensures whole { IfOk result (λ _. S.whole screen.old → S.whole screen.new) }
+    {
+        let quiz = make(alloc, order.subject, order.seed, attempt)?;
+        let played = match quiz.teller {
+            Teller::Machine => predicted_answers(alloc, quiz.lines.as_slice()),
+            Teller::Mmu => mmu_answers(alloc, quiz.lines.as_slice()),
+        };
+        let answers = match played {
+            Ok(answers) => answers,
+            Err(fault) => return Err(tell_difference(alloc, screen, order, &fault)?),
+        };
+        let script = Script {
+            lines: quiz.lines.as_slice(),
+            answers: answers.as_slice(),
+        };
+        let asked = choose(
+            alloc,
+            order.seed,
+            script,
+            quiz.worthy.as_slice(),
+            order.count,
+        )?;
+        Ok(Game {
+            alloc,
+            quiz,
+            answers,
+            traces: Vec::new(alloc),
+            pictures: Vec::new(alloc),
+            asked,
+        })
+    }
+
+    /// Returns the quiz of a subject and a seed, played.
+    ///
+    /// # Errors
+    /// `Told`: the machine answers a line otherwise than the generator predicts; that was told. `Memory`: the host is out of memory. `Io`:
+    /// printing failed.
+    pub fn play<S: Screen>(alloc: Global, screen: &mut S, order: Order) -> Result<Game, Fault>
+        ensures whole { IfOk result (λ _. S.whole screen.old → S.whole screen.new) }
+    {
+        let mut game = Game::attempt(alloc, screen, order, 0)?;
+        'attempts: for attempt in 1..ATTEMPTS {
+            if game.asked.len() >= order.count.min(ENOUGH) {
+                break;
+            }
+            game = Game::attempt(alloc, screen, order, attempt)?;
+        }
+        game.look(screen, order.draws)?;
+        Ok(game)
+    }
+
+    /// Notes what happens on each line.
+    fn look<S: Screen>(&mut self, screen: &mut S, draws: bool) -> Result<(), Fault>
+        ensures whole { IfOk result (λ _. S.whole screen.old → S.whole screen.new) }
+    {
+        let alloc = self.alloc;
+        if self.quiz.teller == Teller::Mmu {
+            return self.look_at_mmu();
+        }
+        let script = script_of(alloc, self.quiz.lines.as_slice())?;
+        let mut seen = Seen {
+            alloc,
+            draws,
+            traces: Vec::new(alloc),
+            pictures: Vec::new(alloc),
+        };
+        each_line(alloc, script.as_bytes(), screen, &mut seen)?;
+        self.traces = seen.traces;
+        self.pictures = seen.pictures;
+        Ok(())
+    }
+
+    /// Notes what the reference MMU says of each line.
+    fn look_at_mmu(&mut self) -> Result<(), Fault> {
+        for at in 0..self.quiz.lines.len() {
+            let trace = mmu_trace(
+                self.alloc,
+                at.saturating_add(1),
+                self.line(at),
+                self.answer(at),
+            )?;
+            self.traces.push(trace).map_err(AllocError::from)?;
+        }
+        Ok(())
+    }
+
+    /// Returns a line; empty if there is none.
+    pub fn line(&self, at: usize) -> &str {
+        match self.quiz.lines.get(at) {
+            Some(line) => line.text.as_str(),
+            None => "",
+        }
+    }
+
+    /// Returns the answer to a line; empty if there is none.
+    pub fn answer(&self, at: usize) -> &str {
+        match self.answers.get(at) {
+            Some(answer) => std::str::from_utf8(answer.as_slice()).unwrap_or("?"),
+            None => "",
+        }
+    }
+
+    /// Returns what happens on a line; empty if there is none.
+    pub fn trace(&self, at: usize) -> &str {
+        match self.traces.get(at) {
+            Some(trace) => trace.as_str(),
+            None => "",
+        }
+    }
+
+    /// Returns the machine after so many lines; empty if there is none.
+    fn picture(&self, lines: usize) -> &str {
+        if lines == 0 {
+            return "";
+        }
+        match self.pictures.get(lines - 1) {
+            Some(picture) => picture.as_str(),
+            None => "",
+        }
+    }
+
+    /// Appends a line with its answer: beside it, or below it for the reference MMU, whose lines have another meaning of `=>`.
+    pub fn put_line(&self, out: &mut String, at: usize) -> Result<(), AllocError> {
+        let (line, answer) = (self.line(at), self.answer(at));
+        if answer.is_empty() {
+            return writeln!(out, "{line}");
+        }
+        match self.quiz.teller {
+            Teller::Machine => writeln!(out, "{line:<34} => {answer}"),
+            Teller::Mmu => writeln!(out, "{line}\n    {answer}"),
+        }
+    }
+
+    /// Returns lines with their answers, from one on, before another.
+    pub fn between(&self, first: usize, end: usize) -> Result<String, AllocError> {
+        let mut text = String::new(self.alloc);
+        for at in first..end {
+            self.put_line(&mut text, at)?;
+        }
+        Ok(text)
+    }
+
+    /// Returns the question about a line on a page; `lines` are those before it, since the question before.
+    pub fn question<'a>(&'a self, at: usize, lines: &'a str) -> QuizQuestion<'a> {
+        QuizQuestion {
+            number: at.saturating_add(1),
+            lines,
+            line: self.line(at),
+            answer: self.answer(at),
+            trace: self.trace(at),
+            before: self.picture(at),
+            after: self.picture(at.saturating_add(1)),
+        }
+    }
+}

@@ -1,0 +1,20 @@
+//! Handouts of the labs: scripts in which some answers are blanks. `handout` makes one of a seed, which may be any text, as the name of a
+//! student: the same questions for each seed, with addresses, sizes and values of its own. `plain` makes the one that all may have.
+//! Each lab has a file.
+#![tactic(auto)]
+
+mod accesses;
+mod copy_on_write;
+mod frames;
+mod lazy_growth;
+mod making;
+mod mmap;
+mod names;
+mod numbers;
+mod page_tables;
+mod sheet;
+mod stale_entries;
+mod traps;
+
+pub use making::{handout, plain};
+pub use names::{LABS, Lab};

@@ -1,0 +1,71 @@
+// `Lab`: a lab, by its number in the documents and by its name.
+
+/// A lab.
+#[derive(Clone, Copy, PartialEq, Eq, Debug)]
+pub enum Lab {
+    PageTables,
+    Traps,
+    LazyGrowth,
+    CopyOnWrite,
+    Mmap,
+    StaleEntries,
+}
+
+/// The labs, in the order in which they are done.
+pub const LABS: [Lab; 6] = [
+    Lab::PageTables,
+    Lab::Traps,
+    Lab::LazyGrowth,
+    Lab::CopyOnWrite,
+    Lab::Mmap,
+    Lab::StaleEntries,
+];
+
+impl Lab {
+    /// Returns its name: that of its script, `labs/NAME.script`.
+    pub fn name(self) -> &'static str {
+        match self {
+            Lab::PageTables => "page_tables",
+            Lab::Traps => "traps",
+            Lab::LazyGrowth => "lazy_growth",
+            Lab::CopyOnWrite => "copy_on_write",
+            Lab::Mmap => "mmap",
+            Lab::StaleEntries => "stale_entries",
+        }
+    }
+
+    /// Returns the lab of this name.
+    pub fn of_name(name: &str) -> Option<Lab> {
+        let labs = LABS;
+        for lab in labs.iter() {
+            if lab.name() == name {
+                return Some(*lab);
+            }
+        }
+        None
+    }
+
+    /// Returns what the handout calls it.
+    pub(crate) fn title(self) -> &'static str {
+        match self {
+            Lab::PageTables => "Lab 1, page tables",
+            Lab::Traps => "Lab 2, traps",
+            Lab::LazyGrowth => "Lab 3, lazy growth",
+            Lab::CopyOnWrite => "Lab 4, copy-on-write fork",
+            Lab::Mmap => "Lab 5, mmap",
+            Lab::StaleEntries => "Lab 6, stale entries and ASIDs",
+        }
+    }
+
+    /// Returns the path of its page.
+    pub(crate) fn page(self) -> &'static str {
+        match self {
+            Lab::PageTables => "docs/labs/1-page-tables.md",
+            Lab::Traps => "docs/labs/2-traps.md",
+            Lab::LazyGrowth => "docs/labs/3-lazy-growth.md",
+            Lab::CopyOnWrite => "docs/labs/4-copy-on-write.md",
+            Lab::Mmap => "docs/labs/5-mmap.md",
+            Lab::StaleEntries => "docs/labs/6-stale-entries.md",
+        }
+    }
+}

@@ -1,0 +1,207 @@
+// A page of HTML that asks about lines of a script: `put_quiz_start`, for each question `put_question`, `put_quiz_end`.
+
+use crate::escape::put_escaped;
+use std::alloc::AllocError;
+
+/// What stands before the title.
+const BEFORE_TITLE: &str = "<!doctype html>
+<html lang=\"en\">
+<head>
+<meta charset=\"utf-8\">
+<meta name=\"viewport\" content=\"width=device-width, initial-scale=1\">
+<title>";
+
+/// What stands between the title and the questions.
+const AFTER_TITLE: &str = "</title>
+<style>
+:root { color-scheme: light }
+body { margin: 0; font: 18px/1.4 system-ui, sans-serif; color: #111; background: #fff }
+header { display: flex; gap: 1.5em; align-items: baseline; padding: .4em 1em; background: #eee; border-bottom: 1px solid #999 }
+main { display: grid; grid-template-columns: minmax(20em, 5fr) minmax(0, 7fr); gap: 1em; padding: .6em 1em }
+pre { margin: 0; font: 16px/1.4 ui-monospace, Menlo, Consolas, monospace; white-space: pre-wrap; overflow-wrap: anywhere }
+#lines { max-height: 38vh; overflow: auto; color: #333 }
+#line { margin: .4em 0; padding: .3em .5em; font-size: 20px; font-weight: bold; background: #f3e3ea; border-left: .4em solid #c2185b }
+form { display: flex; gap: .5em }
+input { flex: 1; min-width: 4em; font: 20px ui-monospace, Menlo, Consolas, monospace; padding: .2em .4em }
+button { font: inherit }
+#verdict { margin: .4em 0; min-height: 1.4em; font-weight: bold }
+#trace { max-height: 40vh; overflow: auto; font-size: 14px }
+#picture { overflow: auto; max-height: 86vh; border: 1px solid #ccc }
+#picture svg { display: block; width: 100%; height: auto }
+#caption { font-weight: bold; margin: 0 0 .3em }
+@media (max-width: 50em) { main { grid-template-columns: minmax(0, 1fr) } }
+</style>
+</head>
+<body>
+<header><strong id=\"title\"></strong><span id=\"place\"></span><span id=\"score\"></span><span>Enter answers, then PageDown or space goes on</span></header>
+<noscript><p>This page asks by JavaScript, which is off.</p></noscript>
+<main>
+<div>
+<pre id=\"lines\" tabindex=\"0\"></pre>
+<pre id=\"line\"></pre>
+<form id=\"form\"><input id=\"guess\" autocomplete=\"off\" autocapitalize=\"off\" spellcheck=\"false\" aria-label=\"What does this line answer?\" placeholder=\"what does this line answer?\"><button id=\"button\">Answer</button></form>
+<p id=\"verdict\" aria-live=\"polite\"></p>
+<pre id=\"trace\" tabindex=\"0\"></pre>
+</div>
+<div><p id=\"caption\"></p><div id=\"picture\" tabindex=\"0\"></div></div>
+</main>
+";
+
+/// What stands after the last question.
+const END: &str = "<script>
+const at = name => document.getElementById(name);
+const questions = [...document.querySelectorAll('template')].map(it => ({
+  number: it.dataset.number, line: it.dataset.line, answer: it.dataset.answer,
+  lines: it.content.querySelector('.lines').textContent, trace: it.content.querySelector('.trace').textContent,
+  before: it.content.querySelector('.before svg'), after: it.content.querySelector('.after svg')
+}));
+let now = 0, right = 0, answered = false, lines = '';
+const by = ['=>', 'walk', 'held', 'bare', 'misaligned', 'not', 'canonical'];
+const bytes = { file: 2, copied: 2, short: 5 };
+function plainWord(word, isBytes) {
+  if (isBytes) return word.replace(/^0x/, '');
+  if (!/^(0x[0-9a-f]+|[0-9]+)$/.test(word)) return word;
+  const value = BigInt(word);
+  return value < 1n << 64n ? value.toString() : word;
+}
+function plainPart(part) {
+  const words = part.split(/\\s+/).filter(it => it);
+  while (words.length && by.includes(words[0])) words.shift();
+  const kept = words.filter((word, number) => word !== 'level' && words[number - 1] !== 'level');
+  const place = Object.hasOwn(bytes, kept[0]) ? bytes[kept[0]] : -1;
+  return kept.map((word, number) => plainWord(word, number === place)).join(' ');
+}
+function plainParts(text) {
+  return new Set(text.toLowerCase().replace(/\\([^)]*\\)?/g, '').replace(/\\)/g, '').replace(/,/g, ' ').split(';').map(plainPart).filter(it => it));
+}
+function isRight(guess, answer) {
+  const one = plainParts(guess), other = plainParts(answer);
+  return one.size === other.size && [...one].every(it => other.has(it));
+}
+function texts(picture) {
+  return new Map([...picture.querySelectorAll('.cell')].filter(it => it.dataset.key).map(it => [it.dataset.key, it.getAttribute('class') + it.textContent]));
+}
+function draw(question, after) {
+  const picture = (after ? question.after : question.before)?.cloneNode(true);
+  if (after && picture && question.before) {
+    const old = texts(question.before);
+    for (const it of picture.querySelectorAll('.cell'))
+      if (it.dataset.key && old.get(it.dataset.key) !== it.getAttribute('class') + it.textContent) it.classList.add('changed');
+  }
+  at('caption').textContent = picture ? after ? 'After this line (what changed is outlined)' : 'Before this line' : '';
+  at('picture').hidden = !picture;
+  at('picture').replaceChildren(...picture ? [picture] : []);
+}
+function show() {
+  const question = questions[now];
+  answered = false;
+  lines += question.lines;
+  at('lines').textContent = lines;
+  at('lines').scrollTop = at('lines').scrollHeight;
+  at('line').textContent = question.number + '  ' + question.line;
+  at('place').textContent = 'question ' + (now + 1) + ' of ' + questions.length;
+  at('score').textContent = right + ' right';
+  at('verdict').textContent = at('trace').textContent = '';
+  at('guess').value = '';
+  at('guess').disabled = false;
+  at('button').textContent = 'Answer';
+  draw(question, false);
+  at('guess').focus();
+}
+function answer() {
+  const question = questions[now], good = isRight(at('guess').value, question.answer);
+  answered = true;
+  if (good) right++;
+  at('verdict').textContent = (good ? 'right: ' : 'wrong: it is ') + question.answer;
+  at('trace').textContent = question.trace;
+  at('score').textContent = right + ' right of ' + (now + 1);
+  at('guess').disabled = true;
+  at('button').textContent = now + 1 < questions.length ? 'Go on' : 'The end';
+  lines += question.line + '  =>  ' + question.answer + '\\n';
+  draw(question, true);
+  at('guess').blur();
+}
+function goOn() {
+  if (now + 1 < questions.length) { now++; show(); }
+  else at('verdict').textContent = right + ' right of ' + questions.length;
+}
+at('title').textContent = document.title;
+at('form').addEventListener('submit', event => {
+  event.preventDefault();
+  if (answered) goOn(); else answer();
+});
+document.addEventListener('keydown', event => {
+  if (!answered || event.ctrlKey || event.altKey || event.metaKey) return;
+  if (event.key === 'PageDown' || event.key === ' ') { event.preventDefault(); goOn(); }
+});
+if (questions.length) show();
+</script>
+</body>
+</html>
+";
+
+/// A question about a line.
+#[derive(Clone, Copy)]
+pub struct QuizQuestion<'a> {
+    /// The number of the line, from 1.
+    pub number: usize,
+    /// The lines before it, since the question before, with their answers.
+    pub lines: &'a str,
+    pub line: &'a str,
+    pub answer: &'a str,
+    /// What happens on the line.
+    pub trace: &'a str,
+    /// The machine before the line and after it, as SVG; empty if there is none.
+    pub before: &'a str,
+    pub after: &'a str,
+}
+
+/// Puts the beginning of a page with a title.
+///
+/// # Errors
+/// `AllocError`: the host is out of memory.
+pub fn put_quiz_start(out: &mut String, title: &str) -> Result<(), AllocError> {
+    out.push_str(BEFORE_TITLE)?;
+    put_escaped(out, title)?;
+    out.push_str(AFTER_TITLE)
+}
+
+/// Puts a part of a question, with a class.
+fn put_text(out: &mut String, class: &str, text: &str) -> Result<(), AllocError> {
+    write!(out, "<pre class=\"{class}\">\n")?;
+    put_escaped(out, text)?;
+    out.push_str("</pre>\n")
+}
+
+/// Puts a picture of a question, with a class.
+fn put_drawing(out: &mut String, class: &str, picture: &str) -> Result<(), AllocError> {
+    write!(out, "<div class=\"{class}\">")?;
+    out.push_str(picture)?;
+    out.push_str("</div>\n")
+}
+
+/// Puts a question.
+///
+/// # Errors
+/// `AllocError`: the host is out of memory.
+pub fn put_question(out: &mut String, question: &QuizQuestion<'_>) -> Result<(), AllocError> {
+    let number = question.number;
+    write!(out, "<template data-number=\"{number}\" data-line=\"")?;
+    put_escaped(out, question.line)?;
+    out.push_str("\" data-answer=\"")?;
+    put_escaped(out, question.answer)?;
+    out.push_str("\">\n")?;
+    put_text(out, "lines", question.lines)?;
+    put_text(out, "trace", question.trace)?;
+    put_drawing(out, "before", question.before)?;
+    put_drawing(out, "after", question.after)?;
+    out.push_str("</template>\n")
+}
+
+/// Puts the end of a page.
+///
+/// # Errors
+/// `AllocError`: the host is out of memory.
+pub fn put_quiz_end(out: &mut String) -> Result<(), AllocError> {
+    out.push_str(END)
+}

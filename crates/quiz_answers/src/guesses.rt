@@ -1,0 +1,134 @@
+// `is_right`: whether a guess is an answer. Letter case, blanks, and the form of a number do not count.
+
+ghost use Rattle.std.specs.Prelude.{◌≡◌, IfOk, IsTrue};
+
+use script_reader::{first_field, number};
+use std::alloc::{AllocError, Global};
+
+/// Returns the place of the word that is bytes and no number, in an answer with this first word.
+fn place_of_bytes(word: &[u8]) -> usize {
+    match word {
+        b"file" | b"copied" => 2,
+        b"short" => 5,
+        _ => usize::MAX,
+    }
+}
+
+/// Returns whether a word at the beginning of an outcome says only by what it is known.
+fn is_by(word: &[u8]) -> bool {
+    matches!(
+        word,
+        b"=>" | b"walk" | b"held" | b"bare" | b"misaligned" | b"not" | b"canonical"
+    )
+}
+
+/// Appends a word: bytes without `0x`, a number in decimal digits, any other as it is.
+fn put_word(
+    alloc: Global,
+    out: &mut Vec<u8>,
+    word: &[u8],
+    is_bytes: bool,
+) -> Result<(), AllocError> {
+    out.push(b' ').map_err(AllocError::from)?;
+    if is_bytes {
+        return out.extend_from_slice(word.strip_prefix(b"0x").unwrap_or(word));
+    }
+    match number(word) {
+        Some(value) => {
+            let text = format!(in alloc; "{value}")?;
+            out.extend_from_slice(text.as_bytes())
+        }
+        None => out.extend_from_slice(word),
+    }
+}
+
+/// Returns an outcome, or an answer that has one only, in the form in which it is compared.
+fn plain_part(alloc: Global, part: &[u8]) -> Result<Vec<u8>, AllocError> {
+    let mut out = Vec::new(alloc);
+    let (mut rest, mut place, mut bytes_at) = (part, 0usize, usize::MAX);
+    'words: for _ in 0..=part.len() {
+        let Some((word, after)) = first_field(rest) else {
+            break;
+        };
+        rest = after;
+        if place == 0 && is_by(word) {
+            continue;
+        }
+        if word == b"level".as_slice() {
+            rest = match first_field(rest) {
+                Some((_, after)) => after,
+                None => rest,
+            };
+            continue;
+        }
+        if place == 0 {
+            bytes_at = place_of_bytes(word);
+        }
+        put_word(alloc, &mut out, word, place == bytes_at)?;
+        place = place.saturating_add(1);
+    }
+    Ok(out)
+}
+
+/// Appends a part to others, if it is not among them.
+fn add_part(alloc: Global, parts: &mut Vec<Vec<u8>>, part: &[u8]) -> Result<(), AllocError> {
+    let part = plain_part(alloc, part)?;
+    let known = parts
+        .as_slice()
+        .iter()
+        .any(|it| it.as_slice() == part.as_slice());
+    if known || part.is_empty() {
+        return Ok(());
+    }
+    parts.push(part).map_err(AllocError::from)
+}
+
+/// Returns the outcomes of an answer, each in the form in which it is compared. What stands in parentheses is left out.
+fn plain_parts(alloc: Global, text: &[u8]) -> Result<Vec<Vec<u8>>, AllocError> {
+    let letters = text.to_ascii_lowercase(alloc)?;
+    let (mut parts, mut part) = (Vec::new(alloc), Vec::new(alloc));
+    let mut inside = false;
+    for byte in letters.as_slice() {
+        match *byte {
+            b'(' => inside = true,
+            b')' => inside = false,
+            _ if inside => {}
+            b';' => {
+                add_part(alloc, &mut parts, part.as_slice())?;
+                part.clear();
+            }
+            b'\t' | b'\r' | b'\n' | b',' => part.push(b' ').map_err(AllocError::from)?,
+            other => part.push(other).map_err(AllocError::from)?,
+        }
+    }
+    add_part(alloc, &mut parts, part.as_slice())?;
+    Ok(parts)
+}
+
+/// Returns whether each part is among others.
+fn are_among(parts: &[Vec<u8>], others: &[Vec<u8>]) -> bool {
+    for part in parts {
+        if !others.iter().any(|it| it.as_slice() == part.as_slice()) {
+            return false;
+        }
+    }
+    true
+}
+
+/// Returns whether a guess is an answer. Letter case and blanks do not count, a number may be decimal or hexadecimal, and of outcomes of a
+/// reference MMU what stands in parentheses, by what each is known, its level and their order do not count.
+///
+/// # Errors
+/// `AllocError`: the host is out of memory.
+pub fn is_right(alloc: Global, guess: &[u8], answer: &[u8]) -> Result<bool, AllocError>
+    ensures itself { IfOk result (λ right. guess.now ≡ answer.now → IsTrue right) }
+{
+    if guess == answer {
+        return Ok(true);
+    }
+    let (guessed, answered) = (plain_parts(alloc, guess)?, plain_parts(alloc, answer)?);
+    Ok(
+        are_among(guessed.as_slice(), answered.as_slice())
+            && are_among(answered.as_slice(), guessed.as_slice()),
+    )
+}

@@ -1,0 +1,168 @@
+// Quizzes about copy-on-write forks: who shares a frame, which stores fault, what parent and child read.
+
+use crate::process::{Access, Process};
+use crate::quiz::{Place, Quiz};
+use crate::steps::Touch;
+use std::alloc::AllocError;
+use usertest_world::PAGE;
+
+/// Where the accesses of a quiz go: few places, so that parent and child meet.
+#[derive(Clone, Copy, PartialEq, Eq, Debug)]
+struct Spots {
+    /// The first byte of the data, which the image gives.
+    data: u64,
+    /// Another byte of the same page.
+    beside: u64,
+    /// A byte of the stack.
+    stack: u64,
+}
+
+impl Quiz {
+    /// Returns one of the places.
+    fn spot(&mut self, spots: Spots) -> u64 {
+        match self.random.below(8) {
+            0..=3 => spots.data,
+            4 | 5 => spots.beside,
+            _ => spots.stack,
+        }
+    }
+
+    /// Loads from one of the places. Returns whether the process goes on.
+    fn load_spot(&mut self, spots: Spots) -> Result<bool, AllocError> {
+        let address = self.spot(spots);
+        self.touch(Touch::load(address), true)
+    }
+
+    /// Stores to one of the places. Returns whether the process goes on.
+    fn store_spot(&mut self, spots: Spots) -> Result<bool, AllocError> {
+        let (address, value) = (self.spot(spots), self.random.between(0x10, 0x100));
+        let counts = self.random.chance(600);
+        self.touch(Touch::store(address, value), counts)
+    }
+
+    /// Puts another process on the hart, if there is one, and makes it load or store.
+    fn turn(&mut self, spots: Spots) -> Result<bool, AllocError> {
+        match self.another() {
+            Some(number) => {
+                self.to_process(number)?;
+                if self.random.chance(600) {
+                    self.load_spot(spots)
+                } else {
+                    self.store_spot(spots)
+                }
+            }
+            None => Ok(true),
+        }
+    }
+
+    /// Makes an access that is denied: the process ends. Returns false.
+    fn deny_cow(&mut self) -> Result<bool, AllocError> {
+        let guard = self.me().map_or(0, |me| guard_of(me));
+        let touch = match self.random.below(4) {
+            0 => Touch::load(guard.saturating_add(8)),
+            1 => Touch::store(self.random.below(0x100), 1),
+            2 => Touch {
+                access: Access::Load,
+                address: PAGE.saturating_add(self.random.between(1, 4)),
+                width: 4,
+                value: 0,
+            },
+            _ => Touch {
+                access: Access::Fetch,
+                address: PAGE,
+                width: 4,
+                value: 0,
+            },
+        };
+        self.touch(touch, false)
+    }
+
+    /// The kernel copies to the end of the data, and maybe past it.
+    fn copy_to_guard(&mut self) -> Result<(), AllocError> {
+        let guard = self.me().map_or(0, |me| guard_of(me));
+        let address = guard.saturating_sub(self.random.between(1, 6));
+        let count = self.random.between(2, 8);
+        self.copy_out(address, count)?;
+        self.audit(true)
+    }
+
+    /// Counts the frames, and goes on with another process, after one has ended. Returns whether there is one.
+    fn after_end(&mut self) -> Result<bool, AllocError> {
+        self.audit(true)?;
+        match self.another() {
+            Some(number) => {
+                self.to_process(number)?;
+                Ok(true)
+            }
+            None => Ok(false),
+        }
+    }
+
+    /// Makes a step. Returns whether a process is left.
+    fn step_cow(&mut self, spots: Spots) -> Result<bool, AllocError> {
+        let goes_on = match self.random.below(20) {
+            0..=6 => self.store_spot(spots)?,
+            7..=9 => self.load_spot(spots)?,
+            10..=13 => self.turn(spots)?,
+            14 | 15 => {
+                self.copy_to_guard()?;
+                true
+            }
+            16 if self.processes.len() < 3 => {
+                self.fork()?;
+                self.audit(true)?;
+                true
+            }
+            16 | 17 if self.another().is_some() => {
+                self.exit()?;
+                false
+            }
+            18 if self.another().is_some() => self.deny_cow()?,
+            _ => self.turn(spots)?,
+        };
+        if goes_on && self.place != Place::Idle {
+            return Ok(true);
+        }
+        self.after_end()
+    }
+
+    /// Makes a quiz about copy-on-write.
+    pub(crate) fn make_cow(&mut self) -> Result<(), AllocError> {
+        let (pages, byte) = (self.random.between(1, 4), self.random.between(0x10, 0x100));
+        let size = PAGE.saturating_mul(pages);
+        self.declare(format!(in self.alloc;
+            "image 0x0:0x1000:rx:13050000 0x1000:{size:#x}:rw:{byte:02x}"
+        )?)?;
+        self.begin("boot 1 64 4 full", pages)?;
+        let base = self.me().map_or(0, |me| me.base);
+        let spots = Spots {
+            data: PAGE,
+            beside: PAGE.saturating_add(self.random.between(1, 512).saturating_mul(8)),
+            stack: base.saturating_sub(self.random.between(1, 64).saturating_mul(8)),
+        };
+        if self.random.chance(300) {
+            self.store_spot(spots)?;
+        }
+        self.to_kernel()?;
+        self.audit(false)?;
+        self.fork()?;
+        let asks = self.random.chance(500);
+        self.audit(asks)?;
+        self.go_on_cow(spots)
+    }
+
+    /// Makes steps until the script is long, or no process is left.
+    fn go_on_cow(&mut self, spots: Spots) -> Result<(), AllocError> {
+        for _ in 0..30 {
+            if self.is_long() || !self.step_cow(spots)? {
+                break;
+            }
+        }
+        Ok(())
+    }
+}
+
+/// Returns the address of the guard page.
+fn guard_of(process: &Process) -> u64 {
+    process.base.saturating_sub(2 * PAGE)
+}

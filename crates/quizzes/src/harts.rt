@@ -1,0 +1,442 @@
+// `Harts`: the harts of a script with their TLBs, as the generator knows them.
+
+use crate::process::{Access, Process, page_of};
+use crate::quiz::{Place, Quiz};
+use crate::steps::Touch;
+use crate::tlb::stores;
+use std::alloc::{AllocError, Global};
+
+/// An entry of a TLB.
+#[derive(Clone, Copy, PartialEq, Eq, Debug)]
+struct Entry {
+    page: u64,
+    asid: u64,
+}
+
+/// A hart.
+#[derive(Drop)]
+struct Hart {
+    /// Its process, by slot.
+    slot: Option<usize>,
+    place: Place,
+    /// Between instructions of kernel entry: whether satp names the process's table.
+    by_user_table: bool,
+    entries: Vec<Entry>,
+    /// The slots whose entries the next return to them removes.
+    marked: Vec<usize>,
+}
+
+/// The harts of a script, and the one on which the next step is made.
+#[derive(Drop)]
+pub(crate) struct Harts {
+    alloc: Global,
+    /// Whether entries are kept by ASIDs, in place of fences that empty the TLB.
+    pub asids: bool,
+    harts: Vec<Hart>,
+    pub processes: Vec<Process>,
+    /// The hart of the next step.
+    pub hart: usize,
+    has_forked: bool,
+}
+
+impl Harts {
+    /// Returns so many idle harts.
+    pub fn new(alloc: Global, count: u64, asids: bool) -> Result<Harts, AllocError> {
+        let mut harts = Vec::new(alloc);
+        for _ in 0..count {
+            let hart = Hart {
+                slot: None,
+                place: Place::Idle,
+                by_user_table: false,
+                entries: Vec::new(alloc),
+                marked: Vec::new(alloc),
+            };
+            harts.push(hart).map_err(AllocError::from)?;
+        }
+        Ok(Harts {
+            alloc,
+            asids,
+            harts,
+            processes: Vec::new(alloc),
+            hart: 0,
+            has_forked: false,
+        })
+    }
+
+    /// Returns the place of the hart.
+    fn place(&self) -> Place {
+        self.harts
+            .get(self.hart)
+            .map_or(Place::Idle, |hart| hart.place)
+    }
+
+    /// Returns whether the hart has no process.
+    pub fn is_idle(&self) -> bool {
+        self.place() == Place::Idle
+    }
+
+    /// Returns how many entries the hart's TLB has.
+    pub fn entries(&self) -> usize {
+        self.harts
+            .get(self.hart)
+            .map_or(0, |hart| hart.entries.len())
+    }
+
+    /// Returns the page of an entry.
+    pub fn page_of_entry(&self, entry: usize) -> Option<u64> {
+        let hart = self.harts.get(self.hart)?;
+        let entry = hart.entries.get(entry)?;
+        Some(entry.page)
+    }
+
+    /// Returns the slot of the process on the hart.
+    fn slot(&self) -> Option<usize> {
+        self.harts.get(self.hart)?.slot
+    }
+
+    /// Returns the process on the hart.
+    fn me(&self) -> Option<&Process> {
+        self.processes.get(self.slot()?)
+    }
+
+    /// Returns the process on the hart, to be changed.
+    pub fn me_mut(&mut self) -> Option<&mut Process> {
+        let slot = self.slot()?;
+        self.processes.get_mut(slot)
+    }
+
+    /// Notes where the hart is.
+    fn set_place(&mut self, place: Place) {
+        if let Some(hart) = self.harts.get_mut(self.hart) {
+            hart.place = place;
+            hart.by_user_table = place == Place::User;
+        }
+    }
+
+    /// Marks a slot on every hart.
+    pub fn mark(&mut self, slot: usize) -> Result<(), AllocError> {
+        for hart in self.harts.as_mut_slice() {
+            hart.marked.push(slot).map_err(AllocError::from)?;
+        }
+        Ok(())
+    }
+
+    /// The hart's TLB is emptied, if fences do that.
+    fn fence(&mut self) {
+        if self.asids {
+            return;
+        }
+        if let Some(hart) = self.harts.get_mut(self.hart) {
+            hart.entries.clear();
+        }
+    }
+
+    /// The hart returns to user mode: the entries of its process go, if it is marked.
+    fn clean(&mut self) {
+        self.fence();
+        let Some(slot) = self.slot() else {
+            return;
+        };
+        let asid = (slot as u64).saturating_add(1);
+        if let Some(hart) = self.harts.get_mut(self.hart) {
+            if hart.marked.as_slice().contains(&slot) {
+                hart.entries.retain(|entry| entry.asid != asid);
+                hart.marked.retain(|it| *it != slot);
+            }
+        }
+        self.set_place(Place::User);
+    }
+
+    /// The hart enters the kernel, if it is in user mode.
+    pub fn to_kernel(&mut self, quiz: &mut Quiz) -> Result<(), AllocError> {
+        if self.place() != Place::User {
+            return Ok(());
+        }
+        self.fence();
+        self.set_place(Place::Kernel);
+        let hart = self.hart;
+        quiz.say(format!(in self.alloc; "enter {hart}")?, "ok")
+    }
+
+    /// The hart returns to user mode, if it is in the kernel.
+    pub fn to_user(&mut self, quiz: &mut Quiz) -> Result<(), AllocError> {
+        if self.place() != Place::Kernel {
+            return Ok(());
+        }
+        self.clean();
+        let hart = self.hart;
+        quiz.say(format!(in self.alloc; "leave {hart}")?, "ok")
+    }
+
+    /// Puts the process of a slot on the hart, which is in the kernel or idle.
+    pub fn put_on(&mut self, quiz: &mut Quiz, slot: usize) -> Result<(), AllocError> {
+        self.to_kernel(quiz)?;
+        if let Some(hart) = self.harts.get_mut(self.hart) {
+            hart.slot = Some(slot);
+        }
+        self.clean();
+        let hart = self.hart;
+        quiz.say(format!(in self.alloc; "on {hart} {slot}")?, "ok")
+    }
+
+    /// Returns the slot of a process that is on no hart; `None` if there is none.
+    fn waiting(&self, quiz: &mut Quiz) -> Option<usize> {
+        let count = self.processes.len();
+        let first = quiz.random.index(count);
+        for step in 0..count {
+            let at = first.saturating_add(step);
+            let slot = if at < count {
+                at
+            } else {
+                at.saturating_sub(count)
+            };
+            let runs = self
+                .harts
+                .as_slice()
+                .iter()
+                .any(|hart| hart.slot == Some(slot));
+            let lives = self
+                .processes
+                .get(slot)
+                .is_some_and(|process| process.lives);
+            if lives && !runs {
+                return Some(slot);
+            }
+        }
+        None
+    }
+
+    /// Puts another process on the hart, if one waits.
+    pub fn switch(&mut self, quiz: &mut Quiz) -> Result<(), AllocError> {
+        match self.waiting(quiz) {
+            Some(slot) => self.put_on(quiz, slot),
+            None => Ok(()),
+        }
+    }
+
+    /// The next steps are made on another hart, if there are two; it gets a process if it has none.
+    pub fn turn(&mut self, quiz: &mut Quiz) -> Result<(), AllocError> {
+        if self.harts.len() < 2 {
+            return self.switch(quiz);
+        }
+        let other = if self.hart == 0 { 1 } else { 0 };
+        if quiz.random.chance(300) {
+            self.idle(quiz)?;
+        }
+        self.hart = other;
+        if self.is_idle() {
+            self.switch(quiz)?;
+        }
+        Ok(())
+    }
+
+    /// The hart becomes idle.
+    fn idle(&mut self, quiz: &mut Quiz) -> Result<(), AllocError> {
+        if self.is_idle() {
+            return Ok(());
+        }
+        self.to_kernel(quiz)?;
+        self.set_place(Place::Idle);
+        if let Some(hart) = self.harts.get_mut(self.hart) {
+            hart.slot = None;
+        }
+        let hart = self.hart;
+        quiz.say(format!(in self.alloc; "switch {hart} -")?, "ok")
+    }
+
+    /// Returns the ASID under which the hart fills entries.
+    fn asid(&self) -> u64 {
+        let by_user_table = self
+            .harts
+            .get(self.hart)
+            .is_some_and(|hart| hart.by_user_table);
+        match self.slot() {
+            Some(slot) if self.asids && by_user_table => (slot as u64).saturating_add(1),
+            _ => 0,
+        }
+    }
+
+    /// Fills an entry, which is worth a question if `asks`.
+    pub fn fill(&mut self, quiz: &mut Quiz, address: u64, asks: bool) -> Result<(), AllocError> {
+        let (hart, number, asid) = (self.hart, self.entries(), self.asid());
+        if let Some(it) = self.harts.get_mut(hart) {
+            let page = page_of(address);
+            it.entries
+                .push(Entry { page, asid })
+                .map_err(AllocError::from)?;
+        }
+        let words = format!(in self.alloc; "entry {number}")?;
+        let text = format!(in self.alloc; "fill {hart} {address:#x}")?;
+        quiz.put(asks, text, words.as_str())
+    }
+
+    /// Removes an entry, or is refused.
+    pub fn evict(&mut self, quiz: &mut Quiz, entry: usize) -> Result<(), AllocError> {
+        let hart = self.hart;
+        let text = format!(in self.alloc; "evict {hart} {entry}")?;
+        if entry >= self.entries() {
+            return quiz.ask(text, "refused 20");
+        }
+        if let Some(it) = self.harts.get_mut(hart)
+            && entry < it.entries.len()
+        {
+            it.entries.remove(entry);
+        }
+        quiz.ask(text, "ok")
+    }
+
+    /// The process traps: the hart is before the first instruction of kernel entry.
+    pub fn trap(&mut self, quiz: &mut Quiz) -> Result<(), AllocError> {
+        let hart = self.hart;
+        quiz.say(format!(in self.alloc; "trap {hart}")?, "ok")
+    }
+
+    /// The hart executes an instruction of kernel entry, by its number from 0: a fence, a write of satp, a fence.
+    pub fn next(&mut self, quiz: &mut Quiz, number: u64) -> Result<(), AllocError> {
+        if number == 1 {
+            if let Some(it) = self.harts.get_mut(self.hart) {
+                it.by_user_table = false;
+            }
+        } else {
+            self.fence();
+        }
+        if number == 2 {
+            self.set_place(Place::Kernel);
+        }
+        let hart = self.hart;
+        quiz.say(format!(in self.alloc; "next {hart}")?, "ok")
+    }
+
+    /// Returns the text of an access on the hart.
+    fn text(&self, touch: Touch) -> Result<String, AllocError> {
+        let (hart, address, value) = (self.hart, touch.address, touch.value);
+        if stores(touch) {
+            format!(in self.alloc; "store {hart} {address:#x} 1 {value:#x}")
+        } else {
+            format!(in self.alloc; "load {hart} {address:#x} 1")
+        }
+    }
+
+    /// Returns the beginning of the answer to an access that is made.
+    fn words(&self, touch: Touch) -> &'static str {
+        let Some(me) = self.me() else {
+            return "refused";
+        };
+        let granted = me.grants(touch.access, touch.address, 1);
+        match granted && me.is_ready(touch.access, touch.address) {
+            false => "fault",
+            true if stores(touch) => "stored",
+            true => "value",
+        }
+    }
+
+    /// Returns whether the process on the hart may load from an address.
+    pub fn may_load(&self, address: u64) -> bool {
+        self.me()
+            .is_some_and(|me| me.grants(Access::Load, address, 1))
+    }
+
+    /// Returns whether an entry serves an access to an address.
+    fn serves(&self, entry: usize, address: u64) -> bool {
+        let Some(hart) = self.harts.get(self.hart) else {
+            return false;
+        };
+        let key = Entry {
+            page: page_of(address),
+            asid: self.asid(),
+        };
+        hart.entries.get(entry).is_some_and(|it| *it == key)
+    }
+
+    /// Accesses by an entry.
+    pub fn access_by(
+        &mut self,
+        quiz: &mut Quiz,
+        touch: Touch,
+        entry: usize,
+    ) -> Result<(), AllocError> {
+        let mut text = self.text(touch)?;
+        write!(&mut text, " @{entry}")?;
+        if !self.serves(entry, touch.address) {
+            return quiz.ask(text, "refused 20");
+        }
+        let words = self.words(touch);
+        quiz.ask(text, words)?;
+        self.serve(quiz, touch, words)
+    }
+
+    /// Accesses by a walk.
+    pub fn access_by_walk(&mut self, quiz: &mut Quiz, touch: Touch) -> Result<(), AllocError> {
+        let (text, words) = (self.text(touch)?, self.words(touch));
+        quiz.ask(text, words)?;
+        self.serve(quiz, touch, words)
+    }
+
+    /// Serves an access, if it faults. If it is denied, the process ends.
+    fn serve(&mut self, quiz: &mut Quiz, touch: Touch, words: &str) -> Result<(), AllocError> {
+        if words != "fault" {
+            return Ok(());
+        }
+        let hart = self.hart;
+        let text = format!(in self.alloc; "fix {hart}")?;
+        let granted = self
+            .me()
+            .is_some_and(|me| me.grants(touch.access, touch.address, 1));
+        self.fence();
+        if granted {
+            if let Some(me) = self.me_mut() {
+                me.serve(touch.access, touch.address)?;
+            }
+            if let Some(slot) = self.slot() {
+                self.mark(slot)?;
+            }
+            self.clean();
+            return quiz.say(text, "ready");
+        }
+        self.end();
+        quiz.ask(text, "ended")
+    }
+
+    /// The process on the hart has ended. It is never put on a hart again.
+    fn end(&mut self) {
+        self.set_place(Place::Idle);
+        if let Some(me) = self.me_mut() {
+            me.lives = false;
+        }
+        if let Some(hart) = self.harts.get_mut(self.hart) {
+            hart.slot = None;
+        }
+    }
+
+    /// Forks, once.
+    pub fn fork(&mut self, quiz: &mut Quiz) -> Result<(), AllocError> {
+        let Some(slot) = self.slot() else {
+            return Ok(());
+        };
+        let ended = self
+            .processes
+            .as_slice()
+            .iter()
+            .any(|process| !process.lives);
+        if self.has_forked || ended {
+            return Ok(());
+        }
+        self.has_forked = true;
+        self.to_kernel(quiz)?;
+        let hart = self.hart;
+        let child = self.processes.len();
+        quiz.say(format!(in self.alloc; "fork {hart}")?, "slot")?;
+        let alloc = self.alloc;
+        let Some(me) = self.me_mut() else {
+            return Ok(());
+        };
+        let is_new = me.mark();
+        let process = me.child(alloc, child as u64)?;
+        self.processes.push(process).map_err(AllocError::from)?;
+        if is_new {
+            self.mark(slot)?;
+        }
+        self.mark(child)?;
+        self.to_user(quiz)
+    }
+}
