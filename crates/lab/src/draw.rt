@@ -13,7 +13,7 @@ use crate::screen::Screen;
 use handouts::split;
 use line_player::{LinePlayer, LineReply};
 use line_traces::trace_line;
-use pictures::{put_page_end, put_page_start, put_picture, put_step};
+use pictures::{Page, PageHead, put_picture};
 use std::alloc::{AllocError, Global};
 use std::io::Write;
 
@@ -140,6 +140,7 @@ pub enum Paper<'a, W> {
 pub struct PageLines<'a, W> {
     alloc: Global,
     paper: Paper<'a, W>,
+    page: Page,
     /// What is written next.
     text: String,
 }
@@ -150,6 +151,7 @@ impl<'a, W: Write + Drop> PageLines<'a, W> {
         PageLines {
             alloc,
             paper,
+            page: Page::new(alloc),
             text: String::new(alloc),
         }
     }
@@ -170,19 +172,14 @@ impl<'a, W: Write + Drop> PageLines<'a, W> {
         Ok(())
     }
 
-    /// Writes the beginning of a page with a title, which opens at a line, or at the first.
+    /// Writes the beginning of a page.
     ///
     /// # Errors
     /// `File`, `Io`: writing failed. `Memory`: the host is out of memory.
-    pub fn begin<S: Screen>(
-        &mut self,
-        screen: &mut S,
-        title: &str,
-        line: Option<u64>,
-    ) -> Result<(), Fault>
+    pub fn begin<S: Screen>(&mut self, screen: &mut S, head: PageHead<'_>) -> Result<(), Fault>
         ensures whole { IfOk result (λ _. S.whole screen.old → S.whole screen.new) }
     {
-        put_page_start(&mut self.text, title, line)?;
+        Page::put_start(&mut self.text, head)?;
         self.flush(screen)
     }
 }
@@ -196,7 +193,8 @@ impl<W: Write + Drop> Listener for PageLines<'_, W> {
         line: &[u8],
     ) -> Result<(), Fault> {
         let trace = trace_line(self.alloc, player, number, split(line).line)?;
-        put_step(&mut self.text, &trace, player.machine())?;
+        self.page
+            .put_step(&mut self.text, &trace, player.machine())?;
         self.flush(screen)
     }
 
@@ -206,7 +204,7 @@ impl<W: Write + Drop> Listener for PageLines<'_, W> {
         _player: &LinePlayer,
         _lines: u64,
     ) -> Result<(), Fault> {
-        put_page_end(&mut self.text)?;
+        Page::put_end(&mut self.text)?;
         self.flush(screen)
     }
 }

@@ -14,6 +14,10 @@ pub struct DrawWords {
     pub steps: bool,
     /// The number of the line at which the page opens, if one is given.
     pub line: Option<u64>,
+    /// Whether the page asks for the answer of each line.
+    pub quiz: bool,
+    /// The title of the page: the path of the file, if none is given.
+    pub title: String,
 }
 
 /// Returns the word `draw`.
@@ -31,23 +35,38 @@ pub fn draw<'a>(alloc: Global) -> Result<Command<'a>, AllocError> {
         "Write a page (HTML) to step from line to line, in place of a picture (SVG)",
     );
     let line = line(alloc, "Open the page at line N of the file").requires_arg("steps")?;
+    let quiz = flag(alloc, "quiz", "Show the answer of each line only at a key").requires_arg(
+        "steps",
+    )?;
+    let title = Arg::new(alloc, "title")
+        .long("title")
+        .action(ArgAction::Set)
+        .value_name("TEXT")
+        .help("The title of the page; else FILE is")
+        .requires_arg("steps")?;
     Command::new(alloc, "draw")
         .about("Draw the machine after the last line: regions, pages, tables, frames, TLBs")
         .arg(file(alloc, SCRIPT))?
         .arg(out)?
         .arg(steps)?
-        .arg(line)
+        .arg(line)?
+        .arg(quiz)?
+        .arg(title)
 }
 
 impl DrawWords {
     /// Returns what the word is told.
     pub fn of(alloc: Global, given: &ArgMatches<'_>) -> Result<DrawWords, AllocError> {
         let out = given.get_str("OUT").unwrap_or("-");
+        let file = file_of(alloc, given)?;
+        let title = given.get_str("title").unwrap_or(file.as_str());
         Ok(DrawWords {
-            file: file_of(alloc, given)?,
+            title: String::from_str(alloc, title)?,
+            file,
             out: String::from_str(alloc, out)?,
             steps: given.get_flag("steps"),
             line: given.get_one::<u64>("line"),
+            quiz: given.get_flag("quiz"),
         })
     }
 }

@@ -25,6 +25,7 @@ use crate::trace::TraceLines;
 use crate::trace_words::TraceWords;
 use crate::usertest::{Program, Tests};
 use crate::usertest_words::UsertestWords;
+use pictures::PageHead;
 use std::alloc::Global;
 use std::fs;
 use std::io::Read;
@@ -210,7 +211,14 @@ impl<F: Files, I: Read + Drop> Host<'_, F, I> {
         let mut kept = KeptLines::new(alloc, file, ChosenLine::named(words.line));
         self.play(screen, file, &mut kept)?;
         let mut page = PageLines::new(alloc, self.paper(words.out.as_str())?);
-        page.begin(screen, file, words.line)?;
+        page.begin(
+            screen,
+            PageHead {
+                title: words.title.as_str(),
+                line: words.line,
+                quiz: words.quiz,
+            },
+        )?;
         each_line(alloc, kept.text.as_slice(), screen, &mut page)
     }
 

@@ -20,6 +20,7 @@ pub use changes::Changes;
 pub use frames::{FrameChanges, Recount, frame_page};
 pub use leaves::LeafChange;
 pub use request_traces::RequestTrace;
+pub use requests::Touched;
 pub use text::put_trace;
 pub use traces::{LineTrace, trace_line};
 pub use walks::{WalkLine, reference_count};

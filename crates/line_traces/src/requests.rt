@@ -1,5 +1,5 @@
-// What a line of a script asks of a hart: which hart it names (`hart_of`), and which access it makes or which page it fills
-// (`Request`).
+// What a line of a script asks of a hart: which hart it names (`hart_of`), which access it makes or which page it fills (`Request`), and
+// which bytes of a process it touches (`Touched`).
 
 use hart_machine::Machine;
 use process_model::Step;
@@ -20,6 +20,15 @@ pub struct Request {
     pub via: Option<usize>,
     /// Whether the line serves this access, which faulted.
     pub serves: bool,
+}
+
+/// Bytes of a process that a line touches: those of its access or its kernel copy, or none at the address of a fill.
+#[derive(Clone, Copy, PartialEq, Eq)]
+pub struct Touched {
+    pub slot: usize,
+    pub va: Va,
+    /// How many bytes.
+    pub width: u64,
 }
 
 /// Returns the hart that a line names, if it names one.
@@ -152,4 +161,36 @@ fn made_by(scheme: Scheme, command: &Command) -> Option<Request> {
         }),
         _ => None,
     }
+}
+
+/// Returns the hart, the first address and the number of bytes of a kernel copy, if the line makes one.
+fn copied(command: &Command) -> Option<(usize, Va, u64)> {
+    match command {
+        Command::One(
+            Step::CopyIn {
+                hart,
+                address,
+                count,
+            },
+        ) => Some((*hart, Va(*address), *count as u64)),
+        Command::CopyOut {
+            hart,
+            address,
+            bytes,
+        } => Some((*hart, Va(*address), bytes.as_slice().len() as u64)),
+        _ => None,
+    }
+}
+
+/// Returns the bytes that a line touches of the process on its hart; `None` if it touches none, or there is no process.
+pub fn touched_by(machine: &Machine, command: &Command) -> Option<Touched> {
+    let (hart, va, width) = match request_of(machine, command) {
+        Some(request) => (request.hart, request.va, request.width),
+        None => copied(command)?,
+    };
+    Some(Touched {
+        slot: machine.slot(hart)?,
+        va,
+        width,
+    })
 }

@@ -8,7 +8,7 @@ ghost use Rattle.process_model.specs.World.{World};
 
 use crate::changes::{Changes, Snapshot};
 use crate::request_traces::RequestTrace;
-use crate::requests::{hart_of, request_of};
+use crate::requests::{Touched, hart_of, request_of, touched_by};
 use answer_texts::{Before as SeenBefore, explain_answer};
 use hart_machine::Machine;
 use line_player::{LinePlayer, LineReply};
@@ -43,6 +43,9 @@ pub struct LineTrace {
     /// What is other after the line, if it is a step and there is a machine.
     #[serde(skip_serializing_if = "Option::is_none")]
     pub changes: Option<Changes>,
+    /// The bytes that it touches.
+    #[serde(skip)]
+    pub touched: Option<Touched>,
 }
 
 /// What is seen before a line is played.
@@ -50,6 +53,7 @@ pub struct LineTrace {
 struct Before {
     snapshot: Snapshot,
     request: Option<RequestTrace>,
+    touched: Option<Touched>,
 }
 
 /// What is seen of a line once it was played, as in `LineTrace`.
@@ -88,7 +92,11 @@ fn seen_before(alloc: Global, machine: &Machine, command: &Command) -> Result<Be
         Some(request) => Some(RequestTrace::of(alloc, machine, request)?),
         None => None,
     };
-    Ok(Before { snapshot, request })
+    Ok(Before {
+        snapshot,
+        request,
+        touched: touched_by(machine, command),
+    })
 }
 
 /// Returns what is seen before the next line of a player.
@@ -101,6 +109,7 @@ fn look_before(alloc: Global, player: &LinePlayer, line: &[u8]) -> Result<Before
         _ => Ok(Before {
             snapshot: Snapshot::nothing(alloc),
             request: None,
+            touched: None,
         }),
     }
 }
@@ -135,7 +144,11 @@ fn seen_after(
 ) -> Result<Seen, AllocError>
     requires world { (w : World) × IsInWorld machine.now w }
 {
-    let Before { snapshot, request } = before;
+    let Before {
+        snapshot,
+        request,
+        ..
+    } = before;
     let changes = Changes::since(alloc, machine, &snapshot)?;
     Ok(Seen {
         answer: Some(text_of(alloc, answer)?),
@@ -201,6 +214,7 @@ pub fn trace_line(
 {
     let seen_before = SeenBefore::line(alloc, player, line)?;
     let before = look_before(alloc, player, line)?;
+    let touched = before.touched;
     let reply = player.line(line)?;
     let seen = look_after(alloc, player, reply, before)?;
     Ok(LineTrace {
@@ -212,5 +226,6 @@ pub fn trace_line(
         request: seen.request,
         note: note_of(alloc, player, &seen_before, line)?,
         changes: seen.changes,
+        touched,
     })
 }

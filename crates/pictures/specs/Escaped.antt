@@ -1,4 +1,4 @@
--- A text within HTML: `escaped`.
+-- A text within HTML: `escaped`; JSON within an element `script`: `script_escaped`.
 use Rattle.std.specs.Prelude.{ℕ, List, [], ◌∷◌, ◌++◌, ◌==◌, codes, if◌then◌else◌, flat_map}
 use Rattle.std.specs.Char.{encode_utf8}
 use Rattle.std.specs.Str.{chars}
@@ -11,3 +11,11 @@ escape c = if c == 38 then codes "&amp;" else if c == 60 then codes "&lt;" else 
 -- a text, character by character
 abbrev pub escaped : List ℕ → List ℕ
 escaped text = flat_map escape (chars text)
+
+-- a character of JSON within a script: < has its number, so that no text ends the script
+abbrev pub script_escape : ℕ → List ℕ
+script_escape c = if c == 60 then codes "\\u003c" else encode_utf8 c
+
+-- JSON, character by character
+abbrev pub script_escaped : List ℕ → List ℕ
+script_escaped text = flat_map script_escape (chars text)

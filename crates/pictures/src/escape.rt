@@ -1,8 +1,8 @@
-// `put_escaped`: text within HTML and SVG.
+// `put_escaped`: text within HTML and SVG; `put_script_text`: JSON within an element `script`.
 
 ghost use Rattle.std.specs.Prelude.{◌≡◌, ◌++◌, OnOk};
 ghost use Rattle.std.specs.String.{string_bytes};
-ghost use Rattle.pictures.specs.Escaped.{escape, escaped};
+ghost use Rattle.pictures.specs.Escaped.{escape, escaped, script_escape, script_escaped};
 
 use std::alloc::AllocError;
 
@@ -28,6 +28,29 @@ pub fn put_escaped(out: &mut String, text: &str) -> Result<(), AllocError>
 {
     'characters: for character in text.chars() {
         put_character(out, character)?;
+    }
+    Ok(())
+}
+
+/// Puts a character of JSON; `<`, which there is only within texts, by its number.
+fn put_script_character(out: &mut String, character: char) -> Result<(), AllocError>
+    ensures { OnOk result (string_bytes out.new ≡ string_bytes out.old ++ script_escape character) }
+{
+    match character {
+        '<' => out.push_str("\\u003c"),
+        other => out.push(other),
+    }
+}
+
+/// Puts JSON within an element `script`, which no text in it can end: it has no `<`.
+///
+/// # Errors
+/// `AllocError`: the host is out of memory.
+pub fn put_script_text(out: &mut String, text: &str) -> Result<(), AllocError>
+    ensures { OnOk result (string_bytes out.new ≡ string_bytes out.old ++ script_escaped text.now) }
+{
+    'characters: for character in text.chars() {
+        put_script_character(out, character)?;
     }
     Ok(())
 }

@@ -4,9 +4,10 @@ ghost use Rattle.hart_machine.specs.BufferEntries.{IsInWorld};
 ghost use Rattle.process_model.specs.World.{World};
 
 use hart_machine::Machine;
+use lecture_views::entries_of;
 use std::alloc::{AllocError, Global};
 use sv39_entry::{Entry, FrameNo, Kind, Scheme};
-use walk_lines::{TableEntry, table_entries};
+use walk_lines::TableEntry;
 
 /// What the page tables of a process have in a frame.
 #[derive(Clone, Copy)]
@@ -24,24 +25,6 @@ pub enum Holds {
     Table(u32),
     /// The page at this address.
     Page(u64),
-}
-
-/// Returns the valid entries of the page tables of the process in a slot, in the order of their addresses; none if the slot has no
-/// process.
-pub fn entries_of(
-    alloc: Global,
-    machine: &Machine,
-    slot: usize,
-) -> Result<Vec<TableEntry>, AllocError>
-    requires world { (w : World) × IsInWorld machine.now w }
-{
-    match machine.root(slot) {
-        Some(root) => {
-            let mut words = machine.words();
-            table_entries(alloc, &mut words, machine.scheme(), root.ppn())
-        }
-        None => Ok(Vec::new(alloc)),
-    }
 }
 
 /// Returns the frame to which an entry leads, and what it holds; `None` if the entry leads out of the memory.

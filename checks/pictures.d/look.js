@@ -1,0 +1,90 @@
+// Looks at a page in a browser, in a frame of WIDTH x HEIGHT: it shows each line, and then goes through the page by keys. What is wrong goes to
+// the window around the frame.
+'use strict';
+const wrong = [], counts = { looks: 0, rows: 0, hidden: 0, bytes: 0, sharers: 0, walked: 0, keys: 0 };
+const say = text => { if (wrong.length < 20) wrong.push('line ' + (now + 1) + ': ' + text); };
+const key = name => { document.dispatchEvent(new KeyboardEvent('keydown', { key: name, bubbles: true })); counts.keys++; };
+const texts = panel => [...at(panel).querySelectorAll('.row')].filter(it => !it.hidden);
+
+// Whether what is in a box is within it, and within the window.
+function within(box) {
+  const outer = box.getBoundingClientRect();
+  if (outer.right > innerWidth + 1 || outer.bottom > innerHeight + 1) say(box.id + ' is outside of the window');
+  for (const it of box.querySelectorAll('*')) {
+    // A line beside the one that is shown may be cut.
+    if (it.matches('#lines > :not(.now) *')) continue;
+    const inner = it.getBoundingClientRect();
+    if (inner.width && (inner.right > outer.right + 1 || inner.bottom > outer.bottom + 1 || inner.top < outer.top - 1))
+      say('outside of ' + box.id + ': ' + it.textContent.slice(0, 60));
+  }
+}
+
+function look() {
+  const step = steps[now], state = open ? step.after : step.before;
+  counts.looks++;
+  if (document.documentElement.scrollHeight > innerHeight || document.documentElement.scrollWidth > innerWidth) say('the page scrolls');
+  for (const name of ['lines', 'trace', 'processes', 'tables', 'frames']) if (at(name).offsetParent) within(at(name));
+  if (!state) return;
+  for (const name of Object.keys(PANELS)) {
+    const rows = [...at(name).querySelectorAll('.row')];
+    counts.rows += rows.length;
+    counts.hidden += rows.filter(it => it.hidden).length;
+    if (rows.some(it => it.hidden && (it.matches('.changed, .walked, .bytes')))) say('a row that the line changes or walks is hidden in ' + name);
+    if (parseFloat(getComputedStyle(rows[0]).fontSize) < innerHeight / 45) say('small letters in ' + name);
+  }
+  const frames = texts('frames').map(it => it.textContent);
+  for (const frame of state.frames.frames) {
+    const row = texts('frames').find(it => it.dataset.key === 'f' + frame.ppn);
+    if (!row || frame.ppn === '0x80000') continue;
+    const names = [...row.querySelectorAll('.who')].map(it => it.textContent);
+    if (names.length !== frame.names.length) say('frame ' + frame.ppn + ' has ' + names);
+    counts.sharers += names.length;
+  }
+  if (!at('frames').querySelector('.more') && !frames.some(it => it.includes('free: ' + state.frames.free + ' frames'))) say('free frames are not counted');
+  if (!open) return;
+  const request = step.trace.request;
+  for (const word of request ? request.walk : []) {
+    const row = texts('tables').find(it => it.dataset.key === 'w' + word.table + '-' + word.index && it.matches('.walked'));
+    if (!row) say('a word of the walk is not marked: ' + word.table + '[' + word.index + ']');
+    counts.walked++;
+  }
+  if (request && request.entry && !at('tables').querySelector('.walked')) say('the entry that the access uses is not marked');
+  if (state.cell) for (const it of state.cell.rows) {
+    const row = texts('processes').find(other => other.dataset.key.startsWith('c' + it.slot + '-' + it.page));
+    if (!row) say('the bytes of ' + it.slot + ':' + it.page + ' are not shown');
+    else if (!row.textContent.includes(it.bytes.map(byte => byte.toString(16).padStart(2, '0')).join(''))) say('other bytes of ' + it.slot + ':' + it.page);
+    counts.bytes++;
+  }
+}
+
+function go() {
+  if (innerWidth !== WIDTH || innerHeight !== HEIGHT) say('the window is ' + innerWidth + ' x ' + innerHeight);
+  for (let place = 0; place < steps.length; place++) {
+    show(place);
+    look();
+    if (!open) { key(' '); look(); }
+  }
+  key('Home');
+  if (now !== 0) say('Home does not go to the first line');
+  key('ArrowRight');
+  if (steps.length > 1 && open && now !== 1 && !quiz) say('the right arrow does not go on');
+  key('Home');
+  for (let more = 0; more < 3 * steps.length && (now < steps.length - 1 || !open); more++) {
+    const place = now, was = open;
+    key(more % 2 ? ' ' : 'PageDown');
+    if (quiz && !was && (now !== place || !open)) say('the answer is not shown first');
+    if (quiz && was && steps[now].trace.answer !== undefined && open) say('the answer is shown at once');
+    if (quiz && !open && at('lines').textContent.includes('⇒ ' + steps[now].trace.answer) && steps.filter(it => it.trace.answer === steps[now].trace.answer).length === 1) say('the answer can be read');
+    if (!quiz && steps[now].trace.answer === undefined && now < steps.length - 1 && steps[now + 1].trace.answer === undefined) say('stops within lines without answers');
+    if (location.hash.slice(1).split(',')[0] !== String(now + 1)) say('the fragment is ' + location.hash);
+  }
+  if (now !== steps.length - 1) say('PageDown does not come to the last line');
+  for (let more = 0; more < steps.length && now > 0; more++) key('PageUp');
+  if (now > stops[0]) say('PageUp does not come back');
+  const ground = () => getComputedStyle(document.body).backgroundColor, light = ground();
+  key('d');
+  if (ground() === light) say('d does not switch between light and dark');
+}
+
+try { go(); } catch (error) { wrong.push(String(error) + ' at line ' + (now + 1)); }
+parent.postMessage(JSON.stringify({ wrong, counts }), '*');

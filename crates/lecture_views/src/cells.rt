@@ -1,0 +1,114 @@
+// `CellView`: eight bytes around those that a line touches, in each process that maps their page or their frame.
+
+ghost use Rattle.std.specs.Prelude.{◌≡◌, ◌/◌, ◌%◌, option_map};
+ghost use Rattle.std.specs.Int.{to_le_bytes, w64};
+ghost use Rattle.hart_machine.specs.BufferEntries.{IsInWorld};
+ghost use Rattle.process_model.specs.World.{World};
+ghost use Rattle.table_walk.specs.Memory.{plain_memory};
+
+use crate::files::FilePlace;
+use crate::names::{LeafName, names_in};
+use hart_machine::Machine;
+use line_traces::Touched;
+use serde::Serialize;
+use std::alloc::{AllocError, Global};
+use sv39_entry::PAGE_SIZE;
+use table_walk::Words;
+use walk_lines::Hex;
+
+/// The most rows of a cell.
+const LISTED_ROWS: usize = 64;
+
+/// Eight bytes of a page.
+#[derive(Clone, Copy, Serialize)]
+pub struct CellRow {
+    pub slot: usize,
+    /// The page's address, and that of the first of the bytes.
+    pub page: Hex,
+    pub address: Hex,
+    /// The physical page number of its frame.
+    pub ppn: Hex,
+    pub bytes: [u8; 8],
+}
+
+/// The bytes around those that a line touches.
+#[derive(Drop, Serialize)]
+pub struct CellView {
+    /// Which of the eight bytes is the first that is touched, and how many are, there or further on.
+    pub at: u64,
+    pub width: u64,
+    /// The file that is mapped there, or was.
+    #[serde(skip_serializing_if = "Option::is_none")]
+    pub file: Option<u64>,
+    /// These bytes in each process that has the page, or another in its frame.
+    pub rows: Vec<CellRow>,
+}
+
+/// Returns the eight bytes of a frame, by its physical page number, among which there is that of an address; `None` if the frame is
+/// outside the memory. Their order is that of their addresses, as the memory is little-endian.
+pub fn bytes_at(machine: &Machine, ppn: u64, address: u64) -> Option<[u8; 8]>
+    ensures { result ≡ option_map (to_le_bytes w64) (plain_memory machine.now.frames.words ppn (address % 4096 / 8)) }
+{
+    let mut words = machine.words();
+    match words.word(ppn, (address % PAGE_SIZE / 8) as usize) {
+        Some(word) => Some(word.to_le_bytes()),
+        None => None,
+    }
+}
+
+/// Returns the frames that processes have for a page.
+fn frames_of(alloc: Global, leaves: &[LeafName], page: u64) -> Result<Vec<u64>, AllocError> {
+    let mut frames = Vec::new(alloc);
+    for leaf in leaves {
+        if leaf.name.page.0 == page {
+            frames.push(leaf.ppn)?;
+        }
+    }
+    Ok(frames)
+}
+
+/// Returns the bytes of a leaf's page at the offset of an address in its page.
+fn row_of(machine: &Machine, leaf: LeafName, address: u64) -> Option<CellRow> {
+    let page = leaf.name.page;
+    Some(CellRow {
+        slot: leaf.name.slot,
+        page,
+        address: Hex(page.0.wrapping_add(address % PAGE_SIZE)),
+        ppn: Hex(leaf.ppn),
+        bytes: bytes_at(machine, leaf.ppn, address)?,
+    })
+}
+
+impl CellView {
+    /// Returns what a line touches, as it is now; `place` is where it is in a file.
+    ///
+    /// # Errors
+    /// `AllocError`: the host is out of memory.
+    pub fn of(
+        alloc: Global,
+        machine: &Machine,
+        touched: Touched,
+        place: Option<FilePlace>,
+    ) -> Result<CellView, AllocError>
+        requires world { (w : World) × IsInWorld machine.now w }
+    {
+        let va = touched.va.0;
+        let (at, page) = (va % 8, va.wrapping_sub(va % PAGE_SIZE));
+        let leaves = names_in(alloc, machine)?;
+        let frames = frames_of(alloc, leaves.as_slice(), page)?;
+        let mut rows = Vec::new(alloc);
+        for leaf in leaves.as_slice() {
+            if rows.len() < LISTED_ROWS && frames.as_slice().contains(&leaf.ppn) {
+                if let Some(row) = row_of(machine, *leaf, va.wrapping_sub(at)) {
+                    rows.push(row)?;
+                }
+            }
+        }
+        Ok(CellView {
+            at,
+            width: touched.width,
+            file: place.map(|place| place.file),
+            rows,
+        })
+    }
+}
