@@ -12,8 +12,9 @@ BASE, WORDS = BASE_PPN << 12, 512 * FRAMES
 V, R, W, X, U, G, A, D = (1 << bit for bit in range(8))
 LEVELS = {8: 3, 9: 4, 10: 5}
 ACCESSES, MODES = ("fetch", "load", "store"), {0: "U", 1: "S", 3: "M"}
+SAME = "the same"
 BITS = {"svnapot": 1, "svpbmt": 2, "svade": 4, "svadu": 8, "sv39": 256, "sv48": 512, "sv57": 1024}
-PAGE_FAULTS = (12, 13, 15)
+PAGE_FAULTS, ACCESS_FAULTS = (12, 13, 15), (1, 5, 7)
 
 
 def told(value):
@@ -71,6 +72,65 @@ def plain_lookup(words, satp, address):
     return "none"
 
 
+def fault_step(word, level, access, mode):
+    """The step of the standard's 4.3.2 at which an entry is a page fault; None if it is none."""
+    if not word & V or word & (R | W) == W or word >> 54 or (not word & (R | X) and word & (U | A | D)):
+        return 3
+    if not word & (R | X):
+        return None if level else 4
+    if bool(word & U) == bool(mode) or not word & (X, R, W)[access]:
+        return 5
+    if (word >> 10) % (1 << 9 * level):
+        return 6
+    return 7 if not word & A or access == 2 and not word & D else None
+
+
+def plain_walk(words, frames, satp, address, access, mode):
+    """The walk of the standard's 4.3.2 over some frames, and what the players must answer of it: the outcome, and of a fault its step, the level,
+    address and word of the entry, and of step 8 the byte."""
+    if not satp >> 60:
+        return f"bare {address:x}"
+    levels = LEVELS[satp >> 60]
+    page_fault, access_fault = f"page-fault {PAGE_FAULTS[access]} step", f"access-fault {ACCESS_FAULTS[access]} step"
+    if address >> 11 + 9 * levels not in (0, (1 << 53 - 9 * levels) - 1):
+        return f"{page_fault} 0 0 0 0 0"
+    table, word = satp & (1 << 44) - 1, 0
+    for level in range(levels - 1, -1, -1):
+        place = (table << 12) + (address >> 12 + 9 * level) % 512 * 8
+        if table - BASE_PPN not in frames:
+            return f"{access_fault} 2 {level} {place:x} {word:x} 0"
+        word = words.get(place, 0)
+        step, table = fault_step(word, level, access, mode), word >> 10 & (1 << 44) - 1
+        if step is not None:
+            return f"{page_fault} {step} {level} {place:x} {word:x} 0"
+        if word & (R | X):
+            physical = (table << 12) + address % (1 << 12 + 9 * level)
+            is_there = (physical >> 12) - BASE_PPN in frames
+            return f"leaf {level} {word:x} {physical:x}" if is_there else f"{access_fault} 8 {level} {place:x} {word:x} {physical:x}"
+    raise AssertionError("level 0 has no pointer")
+
+
+def regions_of(rng):
+    """The memory in two regions, in any order, at times with a frame between that is in none: of each the first frame and their number."""
+    cut = rng.randrange(FRAMES + 1)
+    gap = rng.random() < 0.3 and cut < FRAMES
+    regions = [(0, cut), (cut + gap, FRAMES - cut - gap)]
+    rng.shuffle(regions)
+    return regions
+
+
+def reader_items(rng, words, satp, address, access, mode):
+    """The same access by a reader, and over regions."""
+    fields = f"{satp:x} {address:x} {access} {mode}"
+    yield Item(f"by {fields}", None, "by", plain_walk(words, range(FRAMES), satp, address, access, mode))
+    if rng.random() < 0.3:
+        regions = regions_of(rng)
+        frames = {it for first, count in regions for it in range(first, first + count)}
+        told = " ".join(f"{first:x} {count:x}" for first, count in regions)
+        kind = "by" if len(frames) == FRAMES else "gap"
+        yield Item(f"regions {fields} {told}", None, kind, plain_walk(words, frames, satp, address, access, mode))
+
+
 def walk_case(rng, accesses):
     """A memory, and walks over it."""
     mode = rng.choice([8, 8, 9, 9, 0]) if rng.random() < 0.2 else rng.choice([8, 9])
@@ -92,6 +152,7 @@ def walk_case(rng, accesses):
             address = rng.choice([BASE, BASE + 8 * WORDS - 8, BASE + rng.randrange(WORDS) * 8])
         program = f"{ACCESSES[access]} {address:#x} {2 if access == 0 else 1} {MODES[user]}"
         yield Item(f"translate {satp:x} {address:x} {access} {user}", program, "translate", ACCESSES[access])
+        yield from reader_items(rng, words, satp, address, access, user)
         if rng.random() < 0.2:
             yield Item(f"lookup {satp:x} {address:x}", None, "known", plain_lookup(words, satp, address))
 
@@ -109,12 +170,15 @@ def tlb_case(rng, steps):
         satp |= asid << 44
         access, mode = rng.randrange(3), rng.randrange(2)
         outcome = rng.choice([f"page-fault {PAGE_FAULTS[access]:x}", f"leaf 0 {random_entry(rng, 2):x} {BASE + address:x}", "access-fault 5"])
-        yield Item(rng.choice([
+        line = rng.choice([
             f"fill {satp:x} {address:x}", f"fill {satp:x} {address:x}", f"match {rng.randrange(3):x} {address:x} {asid:x}",
             f"use {rng.randrange(9):x} {address:x} {asid:x} {access} {mode}", f"evict {rng.randrange(9):x}",
             f"tlbfence {told(rng.choice([None, address]))} {told(rng.choice([None, asid]))}",
             f"permits {satp:x} {address:x} {access} {mode} {outcome}", "entries",
-        ]), None, "alike")
+        ])
+        yield Item(line, None, "alike")
+        if line.startswith("permits"):
+            yield Item(line.replace("permits", "question"), None, "same")
 
 
 # ---- histories
@@ -250,7 +314,7 @@ def judged_texts(answer):
 
 
 def expected(item, answer):
-    """What the players must answer to an item; None if they need only agree."""
+    """What the players must answer to an item; None if they need only agree; SAME if it is what they answered before."""
     if item.kind == "translate":
         return walk_answer(answer, item.known)
     if item.kind == "outcomes":
@@ -259,7 +323,9 @@ def expected(item, answer):
         word, asid_bits = item.known
         legal = word & ~(0xFFFF << 44 & 0xFFFF << 44 + asid_bits)
         return "written" if int(answer["satp"], 16) == legal else "kept"
-    return item.known if item.kind == "known" else None if item.kind == "alike" else "ok"
+    if item.kind == "same":
+        return SAME
+    return item.known if item.kind in ("known", "by", "gap") else None if item.kind == "alike" else "ok"
 
 
 def judge_lines(rng, item, texts):

@@ -31,8 +31,13 @@ def run(*words):
         raise SystemExit(f"{' '.join(map(str, words))}: {ran.stderr[:2000]}")
 
 
+def before_c_alone(text):
+    """The header without what is in C alone, inline functions and macros, which no library has."""
+    return text.partition("/* ---- In C alone")[0]
+
+
 def declared(header):
-    text = re.sub(r"/\*.*?\*/", "", header.read_text(), flags=re.DOTALL)
+    text = re.sub(r"/\*.*?\*/", "", before_c_alone(header.read_text()), flags=re.DOTALL)
     return sorted(set(re.findall(r"\b(xv6vm_\w+)\(", text)))
 
 

@@ -3,15 +3,15 @@ same by the crate xv6vm."""
 import ctypes
 import sys
 
-from xv6vm import Access, Granted, Hart, Memory, MemoryType, Mode, NoAnswer, Outcome, Profile, Refused, Request, Script, ScriptError, Status, Tlb
-from xv6vm import Update, _library, mstatus
+from xv6vm import Access, Granted, Hart, Memory, MemoryType, Mode, NoAnswer, Outcome, Profile, Question, Refused, Regions, Request, Script
+from xv6vm import ScriptError, Status, Tlb, Update, _library, mstatus, translate_by
 from xv6vm.hart import BITS
 
 ERRORS = {Status.UNKNOWN: "unknown", Status.BARE: "bare", Status.ACCESS_FAULT: "outside"}
 KINDS = {"leaf": Status.LEAF, "bare": Status.BARE, "page-fault": Status.PAGE_FAULT, "access-fault": Status.ACCESS_FAULT}
 NAMES = {status: name for name, status in KINDS.items()}
 TYPES = {MemoryType.PMA: "", MemoryType.NC: " nc", MemoryType.IO: " io"}
-STRUCTS = ("outcome", "leaf", "entry", "event", "pmp", "hart", "access", "judged", "played")
+STRUCTS = ("outcome", "leaf", "entry", "reached", "walk", "event", "pmp", "hart", "access", "judged", "played")
 
 
 def optional(text):
@@ -47,6 +47,11 @@ def outcome_text(it):
     return f"{NAMES[it.status]} {it.address:x}" if it.status == Status.BARE else f"{NAMES[it.status]} {it.cause}"
 
 
+def translation_text(it):
+    told, reason = outcome_text(it.outcome), it.reason
+    return told if reason is None else f"{told} step {reason.step:d} {reason.level} {reason.address:x} {reason.word:x} {reason.byte:x}"
+
+
 class Player:
     def __init__(self):
         self.memory, self.tlb, self.hart = Memory(0, 0), Tlb(0), Hart()
@@ -59,6 +64,21 @@ class Player:
 
     def do_translate(self, satp, address, access, mode):
         return outcome_text(self.memory.translate(int(satp, 16), int(address, 16), Access(int(access)), Mode(int(mode))))
+
+    def do_by(self, satp, address, access, mode):
+        words, first = self.memory.words, 512 * self.memory.base_ppn
+
+        def read(place):
+            assert place % 8 == 0
+            return words[place // 8 - first] if 0 <= place // 8 - first < len(words) else None
+
+        return translation_text(translate_by(read, int(satp, 16), int(address, 16), Access(int(access)), Mode(int(mode))))
+
+    def do_regions(self, satp, address, access, mode, *told):
+        numbers, lent = [int(it, 16) for it in told], memoryview(self.memory.words).cast("B")
+        pairs = zip(numbers[::2], numbers[1::2])
+        regions = Regions(*(Memory.over(self.memory.base_ppn + first, lent[4096 * first : 4096 * (first + count)]) for first, count in pairs))
+        return translation_text(regions.translate(int(satp, 16), int(address, 16), Access(int(access)), Mode(int(mode))))
 
     def do_lookup(self, satp, address):
         it = self.memory.lookup(int(satp, 16), int(address, 16))
@@ -86,6 +106,10 @@ class Player:
     def do_permits(self, satp, address, access, mode, *told):
         is_so = self.tlb.permits(self.memory, int(satp, 16), int(address, 16), Access(int(access)), Mode(int(mode)), outcome(*told))
         return "yes" if is_so else "no"
+
+    def do_question(self, satp, address, access, mode, *told):
+        question = Question(self.memory, int(satp, 16), int(address, 16), Access(int(access)), Mode(int(mode)))
+        return "yes" if self.tlb.permits_of(question, outcome(*told)) else "no"
 
     def do_entries(self):
         told = (f"{it.address:x} {it.word:x} {it.level} {it.asid:x} {it.is_global} {it.kind}" for it in self.tlb.entries())

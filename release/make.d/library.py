@@ -20,8 +20,8 @@ def symbols(path, *flags):
 
 
 def declared(header):
-    """The calls that the header declares."""
-    text = re.sub(r"/\*.*?\*/", "", header, flags=re.DOTALL)
+    """The calls that the header declares, but for the inline functions and macros at its end, which are in C alone."""
+    text = re.sub(r"/\*.*?\*/", "", header.partition("/* ---- In C alone")[0], flags=re.DOTALL)
     return set(re.findall(r"\b(xv6vm_\w+)\(", text))
 
 

@@ -3,8 +3,9 @@ import array
 import os
 import unittest
 
-from xv6vm import Access, Granted, Hart, Leaf, Memory, Mmu, Mode, NoAnswer, Outcome, PmpWrite, Profile, ProgramFailed, Refusal, Refused, Request
-from xv6vm import Script, ScriptError, ScriptFault, Status, Tlb, Update, Verdict, mstatus
+from xv6vm import Access, Granted, Hart, Leaf, Memory, Mmu, Mode, NoAnswer, Outcome, PmpWrite, Profile, ProgramFailed, Question, Reason
+from xv6vm import Refusal, Refused, Regions, Request, Script, ScriptError, ScriptFault, Status, Step, Tlb, Translation, Update, Verdict, Walk
+from xv6vm import mstatus, translate_by
 from xv6vm._library import library
 
 SV39 = 8 << 60 | 7 << 44 | 0x80001
@@ -70,6 +71,10 @@ class Walks(unittest.TestCase):
             lambda: Mmu(0x80000000, 0x1000).mem(0x80001000, 0),
             lambda: Mmu(0x80000000, 0x1000).mem(0x80000004, 0),
             lambda: Memory.over(0x80000, bytearray(4)),
+            lambda: translate_by(lambda at: 1 << 64, SV39, 0, Access.LOAD, Mode.USER),
+            lambda: translate_by(lambda at: -1, SV39, 0, Access.LOAD, Mode.USER),
+            lambda: translate_by(memory().read, 1 << 64, 0, Access.LOAD, Mode.USER),
+            lambda: Walk(SV39, 0, Access.LOAD, Mode.USER).end(),
         ):
             self.assertRaises(ValueError, call)
         self.assertRaises(IndexError, lambda: memory()[0x80006000])
@@ -82,7 +87,119 @@ class Walks(unittest.TestCase):
         self.assertEqual(lent.translate(SV39, 0x1234, Access.LOAD, Mode.USER), Outcome(Status.PAGE_FAULT, cause=13))
 
 
+LEAF, ROOT = 0x80003008, 0x80001000
+FETCH, LOAD, STORE = Access
+CAUSES = {FETCH: 12, LOAD: 13, STORE: 15}
+
+
+def walk(place, word, access=Access.LOAD, mode=Mode.USER):
+    """Walks by Sv39 to 0x1234, with another word at a place."""
+    it = memory()
+    return translate_by(lambda at: word if at == place else it.read(at), SV39, 0x1234, access, mode)
+
+
+def data(word, address):
+    return Translation(Outcome(Status.LEAF, 0, word, address))
+
+
+class Readers(unittest.TestCase):
+    """Walks over memory of any kind. What must come back is worked out by hand from the standard's 4.3.2."""
+
+    def test_steps(self):
+        rows = [
+            # V is clear; W without R; bit 54 is reserved
+            (Step.INVALID, LEAF, 0, LOAD, Mode.USER),
+            (Step.INVALID, LEAF, DATA & ~1, LOAD, Mode.USER),
+            (Step.INVALID, LEAF, DATA & ~2, LOAD, Mode.USER),
+            (Step.INVALID, LEAF, DATA | 1 << 54, STORE, Mode.USER),
+            (Step.INVALID, ROOT, 1 << 63 | 0x80002 << 10 | 1, FETCH, Mode.USER),
+            (Step.NO_LEAF, LEAF, 0x80004 << 10 | 1, STORE, Mode.USER),
+            # no X; U in supervisor mode with SUM = 0; no U in user mode; no W
+            (Step.NOT_GRANTED, LEAF, DATA, FETCH, Mode.USER),
+            (Step.NOT_GRANTED, LEAF, DATA, LOAD, Mode.SUPERVISOR),
+            (Step.NOT_GRANTED, LEAF, DATA & ~0x10, LOAD, Mode.USER),
+            (Step.NOT_GRANTED, LEAF, DATA & ~4, STORE, Mode.USER),
+            # 0x80001 is no multiple of 2^18: after rights, and before A
+            (Step.MISALIGNED, ROOT, 0x80001 << 10 | 0xD7, LOAD, Mode.USER),
+            (Step.MISALIGNED, ROOT, 0x80001 << 10 | 0x97, LOAD, Mode.USER),
+            (Step.NOT_GRANTED, ROOT, 0x80001 << 10 | 0xD7, LOAD, Mode.SUPERVISOR),
+            (Step.NOT_MARKED, LEAF, DATA & ~0x40, LOAD, Mode.USER),
+            (Step.NOT_MARKED, LEAF, DATA & ~0x80, STORE, Mode.USER),
+        ]
+        for step, place, word, access, mode in rows:
+            fault = Translation(Outcome(Status.PAGE_FAULT, cause=CAUSES[access]), Reason(step, 2 if place == ROOT else 0, place, word))
+            self.assertEqual(walk(place, word, access, mode), fault)
+        for word in (DATA, DATA & ~0x80):
+            self.assertEqual(walk(LEAF, word), data(word, 0x80005234))
+        superpage = 0x80000 << 10 | 0xD7
+        self.assertEqual(walk(ROOT, superpage), Translation(Outcome(Status.LEAF, 2, superpage, 0x80001234)))
+
+    def test_outside(self):
+        pointer, far = 0x90000 << 10 | 1, 0x90000 << 10 | 0xD7
+        rows = [
+            (walk(0x80002000, pointer, STORE), 7, Reason(Step.TABLE_OUTSIDE, 0, 0x90000008, pointer)),
+            (translate_by(memory().read, 8 << 60 | 0x70000, 3 << 30, FETCH, Mode.USER), 1, Reason(Step.TABLE_OUTSIDE, 2, 0x70000018)),
+            (walk(LEAF, far), 5, Reason(Step.BYTE_OUTSIDE, 0, LEAF, far, 0x90000234)),
+        ]
+        for got, cause, reason in rows:
+            self.assertEqual(got, Translation(Outcome(Status.ACCESS_FAULT, cause=cause), reason))
+
+    def test_questions(self):
+        """What is asked for, in order; and nothing, if the address is not canonical."""
+        places = [0x80000000, ROOT, 0x80002000, LEAF, 0x80005230]
+        refused = Translation(Outcome(Status.PAGE_FAULT, cause=13), Reason(Step.NOT_CANONICAL))
+        top = (1 << 64) - 1
+        rows = [(satp, 0x1234, data(DATA, 0x80005234), wanted) for satp, wanted in ((SV39, places[1:]), (SV48, places))]
+        rows += [(SV39, it, refused, []) for it in (1 << 38, 1 << 63, top << 38 & top ^ 1 << 50)]
+        rows += [(SV48, 1 << 47, refused, []), (0, top, Translation(Outcome(Status.BARE, address=top)), [])]
+        for satp, address, wanted, asked in rows:
+            it, got = memory(), []
+            self.assertEqual(translate_by(lambda at: got.append(at) or it.read(at), satp, address, LOAD, Mode.USER), wanted)
+            self.assertEqual(got, asked)
+        for satp, access, mode in ((10 << 60, LOAD, Mode.USER), (SV39, LOAD, Mode.MACHINE), (SV39, 7, Mode.USER)):
+            with self.assertRaises(NoAnswer) as caught:
+                translate_by(memory().read, satp, 0, access, mode)
+            self.assertEqual(caught.exception.status, Status.UNKNOWN)
+
+    def test_regions(self):
+        tables, rest = Memory(0x80000, words()[: 3 * 512]), Memory(0x80003, words()[3 * 512 :])
+        both = Regions(rest, tables)
+        self.assertEqual(both.translate(SV48, 0x1FFF, STORE, Mode.USER), data(DATA, 0x80005FFF))
+        self.assertEqual((both.read(LEAF + 7), both.read(0x80006000), both.read(0x7FFFFFF8)), (DATA, None, None))
+        gone = Reason(Step.TABLE_OUTSIDE, 0, LEAF, 0x80003 << 10 | 1)
+        self.assertEqual(Regions(tables).translate(SV39, 0x1234, LOAD, Mode.USER).reason, gone)
+        covered = Regions(Memory(0x80003, [0, DATA & ~0x40]), rest, tables)
+        self.assertEqual(covered.translate(SV39, 0x1234, LOAD, Mode.USER).reason, Reason(Step.NOT_MARKED, 0, LEAF, DATA & ~0x40))
+        self.assertEqual(Regions().translate(SV39, 0, LOAD, Mode.USER).outcome, Outcome(Status.ACCESS_FAULT, cause=5))
+
+    def test_errors_of_a_reader(self):
+        self.assertRaises(ZeroDivisionError, lambda: translate_by(lambda at: 1 // 0, SV39, 0, LOAD, Mode.USER))
+
+    def test_by_hand(self):
+        it = Walk(SV39, 0x1234, STORE, Mode.USER)
+        for place, word in ((ROOT, 0x80002 << 10 | 1), (0x80002000, 0x80003 << 10 | 1), (LEAF, DATA), (0x80005230, None)):
+            self.assertEqual(it.asked, place)
+            it.tell(word)
+        end = Translation(Outcome(Status.ACCESS_FAULT, cause=7), Reason(Step.BYTE_OUTSIDE, 0, LEAF, DATA, 0x80005234))
+        self.assertEqual((it.asked, it.end()), (None, end))
+        it.tell(0)
+        self.assertEqual(it.end(), end)
+
+
 class Tlbs(unittest.TestCase):
+    def test_questions_by_name(self):
+        fault, old = Outcome(Status.PAGE_FAULT, cause=13), Outcome(Status.LEAF, 0, DATA, 0x80005234)
+        it, tlb = memory(), Tlb(2)
+        ask = Question(it, SV39, 0x2234, LOAD, Mode.USER)
+        self.assertEqual([tlb.permits_of(ask, fault), tlb.permits_of(ask, old)], [True, False])
+        # an entry for 0x2000 that has the leaf of 0x1000
+        place = tlb.entries()[0]
+        place.address, place.word, place.asid, place.kind = 0x2000, DATA, 7, 1
+        self.assertEqual([tlb.permits_of(ask, fault), tlb.permits_of(ask, old)], [True, True])
+        others = [Question(it, SV39, 0x3234, LOAD, Mode.USER), Question(it, SV39 ^ 1 << 44, 0x2234, LOAD, Mode.USER)]
+        self.assertEqual([tlb.permits_of(other, old) for other in others], [False, False])
+        self.assertFalse(tlb.permits_of(Question(it, SV39, 0x2234, STORE, Mode.USER), fault))
+
     def test_calls(self):
         it, tlb = memory(), Tlb(4)
         tlb.fill(it, SV39, 0x1000)

@@ -2,7 +2,7 @@
 after what happened at a hart. What the C library and the program `xv6lab` answer is proved, this package is tested.
 
 `Mmu` is the judge with a memory of its own, over the library or over the program. `Memory`, `Tlb` and `Hart` are the calls of the library
-over memory of yours. `Script` plays a script of xv6's virtual memory.
+over memory of yours; `Regions` are several runs of it, and `translate_by` asks a function of yours for each word. `Script` plays a script of xv6's virtual memory.
 
 >>> from xv6vm import Access, Granted, Mmu, Mode, Request
 >>> mmu = Mmu(0x80000000, 0x3000)
@@ -18,15 +18,16 @@ True
 False
 """
 from ._library import LibraryNotFound
-from .codes import Access, MemoryType, Mode, ScriptFault, Status
+from .codes import Access, MemoryType, Mode, ScriptFault, Status, Step
 from .hart import Granted, Hart, Judged, Profile, Refused, Request, Update, mstatus
-from .memory import Leaf, Memory, NoAnswer, Outcome, Tlb
+from .memory import Leaf, Memory, NoAnswer, Outcome, Question, Tlb
 from .mmu import Mmu, PmpWrite, ProgramFailed, Refusal, Verdict
 from .script import Script, ScriptError
+from .walk import Reason, Regions, Translation, Walk, translate_by
 
 __version__ = "0.9.0"
 __all__ = [
     "Access", "Granted", "Hart", "Judged", "Leaf", "LibraryNotFound", "Memory", "MemoryType", "Mmu", "Mode", "NoAnswer", "Outcome",
-    "PmpWrite", "Profile", "ProgramFailed", "Refusal", "Refused", "Request", "Script", "ScriptError", "ScriptFault", "Status", "Tlb",
-    "Update", "Verdict", "mstatus",
+    "PmpWrite", "Profile", "ProgramFailed", "Question", "Reason", "Refusal", "Refused", "Regions", "Request", "Script", "ScriptError",
+    "ScriptFault", "Status", "Step", "Tlb", "Translation", "Update", "Verdict", "Walk", "mstatus", "translate_by",
 ]

@@ -27,6 +27,17 @@ class RawEntry(Structure):
     ]
 
 
+class RawReached(Structure):
+    _fields_ = [
+        ("status", c_uint32), ("level", c_uint32), ("table", c_uint64), ("index", c_uint64), ("place", c_uint64), ("word", c_uint64),
+        ("cause", c_uint64), ("step", c_uint64),
+    ]
+
+
+class RawWalk(Structure):
+    _fields_ = [("satp", c_uint64), ("address", c_uint64), ("access", c_uint32), ("mode", c_uint32), ("at", RawReached)]
+
+
 class RawEvent(Structure):
     _fields_ = [("kind", c_uint64), ("key", c_uint64), ("value", c_uint64), ("other", c_uint64)]
 
@@ -71,6 +82,8 @@ CALLS: List[Tuple[str, Any, List[Any]]] = [
     ("xv6vm_tlb_evict", None, [*TLB, c_size_t]),
     ("xv6vm_tlb_fence", None, [*TLB, c_uint32, c_uint64, c_uint32, c_uint16]),
     ("xv6vm_permits", c_uint32, [*TLB, *MEMORY, c_uint64, c_uint64, c_uint32, c_uint32, RawOutcome]),
+    ("xv6vm_walk_begin", None, [POINTER(RawWalk), c_uint64, c_uint64, c_uint32, c_uint32]),
+    ("xv6vm_walk_next", None, [POINTER(RawWalk), c_uint32, c_uint64]),
     ("xv6vm_hart_begin", None, [POINTER(RawHart), c_uint32, c_uint32, c_uint32]),
     ("xv6vm_hart_status", None, [POINTER(RawHart), c_uint64]),
     ("xv6vm_hart_mem", c_uint32, [*EVENTS, c_uint64, c_uint64, c_uint64]),

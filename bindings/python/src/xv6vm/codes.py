@@ -40,6 +40,27 @@ class Status(Named):
     FULL = 7
 
 
+class Step(Named):
+    """The step of the standard's 4.3.2 at which an access faults."""
+
+    NOT_CANONICAL = 0
+    """No step: the address is not canonical (4.4.1, 4.5.1). A page fault."""
+    TABLE_OUTSIDE = 2
+    """The page table entry (PTE) is outside the memory. An access fault."""
+    INVALID = 3
+    """V is clear, or W is set without R, or a reserved bit is set. A page fault, as all below but the last."""
+    NO_LEAF = 4
+    """A pointer at level 0."""
+    NOT_GRANTED = 5
+    """R, W, X and U of the leaf do not grant the access."""
+    MISALIGNED = 6
+    """The leaf is a misaligned superpage."""
+    NOT_MARKED = 7
+    """A of the leaf is clear, or D at a store."""
+    BYTE_OUTSIDE = 8
+    """The byte is outside the memory. An access fault."""
+
+
 class MemoryType(Named):
     """The memory type of an access, by Svpbmt: by the attributes of the physical address, non-cacheable, I/O."""
 
@@ -80,6 +101,6 @@ def text_of(record: Any) -> str:
         if value == it.default:
             continue
         name = "" if len(told) == fields(record).index(it) else f"{it.name}="
-        shown = hex(value) if it.name in ("address", "word") else str(value) if isinstance(value, enum.Enum) else repr(value)
+        shown = hex(value) if it.name in ("address", "word", "byte") else str(value) if isinstance(value, enum.Enum) else repr(value)
         told.append(name + shown)
     return f"{type(record).__name__}({', '.join(told)})"

@@ -65,8 +65,9 @@ def argument_pair(value: Optional[int], end: int, name: str) -> Tuple[int, int]:
 
 
 class Memory:
-    """Physical memory: one run of 64-bit words from page `base_ppn` on, 512 words a page. All else is outside it. `words` is the number of
-    words, all 0 at first, or the words. An item is the word at a physical address, of which the low 3 bits do not count.
+    """Physical memory: one run of 64-bit words from page `base_ppn` on, 512 words a page. All else is outside it: `Regions` are several runs,
+    and `translate_by` is for memory behind a call of yours. `words` is the number of words, all 0 at first, or the words. An item is the word
+    at a physical address, of which the low 3 bits do not count.
 
     >>> memory = Memory(0x80000, 512)
     >>> memory[0x80000000] = 0x80000 << 10 | 0xDF
@@ -117,6 +118,11 @@ class Memory:
     def __setitem__(self, address: int, word: int) -> None:
         self.words[self.index(address)] = number(word, WORD, "a word")
 
+    def read(self, address: int) -> Optional[int]:
+        """The word at a physical address, of which the low 3 bits do not count; None if it is outside the memory."""
+        at = (address >> 3) - 512 * self.base_ppn
+        return int(self.words[at]) if 0 <= at < len(self.words) else None
+
     def translate(self, satp: int, address: int, access: Access, mode: Mode) -> Outcome:
         """Translates the address of an access by the page table in `satp`, with SUM and MXR 0. One byte is looked for."""
         number(satp, WORD, "satp"), number(address, WORD, "address")
@@ -131,6 +137,17 @@ class Memory:
         if status in NO_WALK:
             raise NoAnswer(status, NO_WALK[status])
         return Leaf(raw.level, raw.word, raw.address, raw.is_global != 0) if status == Status.LEAF else None
+
+
+@dataclass(frozen=True)
+class Question:
+    """What `Tlb.permits_of` is asked of: an access, with its memory as it is now, and satp."""
+
+    memory: Memory
+    satp: int
+    address: int
+    access: Access
+    mode: Mode
 
 
 class Tlb:
@@ -196,3 +213,14 @@ class Tlb:
             self.places, len(self.places), memory.words, len(memory.words), memory.base_ppn, satp, address, access, mode, raw
         )
         return bool(answer == 1)
+
+    def permits_of(self, question: Question, outcome: Outcome) -> bool:
+        """`permits`, of a question.
+
+        >>> memory = Memory(0x80000, [0x80000 << 10 | 0x53])
+        >>> question = Question(memory, 8 << 60 | 0x80000, 0, Access.STORE, Mode.USER)
+        >>> Tlb(4).permits_of(question, Outcome(Status.PAGE_FAULT, cause=15))
+        True
+        """
+        it = question
+        return self.permits(it.memory, it.satp, it.address, it.access, it.mode, outcome)

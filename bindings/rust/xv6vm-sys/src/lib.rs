@@ -2,7 +2,8 @@
 //!
 //! Every call is `unsafe`: a pointer must not be null, also with a count of 0, and must be aligned; an array must have as many elements
 //! as the count beside it says; while a call runs nobody writes what it reads, and nobody else reads or writes what it writes. The crate
-//! `xv6vm` keeps these rules for you.
+//! `xv6vm` keeps these rules for you. What the header has in C alone (`xv6vm_translate_by` and regions) is not here: it is a loop around
+//! `xv6vm_walk_begin` and `xv6vm_walk_next`.
 #![no_std]
 #![allow(non_camel_case_types)]
 
@@ -57,6 +58,34 @@ pub struct xv6vm_entry {
     pub asid: u16,
     pub global: u8,
     pub kind: u8,
+}
+
+pub const XV6VM_READ: u32 = 8;
+pub const XV6VM_BYTE: u32 = 9;
+
+/// How far a walk has come.
+#[repr(C)]
+#[derive(Clone, Copy, Debug, Default, PartialEq, Eq, Hash)]
+pub struct xv6vm_reached {
+    pub status: u32,
+    pub level: u32,
+    pub table: u64,
+    pub index: u64,
+    pub place: u64,
+    pub word: u64,
+    pub cause: u64,
+    pub step: u64,
+}
+
+/// A walk that asks for each word: what it is for, and how far it has come. Any numbers are allowed; `xv6vm_walk_begin` makes a sensible one.
+#[repr(C)]
+#[derive(Clone, Copy, Debug, Default, PartialEq, Eq, Hash)]
+pub struct xv6vm_walk {
+    pub satp: u64,
+    pub address: u64,
+    pub access: u32,
+    pub mode: u32,
+    pub at: xv6vm_reached,
 }
 
 pub const XV6VM_STORE_EVENT: u64 = 0;
@@ -212,6 +241,8 @@ extern "C" {
         mode: u32,
         outcome: xv6vm_outcome,
     ) -> u32;
+    pub fn xv6vm_walk_begin(walk: *mut xv6vm_walk, satp: u64, address: u64, access: u32, mode: u32);
+    pub fn xv6vm_walk_next(walk: *mut xv6vm_walk, is_there: u32, word: u64);
     pub fn xv6vm_hart_begin(hart: *mut xv6vm_hart, profile: u32, asid_bits: u32, pmp_count: u32);
     pub fn xv6vm_hart_status(hart: *mut xv6vm_hart, mstatus: u64);
     pub fn xv6vm_hart_mem(

@@ -16,7 +16,8 @@
 //! # Ok::<(), xv6vm::Error>(())
 //! ```
 //!
-//! Memory is one run of words. A table or a page elsewhere is outside of it: an access fault.
+//! [`Memory`] is one run of words. A table or a page elsewhere is outside of it: an access fault. [`Regions`] are several runs, and
+//! [`translate_by`] asks a closure of yours for each word; both say why an access faults.
 #![no_std]
 #![warn(missing_docs)]
 #![deny(unsafe_op_in_unsafe_fn)]
@@ -33,6 +34,7 @@ mod memory;
 #[cfg(feature = "play")]
 mod script;
 mod tlb;
+mod walk;
 
 pub use codes::{Access, Error, Mode};
 #[cfg(feature = "alloc")]
@@ -42,7 +44,8 @@ pub use memory::{Leaf, Memory, Outcome};
 pub use script::Script;
 #[cfg(feature = "play")]
 pub use script::{play_into, ScriptError, ScriptFault};
-pub use tlb::{Entry, Tlb};
+pub use tlb::{Entry, Question, Tlb};
+pub use walk::{translate_by, Asked, Pte, Reason, Regions, Translation, Walk};
 
 /// The version of the C library that this crate is for.
 pub const VERSION: &str = xv6vm_sys::XV6VM_VERSION;

@@ -89,10 +89,10 @@ pub struct Leaf {
     pub global: bool,
 }
 
-/// Physical memory: one run of 64-bit words from a page on, 512 words a page. All else is outside it.
+/// Physical memory: one run of 64-bit words from a page on, 512 words a page. All else is outside it. For several runs there are
+/// [`Regions`](crate::Regions), for memory behind a call of yours [`translate_by`](crate::translate_by).
 ///
-/// It borrows the words, so make one for each call, or for as long as no word changes. Several runs would need a call of the C
-/// library that takes several; a walk over each alone would call a table in another run outside.
+/// It borrows the words, so make one for each call, or for as long as no word changes.
 #[derive(Clone, Copy, Debug)]
 pub struct Memory<'a> {
     base_ppn: u64,
@@ -131,6 +131,20 @@ impl<'a> Memory<'a> {
     /// Returns the words.
     pub const fn words(&self) -> &'a [u64] {
         self.words
+    }
+
+    /// Returns the word at a physical address, of which the low 3 bits do not count; `None` if it is outside the memory.
+    ///
+    /// ```
+    /// # use xv6vm::Memory;
+    /// let words = [7, 8, 9];
+    /// let memory = Memory::new(0x80000, &words);
+    /// assert_eq!((memory.read(0x8000_0010), memory.read(0x8000_0017)), (Some(9), Some(9)));
+    /// assert_eq!((memory.read(0x8000_0018), memory.read(0x7fff_fff8)), (None, None));
+    /// ```
+    pub fn read(&self, address: u64) -> Option<u64> {
+        let before = (address / 8).checked_sub(self.base_ppn.checked_mul(512)?)?;
+        self.words.get(usize::try_from(before).ok()?).copied()
     }
 
     /// Translates the address of an access by the page table in `satp`, with SUM and MXR 0. One byte is looked for.

@@ -7,6 +7,21 @@ use xv6vm_sys as sys;
 /// A place of a TLB: the C struct, whose header explains each field. Any numbers are allowed; the default is an empty place.
 pub use xv6vm_sys::xv6vm_entry as Entry;
 
+/// What [`Tlb::permits_of`] is asked of: an access, with its memory and satp, by names.
+#[derive(Clone, Copy, Debug)]
+pub struct Question<'a> {
+    /// The memory, as it is now.
+    pub memory: Memory<'a>,
+    /// satp, with the ASID of the access.
+    pub satp: u64,
+    /// The virtual address.
+    pub address: u64,
+    /// The kind of the access.
+    pub access: Access,
+    /// The privilege mode: user or supervisor.
+    pub mode: Mode,
+}
+
 /// A TLB of whole walks, in places that the caller chooses: a `Vec` or an array of entries, or a slice that is borrowed.
 ///
 /// It is a model of such a TLB, and judges none that caches pointers or superpages: that is for [`Hart`](crate::Hart).
@@ -140,5 +155,21 @@ impl<S: AsRef<[Entry]> + AsMut<[Entry]>> Tlb<S> {
             )
         };
         answer == 1
+    }
+
+    /// [`Tlb::permits`], of a question.
+    ///
+    /// ```
+    /// # use xv6vm::{Access, Entry, Memory, Mode, Outcome, Question, Tlb};
+    /// let words = [0x80000 << 10 | 0x53];
+    /// let (memory, satp) = (Memory::new(0x80000, &words), 8 << 60 | 0x80000);
+    /// let question = Question { memory, satp, address: 0, access: Access::Store, mode: Mode::User };
+    /// let tlb = Tlb::over([Entry::default(); 4]);
+    /// assert!(tlb.permits_of(&question, Outcome::PageFault { cause: 15 }));
+    /// assert!(!tlb.permits_of(&Question { access: Access::Load, ..question }, Outcome::PageFault { cause: 15 }));
+    /// ```
+    pub fn permits_of(&self, question: &Question<'_>, outcome: Outcome) -> bool {
+        let Question { memory, satp, address, access, mode } = question;
+        self.permits(memory, *satp, *address, *access, *mode, outcome)
     }
 }

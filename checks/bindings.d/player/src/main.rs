@@ -4,7 +4,8 @@
 use std::io::{BufRead, Write};
 
 use xv6vm::{
-    Access, Entry, Error, Hart, Judged, Memory, MemoryType, Mode, Outcome, Pmps, Profile, Request, Status, Tlb, Update, Width,
+    translate_by, Access, Entry, Error, Hart, Judged, Memory, MemoryType, Mode, Outcome, Pmps, Profile, Question, Reason, Regions,
+    Request, Status, Tlb, Translation, Update, Width,
 };
 
 type Fields<'a> = std::str::SplitAsciiWhitespace<'a>;
@@ -117,6 +118,21 @@ fn outcome_text(outcome: Result<Outcome, Error>) -> String {
     }
 }
 
+/// The outcome, and of a fault the step, the level, the address and the word of the entry, and the byte that is outside.
+fn translation_text(translation: Result<Translation, Error>) -> String {
+    let told = outcome_text(translation.map(|it| it.outcome));
+    let Some(reason) = translation.ok().and_then(|it| it.reason) else {
+        return told;
+    };
+    let (level, address, word, byte) = match reason {
+        Reason::NotCanonical => (0, 0, 0, 0),
+        Reason::TableOutside { level, address, pointer } => (level, address, pointer.unwrap_or(0), 0),
+        Reason::ByteOutside { leaf, address } => (leaf.level, leaf.address, leaf.word, address),
+        _ => reason.pte().map_or((0, 0, 0, 0), |it| (it.level, it.address, it.word, 0)),
+    };
+    format!("{told} step {} {level} {address:x} {word:x} {byte:x}", reason.step())
+}
+
 /// `leaf LEVEL WORD ADDRESS`, `bare ADDRESS`, `page-fault CAUSE` or `access-fault CAUSE`.
 fn outcome(fields: &mut Fields) -> Outcome {
     match fields.next() {
@@ -160,6 +176,24 @@ impl Player {
                 self.store(address, word);
             }
             "translate" => return outcome_text(memory.translate(number(f), number(f), access(f), mode(f))),
+            "by" => {
+                let (words, first) = (&self.words, 512 * self.base_ppn);
+                let read = |place: u64| {
+                    assert_eq!(place % 8, 0);
+                    (place / 8).checked_sub(first).and_then(|it| words.get(it as usize)).copied()
+                };
+                return translation_text(translate_by(read, number(f), number(f), access(f), mode(f)));
+            }
+            "regions" => {
+                let (satp, address, access, mode) = (number(f), number(f), access(f), mode(f));
+                let pairs: Vec<_> = f.map(|it| u64::from_str_radix(it, 16).expect("a number")).collect();
+                let region = |it: &[u64]| {
+                    let (first, count) = (it[0] as usize, it[1] as usize);
+                    Memory::new(self.base_ppn + it[0], &self.words[512 * first..512 * (first + count)])
+                };
+                let regions: Vec<_> = pairs.chunks(2).map(region).collect();
+                return translation_text(Regions::new(&regions).translate(satp, address, access, mode));
+            }
             "lookup" => {
                 return match memory.lookup(number(f), number(f)) {
                     Ok(Some(it)) => format!("leaf {} {:x} {:x} {}", it.level, it.word, it.address, u8::from(it.global)),
@@ -180,6 +214,10 @@ impl Player {
             "evict" => self.tlb.evict(number(f) as usize),
             "tlbfence" => self.tlb.fence(optional(f), optional(f).map(|it| it as u16)),
             "permits" => return yes(self.tlb.permits(&memory, number(f), number(f), access(f), mode(f), outcome(f))),
+            "question" => {
+                let (satp, address, access, mode) = (number(f), number(f), access(f), mode(f));
+                return yes(self.tlb.permits_of(&Question { memory, satp, address, access, mode }, outcome(f)));
+            }
             "entries" => return self.entries(),
             "begin" => self.hart = Hart::new(&profile(f)),
             "status" => {
@@ -254,6 +292,8 @@ fn layouts() -> String {
         layout!(xv6vm_outcome: status level word address cause),
         layout!(xv6vm_leaf: status level word address global),
         layout!(xv6vm_entry: address word level asid global kind),
+        layout!(xv6vm_reached: status level table index place word cause step),
+        layout!(xv6vm_walk: satp address access mode at),
         layout!(xv6vm_event: kind key value other),
         layout!(xv6vm_pmp: config address),
         layout!(xv6vm_hart: profile asid_bits mstatus satp pmp_count count pmp),
