@@ -150,6 +150,7 @@ def walk_case(rng, accesses):
         address, access, user = random_address(rng, LEVELS.get(mode, 3), indices), rng.randrange(3), rng.randrange(2)
         if not mode:
             address = rng.choice([BASE, BASE + 8 * WORDS - 8, BASE + rng.randrange(WORDS) * 8])
+        address += rng.randrange(4) * 2 if access == 0 else rng.randrange(8)
         program = f"{ACCESSES[access]} {address:#x} {2 if access == 0 else 1} {MODES[user]}"
         yield Item(f"translate {satp:x} {address:x} {access} {user}", program, "translate", ACCESSES[access])
         yield from reader_items(rng, words, satp, address, access, user)

@@ -34,7 +34,7 @@ PLANTED = [
     ("a leaf's level is lost in a walk that asks", RUST + "walk.rs", "sys::xv6vm_outcome { status, level, word, address: place", "sys::xv6vm_outcome { status, level: level & 1, word, address: place"),
     ("the second region is forgotten", RUST + "walk.rs", "self.regions.iter().find_map(", "self.regions.iter().take(1).find_map("),
     ("a region begins a page late", RUST + "memory.rs", "self.base_ppn.checked_mul(512)?)?", "(self.base_ppn + 1).checked_mul(512)?)?"),
-    ("a question's ASID is lost", RUST + "tlb.rs", "self.permits(memory, *satp,", "self.permits(memory, *satp & !(0xffff << 44),"),
+    ("a question's MODE is lost", RUST + "tlb.rs", "self.permits(memory, *satp,", "self.permits(memory, *satp << 4 >> 4,"),
     ("two fields of a struct are swapped", PYTHON + "_library.py", '("word", c_uint64), ("address", c_uint64), ("cause", c_uint64)]', '("address", c_uint64), ("word", c_uint64), ("cause", c_uint64)]'),
     ("a field has the wrong size", PYTHON + "_library.py", '("asid", c_uint16), ("is_global"', '("asid", c_uint32), ("is_global"'),
     ("an array of a struct is too short", PYTHON + "_library.py", "RawPmp * 64", "RawPmp * 16"),
@@ -69,5 +69,5 @@ PLANTED = [
     ("the byte outside is lost", PYTHON + "walk.py", "at.place if step == Step.BYTE_OUTSIDE else 0", "0"),
     ("the second region is forgotten", PYTHON + "walk.py", "for region in self.regions:", "for region in self.regions[:1]:"),
     ("a region begins a word late", PYTHON + "memory.py", "return int(self.words[at]) if 0 <= at <", "return int(self.words[at - 1]) if 0 <= at <"),
-    ("a question's ASID is lost", PYTHON + "memory.py", "self.permits(it.memory, it.satp,", "self.permits(it.memory, it.satp & ~(0xFFFF << 44),"),
+    ("a question's MODE is lost", PYTHON + "memory.py", "self.permits(it.memory, it.satp,", "self.permits(it.memory, it.satp & (1 << 60) - 1,"),
 ]

@@ -1,88 +1,10 @@
-//! Calls the C library from Rust, behind safe functions: a slice is all that a call asks for. What must come back is written
-//! here as numbers. `rustc --edition 2021 -O calls.rs -L FOLDER -l static=xv6vm_c`
+//! Calls the C library from Rust by the crate of bindings/rust/xv6vm-sys, behind safe functions: a slice is all that a call asks for. What
+//! must come back is written here as numbers.
 
 use std::process::ExitCode;
 
-mod raw {
-    #[repr(C)]
-    #[derive(Clone, Copy, Debug, PartialEq, Eq, Default)]
-    pub struct Outcome {
-        pub status: u32,
-        pub level: u32,
-        pub word: u64,
-        pub address: u64,
-        pub cause: u64,
-    }
-
-    #[repr(C)]
-    #[derive(Clone, Copy, Debug, PartialEq, Eq, Default)]
-    pub struct Leaf {
-        pub status: u32,
-        pub level: u32,
-        pub word: u64,
-        pub address: u64,
-        pub global: u64,
-    }
-
-    #[repr(C)]
-    #[derive(Clone, Copy, Debug, PartialEq, Eq, Default)]
-    pub struct Entry {
-        pub address: u64,
-        pub word: u64,
-        pub level: u32,
-        pub asid: u16,
-        pub global: u8,
-        pub kind: u8,
-    }
-
-    extern "C" {
-        pub fn xv6vm_translate(
-            words: *const u64,
-            count: usize,
-            base_ppn: u64,
-            satp: u64,
-            address: u64,
-            access: u32,
-            mode: u32,
-        ) -> Outcome;
-        pub fn xv6vm_lookup(words: *const u64, count: usize, base_ppn: u64, satp: u64, address: u64) -> Leaf;
-        pub fn xv6vm_tlb_fill(
-            entries: *mut Entry,
-            places: usize,
-            words: *const u64,
-            count: usize,
-            base_ppn: u64,
-            satp: u64,
-            address: u64,
-        ) -> u32;
-        pub fn xv6vm_tlb_match(entries: *const Entry, places: usize, from: usize, address: u64, asid: u16) -> usize;
-        pub fn xv6vm_tlb_use(
-            entries: *const Entry,
-            places: usize,
-            n: usize,
-            address: u64,
-            asid: u16,
-            access: u32,
-            mode: u32,
-        ) -> Outcome;
-        pub fn xv6vm_tlb_evict(entries: *mut Entry, places: usize, n: usize);
-        pub fn xv6vm_tlb_fence(entries: *mut Entry, places: usize, has_address: u32, address: u64, has_asid: u32, asid: u16);
-        pub fn xv6vm_permits(
-            entries: *const Entry,
-            places: usize,
-            words: *const u64,
-            count: usize,
-            base_ppn: u64,
-            satp: u64,
-            address: u64,
-            access: u32,
-            mode: u32,
-            outcome: Outcome,
-        ) -> u32;
-    }
-}
-
-use raw::{Entry, Leaf, Outcome};
+use xv6vm_sys as raw;
+use xv6vm_sys::{xv6vm_entry as Entry, xv6vm_leaf as Leaf, xv6vm_outcome as Outcome, xv6vm_reached as Reached};
 
 #[derive(Clone, Copy)]
 enum Access {
@@ -107,6 +29,19 @@ impl Memory {
     fn translate(&self, satp: u64, address: u64, access: Access, mode: Mode) -> Outcome {
         let words = &self.words;
         unsafe { raw::xv6vm_translate(words.as_ptr(), words.len(), self.base_ppn, satp, address, access as u32, mode as u32) }
+    }
+
+    /// Walks with a question for each word. Returns how the walk ends, and how often it asks.
+    fn walk(&self, satp: u64, address: u64, access: Access, mode: Mode) -> (Reached, u32) {
+        let (mut walk, mut asked) = (raw::xv6vm_walk::default(), 0);
+        unsafe { raw::xv6vm_walk_begin(&mut walk, satp, address, access as u32, mode as u32) };
+        while walk.at.status == raw::XV6VM_READ || walk.at.status == raw::XV6VM_BYTE {
+            let before = (walk.at.place / 8).checked_sub(512 * self.base_ppn);
+            let word = before.and_then(|it| self.words.get(it as usize));
+            unsafe { raw::xv6vm_walk_next(&mut walk, u32::from(word.is_some()), word.copied().unwrap_or(0)) };
+            asked += 1;
+        }
+        (walk.at, asked)
     }
 
     fn lookup(&self, satp: u64, address: u64) -> Leaf {
@@ -240,6 +175,22 @@ fn walks(checks: &mut Checks) {
     checks.same("no words", none.translate(SV39, 0x1234, Access::Store, Mode::User), ends(2, 7));
 }
 
+fn walks_that_ask(checks: &mut Checks) {
+    let memory = memory();
+    for (satp, reads) in [(SV39, 3), (SV48, 4)] {
+        let leaf = Reached { table: 0x80003, index: 1, place: 0x80005234, word: DATA, ..Reached::default() };
+        checks.same("a leaf", memory.walk(satp, 0x1234, Access::Load, Mode::User), (leaf, reads + 1));
+        let fault = Reached { status: 1, place: 0x80003008, cause: 12, step: 5, ..leaf };
+        checks.same("no right", memory.walk(satp, 0x1234, Access::Fetch, Mode::User), (fault, reads));
+        let fault = Reached { status: 1, cause: 13, ..Reached::default() };
+        checks.same("not canonical", memory.walk(satp, 1 << 63, Access::Load, Mode::User), (fault, 0));
+    }
+    let outside = Reached { status: 2, level: 2, table: 0x90000, index: 3, place: 0x90000018, cause: 7, step: 2, ..Reached::default() };
+    checks.same("no table", memory.walk(8 << 60 | 0x90000, 3 << 30, Access::Store, Mode::User), (outside, 1));
+    let bare = Reached { status: 3, place: 0x1234, ..Reached::default() };
+    checks.same("MODE 0", memory.walk(0, 0x1234, Access::Load, Mode::User), (bare, 0));
+}
+
 fn tlbs(checks: &mut Checks) {
     let (mut memory, mut tlb) = (memory(), Tlb::default());
     checks.same("empty", tlb.first_match(0x1000, 7), None);
@@ -272,6 +223,7 @@ fn tlbs(checks: &mut Checks) {
 fn main() -> ExitCode {
     let mut checks = Checks::default();
     walks(&mut checks);
+    walks_that_ask(&mut checks);
     tlbs(&mut checks);
     println!("comparisons in Rust {}", checks.made);
     println!("differences {}", checks.differences);

@@ -1,30 +1,15 @@
-//! Plays scripts from Rust, behind a safe function: the texts are written here by hand.
+//! Plays scripts from Rust by the crate of bindings/rust/xv6vm-sys, behind a safe function: the texts are written here by hand.
 
 use std::process::ExitCode;
 
-mod raw {
-    #[repr(C)]
-    #[derive(Clone, Copy, Debug, PartialEq, Eq)]
-    pub struct Played {
-        pub status: u32,
-        pub cause: u32,
-        pub line: u64,
-    }
-
-    extern "C" {
-        pub fn xv6vm_play(script: *const u8, length: usize, text: *mut u8, capacity: usize, written: *mut usize) -> Played;
-    }
-}
-
-use raw::Played;
+use xv6vm_sys::{xv6vm_play, xv6vm_played as Played};
 
 /// Plays a script. Returns its text, or how it was refused.
 fn play(script: &str) -> Result<String, Played> {
     let mut text = Vec::new();
     loop {
         let mut written = 0;
-        let played =
-            unsafe { raw::xv6vm_play(script.as_ptr(), script.len(), text.as_mut_ptr(), text.len(), &mut written) };
+        let played = unsafe { xv6vm_play(script.as_ptr(), script.len(), text.as_mut_ptr(), text.len(), &mut written) };
         match played.status {
             0 => {
                 text.truncate(written);

@@ -189,7 +189,7 @@ impl Walk {
 ///
 /// // A table behind a bus: its word at index 1 maps 1 GiB at 0x80000000, for user loads.
 /// let bus = HashMap::from([(0x8020_0008, 0x80000 << 10 | 0x53)]);
-/// let read = |address| if address >> 28 == 8 { Some(bus.get(&address).copied().unwrap_or(0)) } else { None };
+/// let read = |address: u64| if address >> 28 == 8 { Some(bus.get(&address).copied().unwrap_or(0)) } else { None };
 /// let satp = 8 << 60 | 0x80200;
 /// let load = translate_by(read, satp, 0x4000_0123, Access::Load, Mode::User)?;
 /// assert_eq!(load.outcome.address(), Some(0x8000_0123));

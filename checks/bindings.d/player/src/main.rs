@@ -121,8 +121,9 @@ fn outcome_text(outcome: Result<Outcome, Error>) -> String {
 /// The outcome, and of a fault the step, the level, the address and the word of the entry, and the byte that is outside.
 fn translation_text(translation: Result<Translation, Error>) -> String {
     let told = outcome_text(translation.map(|it| it.outcome));
-    let Some(reason) = translation.ok().and_then(|it| it.reason) else {
-        return told;
+    let reason = match translation.ok().and_then(|it| it.reason) {
+        Some(reason) => reason,
+        None => return told,
     };
     let (level, address, word, byte) = match reason {
         Reason::NotCanonical => (0, 0, 0, 0),
