@@ -1,5 +1,7 @@
 """Bash completion of a program, from its help."""
 
+# How the names of values begin that are files.
+FILES = ("FILE", "OUT", "LIST")
 HEAD = """# Bash completion of {name}, made from its help by release/make.
 _{name}() {{
     local word=${{COMP_WORDS[COMP_CWORD]}} before=${{COMP_WORDS[COMP_CWORD-1]}} task=${{COMP_WORDS[1]}}
@@ -25,14 +27,14 @@ def case(word, help_text):
     for it in help_text.items("Options"):
         if it.value() and it.values():
             lines.append(f"""        {"|".join(it.flags())})\n            COMPREPLY=($(compgen -W "{' '.join(it.values())}" -- "$word"))\n            return\n            ;;\n""")
-        elif it.value() and not it.value().startswith(("FILE", "OUT")):
+        elif it.value() and not it.value().startswith(FILES):
             lines.append(f"        {'|'.join(it.flags())})\n            return\n            ;;\n")
     if lines:
         lines = ["        case $before in\n", *lines, "        esac\n"]
     lines.insert(0, f"    {word})\n")
     lines.append(f"""        if [[ $word == -* ]]; then\n            COMPREPLY=($(compgen -W "{' '.join(flags)}" -- "$word"))\n            return\n        fi\n""")
     if not any(it.name.startswith(("<FILE", "[FILE")) for it in help_text.items("Arguments")):
-        outs = [flag for it in help_text.items("Options") if it.value().startswith(("FILE", "OUT")) for flag in it.flags()]
+        outs = [flag for it in help_text.items("Options") if it.value().startswith(FILES) for flag in it.flags()]
         lines.append(f"        [[ {' || '.join(f'$before == {it}' for it in outs)} ]] || return\n" if outs else "        return\n")
     return "".join(lines) + "        ;;\n"
 

@@ -3,7 +3,7 @@ import dataclasses
 import re
 import subprocess
 
-ITEM = re.compile(r"^ {2,6}(?P<name>(?:-\w, )?--[\w-]+(?: <[^>]+>)?|<[^>]+>(?:\.\.\.)?|[a-z][\w-]*)  +(?P<text>\S.*)$")
+ITEM = re.compile(r"^ {2,6}(?P<name>(?:-\w, )?--[\w-]+(?: <[^>]+>)?|(?:<[^>]+>|\[[A-Z_]+\])(?:\.\.\.)?|[a-z][\w-]*)  +(?P<text>\S.*)$")
 VALUES = re.compile(r" \[possible values: ([^\]]+)\]")
 
 
