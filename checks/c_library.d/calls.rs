@@ -185,7 +185,8 @@ fn walks_that_ask(checks: &mut Checks) {
         let fault = Reached { status: 1, cause: 13, ..Reached::default() };
         checks.same("not canonical", memory.walk(satp, 1 << 63, Access::Load, Mode::User), (fault, 0));
     }
-    let outside = Reached { status: 2, level: 2, table: 0x90000, index: 3, place: 0x90000018, cause: 7, step: 2, ..Reached::default() };
+    let outside =
+        Reached { status: 2, level: 2, table: 0x90000, index: 3, place: 0x90000018, cause: 7, step: 2, ..Reached::default() };
     checks.same("no table", memory.walk(8 << 60 | 0x90000, 3 << 30, Access::Store, Mode::User), (outside, 1));
     let bare = Reached { status: 3, place: 0x1234, ..Reached::default() };
     checks.same("MODE 0", memory.walk(0, 0x1234, Access::Load, Mode::User), (bare, 0));

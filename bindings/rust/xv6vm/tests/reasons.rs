@@ -1,6 +1,8 @@
 //! Walks over memory of any kind. What must come back is worked out by hand from the standard's 4.3.2, and written here as numbers.
 
-use xv6vm::{translate_by, Access, Asked, Entry, Error, Memory, Mode, Outcome, Pte, Question, Reason, Regions, Tlb, Translation, Walk};
+use xv6vm::{
+    translate_by, Access, Asked, Entry, Error, Memory, Mode, Outcome, Pte, Question, Reason, Regions, Tlb, Translation, Walk,
+};
 use Access::{Fetch, Load, Store};
 use Mode::{Supervisor, User};
 
@@ -145,7 +147,9 @@ fn regions() {
     assert_eq!(Regions::new(&covered).translate(SV39, 0x1234, Load, User), Ok(page_fault(13, reason)));
     let nowhere = [Memory::new(u64::MAX, &words), Memory::new(1 << 55, &words)];
     assert_eq!((Regions::new(&nowhere).read(u64::MAX), Regions::new(&nowhere).read(0)), (None, None));
-    assert!(matches!(Regions::new(&[]).translate(SV39, 0, Load, User), Ok(it) if it.outcome == Outcome::AccessFault { cause: 5 }));
+    assert!(
+        matches!(Regions::new(&[]).translate(SV39, 0, Load, User), Ok(it) if it.outcome == Outcome::AccessFault { cause: 5 })
+    );
 }
 
 /// A walk without a closure: what it says of an end, and that it stays there.

@@ -4,8 +4,8 @@
 use std::io::{BufRead, Write};
 
 use xv6vm::{
-    translate_by, Access, Entry, Error, Hart, Judged, Memory, MemoryType, Mode, Outcome, Pmps, Profile, Question, Reason, Regions,
-    Request, Status, Tlb, Translation, Update, Width,
+    translate_by, Access, Entry, Error, Hart, Judged, Memory, MemoryType, Mode, Outcome, Pmps, Profile, Question, Reason,
+    Regions, Request, Status, Tlb, Translation, Update, Width,
 };
 
 type Fields<'a> = std::str::SplitAsciiWhitespace<'a>;
