@@ -2,8 +2,46 @@
 
 use crate::frames::{Counts, PAGE};
 use crate::numbers::Numbers;
-use crate::sheet::Sheet;
+use crate::sheet::{Sheet, Value};
 use std::alloc::AllocError;
+
+/// The lines of the lab.
+const LINES: &str =
+    "# The process has {pages} pages: {data} of data, from {base} on, guard and stack.
+image {base}:{size}:rw:61
+boot 1 {frames} {slots} full => ok
+start 0 => slot 0
+on 0 0 => ok
+store 0 {place} 8 {word} => stored
+store 0 {other} 8 {another} => stored
+enter 0 => ok
+audit => {counts}
+# a) The fork.
+fork 0 => slot 1
+audit => ?
+# b) The parent stores.
+leave 0 => ok
+store 0 {place} 4 {parents} => fault 15
+fix 0 => ready
+store 0 {place} 4 {parents} => stored
+load 0 {place} 8 => ?
+audit => ?
+# c) The child loads, and stores to the same page.
+enter 0 => ok
+on 0 1 => ok
+load 0 {place} 8 => ?
+store 0 {upper} 2 {childs} => fault 15
+fix 0 => ready
+store 0 {upper} 2 {childs} => stored
+load 0 {place} 8 => ?
+audit => ?
+# d) The child exits.
+enter 0 => ok
+exit 0 0 => exited 0
+audit => ?
+# e) The parent stores again.
+on 0 0 => ok
+store 0 {again} 8 {last} => ?";
 
 /// What varies.
 #[derive(Clone, Copy)]
@@ -77,77 +115,31 @@ impl Script {
         page.saturating_mul(PAGE).saturating_add(self.offset)
     }
 
-    /// Adds the image, the boot, and the process before the fork.
-    fn put_start(&self, sheet: &mut Sheet) -> Result<(), AllocError> {
-        let (alloc, data) = (sheet.alloc, self.data);
-        let pages = data.saturating_add(2);
-        let (base, size) = (self.first.saturating_mul(PAGE), data.saturating_mul(PAGE));
-        let note = format!(in alloc;
-            "The process has {pages} pages: {data} of data, from {base:#x} on, guard and stack."
-        )?;
-        sheet.note(note.as_str())?;
-        let (frames, slots) = (self.frames, self.slots);
-        sheet.declare(format!(in alloc; "image {base:#x}:{size:#x}:rw:61")?.as_str())?;
-        let boot = format!(in alloc; "boot 1 {frames} {slots} full")?;
-        sheet.line(boot.as_str(), "ok")?;
-        sheet.line("start 0", "slot 0")?;
-        sheet.line("on 0 0", "ok")?;
-        let (word, another) = self.words;
+    /// Adds the lines.
+    fn put(&self, sheet: &mut Sheet) -> Result<(), AllocError> {
+        let pages = self.data.saturating_add(2);
+        let counts = Counts::of_boot(self.frames, self.slots).with_process(self.first, pages);
         let (place, other) = (self.place_in(self.page), self.place_in(self.other));
-        let store = format!(in alloc; "store 0 {place:#x} 8 {word:#x}")?;
-        sheet.line(store.as_str(), "stored")?;
-        let store = format!(in alloc; "store 0 {other:#x} 8 {another:#x}")?;
-        sheet.line(store.as_str(), "stored")?;
-        sheet.line("enter 0", "ok")?;
-        let counts = Counts::of_boot(frames, slots).with_process(self.first, pages);
-        sheet.line("audit", format!(in alloc; "{counts}")?.as_str())
-    }
-
-    /// Adds a store that takes the page over, and a load around it.
-    fn put_take_over(&self, sheet: &mut Sheet, store: &str) -> Result<(), AllocError> {
-        sheet.line(store, "fault 15")?;
-        sheet.line("fix 0", "ready")?;
-        sheet.line(store, "stored")?;
-        let place = self.place_in(self.page);
-        sheet.ask(format!(in sheet.alloc; "load 0 {place:#x} 8")?.as_str())?;
-        sheet.ask("audit")
-    }
-
-    /// Adds the fork, and the parent's store.
-    fn put_parent(&self, sheet: &mut Sheet) -> Result<(), AllocError> {
-        let (place, parents) = (self.place_in(self.page), self.parents);
-        sheet.note("a) The fork.")?;
-        sheet.line("fork 0", "slot 1")?;
-        sheet.ask("audit")?;
-        sheet.note("b) The parent stores.")?;
-        sheet.line("leave 0", "ok")?;
-        let store = format!(in sheet.alloc; "store 0 {place:#x} 4 {parents:#x}")?;
-        self.put_take_over(sheet, store.as_str())
-    }
-
-    /// Adds the child's load and store.
-    fn put_child(&self, sheet: &mut Sheet) -> Result<(), AllocError> {
-        let (alloc, place, childs) = (sheet.alloc, self.place_in(self.page), self.childs);
-        sheet.note("c) The child loads, and stores to the same page.")?;
-        sheet.line("enter 0", "ok")?;
-        sheet.line("on 0 1", "ok")?;
-        sheet.ask(format!(in alloc; "load 0 {place:#x} 8")?.as_str())?;
-        let upper = place.saturating_add(6);
-        let store = format!(in alloc; "store 0 {upper:#x} 2 {childs:#x}")?;
-        self.put_take_over(sheet, store.as_str())
-    }
-
-    /// Adds the child's end, and one more store of the parent.
-    fn put_end(&self, sheet: &mut Sheet) -> Result<(), AllocError> {
-        let last = self.last;
-        let place = self.place_in(if self.again { self.page } else { self.other });
-        sheet.note("d) The child exits.")?;
-        sheet.line("enter 0", "ok")?;
-        sheet.line("exit 0 0", "exited 0")?;
-        sheet.ask("audit")?;
-        sheet.note("e) The parent stores again.")?;
-        sheet.line("on 0 0", "ok")?;
-        sheet.ask(format!(in sheet.alloc; "store 0 {place:#x} 8 {last:#x}")?.as_str())
+        let (word, another) = self.words;
+        let values = [
+            ("pages", Value::Count(pages)),
+            ("data", Value::Count(self.data)),
+            ("base", Value::Hex(self.first.saturating_mul(PAGE))),
+            ("size", Value::Hex(self.data.saturating_mul(PAGE))),
+            ("frames", Value::Count(self.frames)),
+            ("slots", Value::Count(self.slots)),
+            ("place", Value::Hex(place)),
+            ("other", Value::Hex(other)),
+            ("word", Value::Hex(word)),
+            ("another", Value::Hex(another)),
+            ("counts", Value::Frames(counts)),
+            ("parents", Value::Hex(self.parents)),
+            ("upper", Value::Hex(place.saturating_add(6))),
+            ("childs", Value::Hex(self.childs)),
+            ("again", Value::Hex(if self.again { place } else { other })),
+            ("last", Value::Hex(self.last)),
+        ];
+        sheet.put(LINES, &values)
     }
 }
 
@@ -157,8 +149,5 @@ pub fn put(sheet: &mut Sheet, numbers: Option<Numbers>) -> Result<(), AllocError
         Some(mut numbers) => Script::drawn(&mut numbers),
         None => OF_PAGE,
     };
-    script.put_start(sheet)?;
-    script.put_parent(sheet)?;
-    script.put_child(sheet)?;
-    script.put_end(sheet)
+    script.put(sheet)
 }

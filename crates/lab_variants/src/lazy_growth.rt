@@ -3,8 +3,38 @@
 use crate::accesses::{Access, Verb};
 use crate::frames::{Counts, PAGE};
 use crate::numbers::Numbers;
-use crate::sheet::Sheet;
+use crate::sheet::{Sheet, Value};
 use std::alloc::AllocError;
+
+/// The lines of the lab.
+const LINES: &str = "# The heap begins at {heap}. {free} frames are free after boot.
+image {base}:{size}:rw:61
+boot 1 {frames} {slots} full => ok
+start 0 => slot 0
+on 0 0 => ok
+audit => {counts}
+# a) The heap grows by {growth} pages, more than there is memory.
+enter 0 => ok
+sbrk 0 {more} => ?
+sbrk 0 0 => ?
+audit => ?
+leave 0 => ok
+# b) The first store to the heap.
+store 0 {place} 8 {word} => fault 15
+fix 0 => ready
+store 0 {place} 8 {word} => stored
+load 0 {upper} 4 => ?
+audit => {touched}
+# c) A store {far} pages further on, and a load of those bytes and the four before.
+store 0 {far_upper} 4 {top} => fault 15
+fix 0 => ready
+store 0 {far_upper} 4 {top} => stored
+load 0 {far_place} 8 => ?
+audit => ?
+# d) The heap ends at {end}. An access that no service makes ready.
+{access} => ?
+fix 0 => ?
+audit => ?";
 
 /// Where the access that is denied goes.
 #[derive(Clone, Copy)]
@@ -116,12 +146,6 @@ impl Script {
         self.heap().saturating_add(self.offset)
     }
 
-    /// Returns the counts after the start.
-    fn counts(&self) -> Counts {
-        let boot = Counts::of_boot(self.frames, self.slots);
-        boot.with_process(self.first, self.data.saturating_add(2))
-    }
-
     /// Returns the access that is denied.
     fn last_access(&self) -> Access {
         let address = match self.target {
@@ -136,83 +160,36 @@ impl Script {
         }
     }
 
-    /// Adds the image, the boot, and what the process takes.
-    fn put_start(&self, sheet: &mut Sheet) -> Result<(), AllocError> {
-        let (alloc, heap) = (sheet.alloc, self.heap());
-        let free = Counts::of_boot(self.frames, self.slots).free();
-        let note = format!(in alloc;
-            "The heap begins at {heap:#x}. {free} frames are free after boot."
-        )?;
-        sheet.note(note.as_str())?;
-        let (frames, slots) = (self.frames, self.slots);
-        let base = self.first.saturating_mul(PAGE);
-        let size = self.data.saturating_mul(PAGE);
-        sheet.declare(format!(in alloc; "image {base:#x}:{size:#x}:rw:61")?.as_str())?;
-        let boot = format!(in alloc; "boot 1 {frames} {slots} full")?;
-        sheet.line(boot.as_str(), "ok")?;
-        sheet.line("start 0", "slot 0")?;
-        sheet.line("on 0 0", "ok")?;
-        let counts = self.counts();
-        sheet.line("audit", format!(in alloc; "{counts}")?.as_str())
-    }
-
-    /// Adds the call that makes the heap larger.
-    fn put_growth(&self, sheet: &mut Sheet) -> Result<(), AllocError> {
-        let (alloc, growth) = (sheet.alloc, self.growth);
-        let note = format!(in alloc;
-            "a) The heap grows by {growth} pages, more than there is memory."
-        )?;
-        sheet.note(note.as_str())?;
-        sheet.line("enter 0", "ok")?;
-        let size = growth.saturating_mul(PAGE);
-        sheet.ask(format!(in alloc; "sbrk 0 {size:#x}")?.as_str())?;
-        sheet.ask("sbrk 0 0")?;
-        sheet.ask("audit")?;
-        sheet.line("leave 0", "ok")
-    }
-
-    /// Adds the first store to the heap.
-    fn put_touch(&self, sheet: &mut Sheet) -> Result<(), AllocError> {
-        let (alloc, place, word) = (sheet.alloc, self.place(), self.word);
-        sheet.note("b) The first store to the heap.")?;
-        let store = format!(in alloc; "store 0 {place:#x} 8 {word:#x}")?;
-        sheet.line(store.as_str(), "fault 15")?;
-        sheet.line("fix 0", "ready")?;
-        sheet.line(store.as_str(), "stored")?;
-        let upper = place.saturating_add(4);
-        sheet.ask(format!(in alloc; "load 0 {upper:#x} 4")?.as_str())?;
-        let page = self.heap() / PAGE;
-        let counts = self.counts().with_page(page.saturating_sub(1), page);
-        sheet.line("audit", format!(in alloc; "{counts}")?.as_str())
-    }
-
-    /// Adds a store far from there, and a load of more bytes.
-    fn put_far(&self, sheet: &mut Sheet) -> Result<(), AllocError> {
-        let (alloc, far, top) = (sheet.alloc, self.far, self.top);
-        let place = self.place().saturating_add(far.saturating_mul(PAGE));
-        let upper = place.saturating_add(4);
-        let note = format!(in alloc;
-            "c) A store {far} pages further on, and a load of those bytes and the four before."
-        )?;
-        sheet.note(note.as_str())?;
-        let store = format!(in alloc; "store 0 {upper:#x} 4 {top:#x}")?;
-        sheet.line(store.as_str(), "fault 15")?;
-        sheet.line("fix 0", "ready")?;
-        sheet.line(store.as_str(), "stored")?;
-        sheet.ask(format!(in alloc; "load 0 {place:#x} 8")?.as_str())?;
-        sheet.ask("audit")
-    }
-
-    /// Adds the access that is denied, and what is left.
-    fn put_end(&self, sheet: &mut Sheet) -> Result<(), AllocError> {
-        let (alloc, end, access) = (sheet.alloc, self.end(), self.last_access());
-        let note = format!(in alloc;
-            "d) The heap ends at {end:#x}. An access that no service makes ready."
-        )?;
-        sheet.note(note.as_str())?;
-        sheet.ask(format!(in alloc; "{access}")?.as_str())?;
-        sheet.ask("fix 0")?;
-        sheet.ask("audit")
+    /// Adds the lines.
+    fn put(&self, sheet: &mut Sheet) -> Result<(), AllocError> {
+        let (heap, place) = (self.heap(), self.place());
+        let far = place.saturating_add(self.far.saturating_mul(PAGE));
+        let boot = Counts::of_boot(self.frames, self.slots);
+        let counts = boot.with_process(self.first, self.data.saturating_add(2));
+        let page = heap / PAGE;
+        let touched = counts.with_page(page.saturating_sub(1), page);
+        let values = [
+            ("heap", Value::Hex(heap)),
+            ("free", Value::Count(boot.free())),
+            ("base", Value::Hex(self.first.saturating_mul(PAGE))),
+            ("size", Value::Hex(self.data.saturating_mul(PAGE))),
+            ("frames", Value::Count(self.frames)),
+            ("slots", Value::Count(self.slots)),
+            ("counts", Value::Frames(counts)),
+            ("growth", Value::Count(self.growth)),
+            ("more", Value::Hex(self.growth.saturating_mul(PAGE))),
+            ("place", Value::Hex(place)),
+            ("word", Value::Hex(self.word)),
+            ("upper", Value::Hex(place.saturating_add(4))),
+            ("touched", Value::Frames(touched)),
+            ("far", Value::Count(self.far)),
+            ("far_upper", Value::Hex(far.saturating_add(4))),
+            ("far_place", Value::Hex(far)),
+            ("top", Value::Hex(self.top)),
+            ("end", Value::Hex(self.end())),
+            ("access", Value::Access(self.last_access())),
+        ];
+        sheet.put(LINES, &values)
     }
 }
 
@@ -222,9 +199,5 @@ pub fn put(sheet: &mut Sheet, numbers: Option<Numbers>) -> Result<(), AllocError
         Some(mut numbers) => Script::drawn(&mut numbers),
         None => OF_PAGE,
     };
-    script.put_start(sheet)?;
-    script.put_growth(sheet)?;
-    script.put_touch(sheet)?;
-    script.put_far(sheet)?;
-    script.put_end(sheet)
+    script.put(sheet)
 }

@@ -22,31 +22,25 @@ fn put_seed(text: &mut String, seed: &str) -> Result<(), AllocError> {
     Ok(())
 }
 
-/// Returns what the handout's second line says: of which seed it is.
-fn origin(alloc: Global, lab: Lab, seed: Option<&str>) -> Result<String, AllocError> {
-    let name = lab.name();
+/// Adds the comments at the head: what the lab is, and of which seed the handout is.
+fn put_head(text: &mut String, lab: Lab, seed: Option<&str>) -> Result<(), AllocError> {
+    let (name, title, page) = (lab.name(), lab.title(), lab.page());
+    writeln!(
+        text,
+        "# {title}. {page} has the questions; fill in each ?, and compare by xv6lab check FILE."
+    )?;
     let Some(seed) = seed else {
-        return format!(in alloc;
-            "Its numbers are those of the page. One with others for each student: xv6lab lab {name} --seed STUDENT."
+        return writeln!(
+            text,
+            "# Its numbers are those of the page. One with others for each student: xv6lab lab {name} --seed STUDENT."
         );
     };
-    let mut text = String::from_str(alloc, "This is the script of ")?;
-    put_seed(&mut text, seed)?;
-    write!(
-        &mut text,
+    text.push_str("# This is the script of ")?;
+    put_seed(text, seed)?;
+    writeln!(
+        text,
         ", made by xv6lab lab {name} --seed. It has other numbers than the page."
-    )?;
-    Ok(text)
-}
-
-/// Adds the comments at the head.
-fn put_head(sheet: &mut Sheet, lab: Lab, seed: Option<&str>) -> Result<(), AllocError> {
-    let (alloc, title, page) = (sheet.alloc, lab.title(), lab.page());
-    let first = format!(in alloc;
-        "{title}. {page} has the questions; fill in each ?, and compare by xv6lab check FILE."
-    )?;
-    sheet.note(first.as_str())?;
-    sheet.note(origin(alloc, lab, seed)?.as_str())
+    )
 }
 
 /// Adds the lines of the lab: with numbers that are drawn, or with those of the page.
@@ -64,7 +58,7 @@ fn put_lab(sheet: &mut Sheet, lab: Lab, numbers: Option<Numbers>) -> Result<(), 
 /// Returns the handout of a lab for a seed, which may be any text: equal seeds give equal handouts.
 pub fn handout(alloc: Global, lab: Lab, seed: &str) -> Result<String, AllocError> {
     let mut sheet = Sheet::new(alloc);
-    put_head(&mut sheet, lab, Some(seed))?;
+    put_head(&mut sheet.text, lab, Some(seed))?;
     put_lab(&mut sheet, lab, Some(Numbers::of_seed(lab, seed)))?;
     Ok(sheet.text)
 }
@@ -72,7 +66,7 @@ pub fn handout(alloc: Global, lab: Lab, seed: &str) -> Result<String, AllocError
 /// Returns the handout of a lab with the numbers of its page: `labs/NAME.script`.
 pub fn plain(alloc: Global, lab: Lab) -> Result<String, AllocError> {
     let mut sheet = Sheet::new(alloc);
-    put_head(&mut sheet, lab, None)?;
+    put_head(&mut sheet.text, lab, None)?;
     put_lab(&mut sheet, lab, None)?;
     Ok(sheet.text)
 }

@@ -3,8 +3,42 @@
 use crate::accesses::{Access, Verb};
 use crate::frames::{PAGE, TRAPFRAME};
 use crate::numbers::Numbers;
-use crate::sheet::{Sheet, hex};
+use crate::sheet::{Sheet, Value};
 use std::alloc::AllocError;
+
+/// The lines of the lab.
+const LINES: &str = "file {length} rw {first}{second}
+image 0x1000:0x1000:rw:-
+boot 1 {frames} {slots} full => ok
+start 0 => slot 0
+on 0 0 => ok
+enter 0 => ok
+# a) The file is mapped twice: shared, to read and write; then private, to read. Mappings grow down from 0x3fffffe000.
+mmap 0 {shared} 3 1 0 => at {start}
+mmap 0 {private} 1 2 0 => ?
+leave 0 => ok
+# b) A load, and then a store to the same page.
+load 0 {place} 8 => fault 13
+fix 0 => ready
+load 0 {place} 8 => ?
+store 0 {upper} 4 {stored} => fault 15
+fix 0 => ready
+store 0 {upper} 4 {stored} => stored
+load 0 {place} 8 => ?
+# c) What does the file have now, and what does the private mapping?
+show 0 {offset} 8 => ?
+load 0 {private_place} 8 => fault 13
+fix 0 => ready
+load 0 {private_place} 8 => ?
+# d) The first page of the shared mapping is unmapped.
+enter 0 => ok
+munmap 0 {start} 4096 => ok
+show 0 {offset} 8 => ?
+leave 0 => ok
+load 0 {private_place} 8 => ?
+# e) An access that is denied.
+{access} => ?
+fix 0 => ?";
 
 /// Where the access that is denied goes.
 #[derive(Clone, Copy)]
@@ -111,85 +145,29 @@ impl Script {
         }
     }
 
-    /// Adds the file, the image, and the boot.
-    fn put_start(&self, sheet: &mut Sheet) -> Result<(), AllocError> {
-        let (alloc, length) = (sheet.alloc, self.length);
+    /// Adds the lines.
+    fn put(&self, sheet: &mut Sheet) -> Result<(), AllocError> {
         let (first, second) = self.words;
-        let first = hex(alloc, first, 8)?;
-        let second = hex(alloc, second, 8)?;
-        let (first, second) = (first.as_str(), second.as_str());
-        sheet.declare(format!(in alloc; "file {length} rw {first}{second}")?.as_str())?;
-        sheet.declare("image 0x1000:0x1000:rw:-")?;
-        let (frames, slots) = (self.frames, self.slots);
-        let boot = format!(in alloc; "boot 1 {frames} {slots} full")?;
-        sheet.line(boot.as_str(), "ok")?;
-        sheet.line("start 0", "slot 0")?;
-        sheet.line("on 0 0", "ok")?;
-        sheet.line("enter 0", "ok")
-    }
-
-    /// Adds the two mappings.
-    fn put_mappings(&self, sheet: &mut Sheet) -> Result<(), AllocError> {
-        let (alloc, shared, private) = (sheet.alloc, self.shared, self.private);
-        sheet.note(
-            "a) The file is mapped twice: shared, to read and write; then private, to read. Mappings grow down from 0x3fffffe000.",
-        )?;
         let start = self.shared_start();
-        let answer = format!(in alloc; "at {start:#x}")?;
-        let map = format!(in alloc; "mmap 0 {shared} 3 1 0")?;
-        sheet.line(map.as_str(), answer.as_str())?;
-        sheet.ask(format!(in alloc; "mmap 0 {private} 1 2 0")?.as_str())?;
-        sheet.line("leave 0", "ok")
-    }
-
-    /// Adds the first load from a page of a mapping.
-    fn put_first_load(&self, sheet: &mut Sheet, start: u64) -> Result<(), AllocError> {
         let place = start.saturating_add(self.offset);
-        let load = format!(in sheet.alloc; "load 0 {place:#x} 8")?;
-        sheet.line(load.as_str(), "fault 13")?;
-        sheet.line("fix 0", "ready")?;
-        sheet.ask(load.as_str())
-    }
-
-    /// Adds a look at the place in the file.
-    fn put_show(&self, sheet: &mut Sheet) -> Result<(), AllocError> {
-        let offset = self.offset;
-        sheet.ask(format!(in sheet.alloc; "show 0 {offset} 8")?.as_str())
-    }
-
-    /// Adds a load from the shared mapping and a store to it, and what file and private mapping have then.
-    fn put_store(&self, sheet: &mut Sheet) -> Result<(), AllocError> {
-        let (alloc, stored) = (sheet.alloc, self.stored);
-        sheet.note("b) A load, and then a store to the same page.")?;
-        self.put_first_load(sheet, self.shared_start())?;
-        let place = self.shared_start().saturating_add(self.offset);
-        let upper = place.saturating_add(self.step);
-        let store = format!(in alloc; "store 0 {upper:#x} 4 {stored:#x}")?;
-        sheet.line(store.as_str(), "fault 15")?;
-        sheet.line("fix 0", "ready")?;
-        sheet.line(store.as_str(), "stored")?;
-        sheet.ask(format!(in alloc; "load 0 {place:#x} 8")?.as_str())?;
-        sheet.note("c) What does the file have now, and what does the private mapping?")?;
-        self.put_show(sheet)?;
-        self.put_first_load(sheet, self.private_start())
-    }
-
-    /// Adds the munmap, what file and private mapping have then, and an access that is denied.
-    fn put_end(&self, sheet: &mut Sheet) -> Result<(), AllocError> {
-        let (alloc, start, access) = (sheet.alloc, self.shared_start(), self.last_access());
-        sheet.note("d) The first page of the shared mapping is unmapped.")?;
-        sheet.line("enter 0", "ok")?;
-        sheet.line(
-            format!(in alloc; "munmap 0 {start:#x} 4096")?.as_str(),
-            "ok",
-        )?;
-        self.put_show(sheet)?;
-        sheet.line("leave 0", "ok")?;
-        let place = self.private_start().saturating_add(self.offset);
-        sheet.ask(format!(in alloc; "load 0 {place:#x} 8")?.as_str())?;
-        sheet.note("e) An access that is denied.")?;
-        sheet.ask(format!(in alloc; "{access}")?.as_str())?;
-        sheet.ask("fix 0")
+        let private_place = self.private_start().saturating_add(self.offset);
+        let values = [
+            ("length", Value::Count(self.length)),
+            ("first", Value::Bytes(first, 8)),
+            ("second", Value::Bytes(second, 8)),
+            ("frames", Value::Count(self.frames)),
+            ("slots", Value::Count(self.slots)),
+            ("shared", Value::Count(self.shared)),
+            ("private", Value::Count(self.private)),
+            ("start", Value::Hex(start)),
+            ("place", Value::Hex(place)),
+            ("upper", Value::Hex(place.saturating_add(self.step))),
+            ("stored", Value::Hex(self.stored)),
+            ("offset", Value::Count(self.offset)),
+            ("private_place", Value::Hex(private_place)),
+            ("access", Value::Access(self.last_access())),
+        ];
+        sheet.put(LINES, &values)
     }
 }
 
@@ -199,8 +177,5 @@ pub fn put(sheet: &mut Sheet, numbers: Option<Numbers>) -> Result<(), AllocError
         Some(mut numbers) => Script::drawn(&mut numbers),
         None => OF_PAGE,
     };
-    script.put_start(sheet)?;
-    script.put_mappings(sheet)?;
-    script.put_store(sheet)?;
-    script.put_end(sheet)
+    script.put(sheet)
 }

@@ -1,7 +1,7 @@
 // `Lab`: a lab, by its number in the documents and by its name.
 
 /// A lab.
-#[derive(Clone, Copy, PartialEq, Eq, Debug)]
+#[derive(Clone, Copy)]
 pub enum Lab {
     PageTables,
     Traps,

@@ -3,8 +3,35 @@
 use crate::accesses::{Access, Verb};
 use crate::frames::{Counts, PAGE, TRAMPOLINE, TRAPFRAME};
 use crate::numbers::Numbers;
-use crate::sheet::{Sheet, hex};
+use crate::sheet::{Sheet, Value};
 use std::alloc::AllocError;
+
+/// The lines of the lab.
+const LINES: &str =
+    "# Pages of the image: {code} of code at {base}, {data} of data at {start}. A guard page and a stack page follow.
+image {base}:{code_size}:rx:{instruction} {start}:{data_size}:rw:{first}
+boot 1 {frames} {slots} full => ok
+audit => {counts}
+start 0 => slot 0
+# a) How many frames does the process take?
+audit => ?
+on 0 0 => ok
+# b) The first instruction, and the first eight bytes of the data.
+fetch 0 {base} => ?
+load 0 {start} 8 => ?
+# Eight bytes are stored at the end of the data, and then two of them anew.
+store 0 {last} 8 {word} => stored
+load 0 {upper} 4 => ?
+store 0 {middle} 2 {half} => stored
+load 0 {last} 8 => ?
+# Four bytes are stored to the stack, and eight loaded.
+store 0 {stack_upper} 4 {top} => stored
+load 0 {stack} 8 => ?
+# c) A page that is mapped, but not for this access.
+{access} => ?
+fix 0 => ?
+# d) What is left of the process?
+audit => ?";
 
 /// `lui x0, 0`: the lowest bits of an instruction that loads the upper 20 bits of a register.
 const LUI: u64 = 0x37;
@@ -140,60 +167,35 @@ impl Script {
         }
     }
 
-    /// Adds the image and the boot, up to the start.
-    fn put_start(&self, sheet: &mut Sheet) -> Result<(), AllocError> {
-        let (alloc, base, start) = (sheet.alloc, self.base, self.data_start());
-        let (code, data, frames, slots) = (self.code, self.data, self.frames, self.slots);
-        let note = format!(in alloc;
-            "Pages of the image: {code} of code at {base:#x}, {data} of data at {start:#x}. A guard page and a stack page follow."
-        )?;
-        sheet.note(note.as_str())?;
-        let code_size = code.saturating_mul(PAGE);
-        let data_size = data.saturating_mul(PAGE);
-        let instruction = hex(alloc, self.instruction, 4)?;
-        let first = hex(alloc, self.first, 8)?;
-        let (instruction, first) = (instruction.as_str(), first.as_str());
-        let image = format!(in alloc;
-            "image {base:#x}:{code_size:#x}:rx:{instruction} {start:#x}:{data_size:#x}:rw:{first}"
-        )?;
-        sheet.declare(image.as_str())?;
-        let boot = format!(in alloc; "boot 1 {frames} {slots} full")?;
-        sheet.line(boot.as_str(), "ok")?;
-        let counts = Counts::of_boot(frames, slots);
-        sheet.line("audit", format!(in alloc; "{counts}")?.as_str())?;
-        sheet.line("start 0", "slot 0")
-    }
-
-    /// Adds what is read, at both ends of the image.
-    fn put_reads(&self, sheet: &mut Sheet) -> Result<(), AllocError> {
-        let (alloc, base, start) = (sheet.alloc, self.base, self.data_start());
-        sheet.note("b) The first instruction, and the first eight bytes of the data.")?;
-        sheet.ask(format!(in alloc; "fetch 0 {base:#x}")?.as_str())?;
-        sheet.ask(format!(in alloc; "load 0 {start:#x} 8")?.as_str())?;
-        let (word, half, guard) = (self.word, self.half, self.guard());
-        let (last, middle, upper) = (
-            guard.saturating_sub(8),
-            guard.saturating_sub(6),
-            guard.saturating_sub(4),
-        );
-        sheet.note("Eight bytes are stored at the end of the data, and then two of them anew.")?;
-        let store = format!(in alloc; "store 0 {last:#x} 8 {word:#x}")?;
-        sheet.line(store.as_str(), "stored")?;
-        sheet.ask(format!(in alloc; "load 0 {upper:#x} 4")?.as_str())?;
-        let store = format!(in alloc; "store 0 {middle:#x} 2 {half:#x}")?;
-        sheet.line(store.as_str(), "stored")?;
-        sheet.ask(format!(in alloc; "load 0 {last:#x} 8")?.as_str())
-    }
-
-    /// Adds a store to the stack, and a load of more bytes.
-    fn put_stack(&self, sheet: &mut Sheet) -> Result<(), AllocError> {
-        let (alloc, top) = (sheet.alloc, self.top);
-        let place = self.stack().saturating_add(self.offset);
-        let upper = place.saturating_add(4);
-        sheet.note("Four bytes are stored to the stack, and eight loaded.")?;
-        let store = format!(in alloc; "store 0 {upper:#x} 4 {top:#x}")?;
-        sheet.line(store.as_str(), "stored")?;
-        sheet.ask(format!(in alloc; "load 0 {place:#x} 8")?.as_str())
+    /// Adds the lines.
+    fn put(&self, sheet: &mut Sheet) -> Result<(), AllocError> {
+        let (guard, stack) = (self.guard(), self.stack().saturating_add(self.offset));
+        let values = [
+            ("code", Value::Count(self.code)),
+            ("base", Value::Hex(self.base)),
+            ("data", Value::Count(self.data)),
+            ("start", Value::Hex(self.data_start())),
+            ("code_size", Value::Hex(self.code.saturating_mul(PAGE))),
+            ("instruction", Value::Bytes(self.instruction, 4)),
+            ("data_size", Value::Hex(self.data.saturating_mul(PAGE))),
+            ("first", Value::Bytes(self.first, 8)),
+            ("frames", Value::Count(self.frames)),
+            ("slots", Value::Count(self.slots)),
+            (
+                "counts",
+                Value::Frames(Counts::of_boot(self.frames, self.slots)),
+            ),
+            ("last", Value::Hex(guard.saturating_sub(8))),
+            ("word", Value::Hex(self.word)),
+            ("upper", Value::Hex(guard.saturating_sub(4))),
+            ("middle", Value::Hex(guard.saturating_sub(6))),
+            ("half", Value::Hex(self.half)),
+            ("stack_upper", Value::Hex(stack.saturating_add(4))),
+            ("top", Value::Hex(self.top)),
+            ("stack", Value::Hex(stack)),
+            ("access", Value::Access(self.last_access())),
+        ];
+        sheet.put(LINES, &values)
     }
 }
 
@@ -203,16 +205,5 @@ pub fn put(sheet: &mut Sheet, numbers: Option<Numbers>) -> Result<(), AllocError
         Some(mut numbers) => Script::drawn(&mut numbers),
         None => OF_PAGE,
     };
-    script.put_start(sheet)?;
-    sheet.note("a) How many frames does the process take?")?;
-    sheet.ask("audit")?;
-    sheet.line("on 0 0", "ok")?;
-    script.put_reads(sheet)?;
-    script.put_stack(sheet)?;
-    sheet.note("c) A page that is mapped, but not for this access.")?;
-    let access = script.last_access();
-    sheet.ask(format!(in sheet.alloc; "{access}")?.as_str())?;
-    sheet.ask("fix 0")?;
-    sheet.note("d) What is left of the process?")?;
-    sheet.ask("audit")
+    script.put(sheet)
 }

@@ -2,7 +2,7 @@
 
 use crate::frames::PAGE;
 use crate::numbers::Numbers;
-use crate::sheet::Sheet;
+use crate::sheet::{Named, Sheet, Value};
 use std::alloc::AllocError;
 
 /// The address of frame 0, which the kernel's page table maps to itself (memlayout.h of xv6: KERNBASE).
@@ -10,6 +10,47 @@ const KERNBASE: u64 = 0x8000_0000;
 
 /// How many entries the TLB gets before the fork.
 const FILLS: u64 = 5;
+
+/// The lines before the TLB gets its entries.
+const START: &str =
+    "# No fence empties the whole TLB here. The process of slot 0 has ASID 1, that of slot 1 has ASID 2, the kernel has 0.
+image {base}:{size}:rw:61
+boot 1 {frames} {slots} asid => ok
+start 0 => slot 0
+on 0 0 => ok
+store 0 {place} 8 {word} => stored
+store 0 {other} 8 {another} => stored
+# The process keeps translations, and so does the kernel.";
+
+/// The lines after the TLB has got its entries.
+const QUESTIONS: &str = "# a) The return, without a change of the tables.
+leave 0 => ok
+load 0 {place} 8 @{entry} => ?
+# b) A fork takes W from the leaf of {place}.
+enter 0 => ok
+fork 0 => slot 1
+leave 0 => ok
+load 0 {place} 8 @{entry} => refused 20 NoEntry
+fill 0 {place} => ?
+load 0 {upper} 4 @{parents} => ?
+# c) The child runs on the same hart.
+enter 0 => ok
+on 0 1 => ok
+load 0 {place} 8 @{parents} => refused 20 NoEntry
+fill 0 {place} => ?
+load 0 {place} 8 @{childs} => ?
+# d) It stores through its entry.
+store 0 {place} 4 {stored} @{childs} => fault 15
+fix 0 => ready
+store 0 {place} 4 {stored} @{childs} => refused 20 NoEntry
+store 0 {place} 4 {stored} => stored
+fill 0 {place} => ?
+load 0 {place} 8 @{childs} => ?
+# e) And the parent, through the entry that it kept?
+enter 0 => ok
+on 0 0 => ok
+load 0 {place} 8 @{parents} => ?
+load 0 {other} 8 => ?";
 
 /// What varies.
 #[derive(Clone, Copy)]
@@ -98,11 +139,6 @@ impl Script {
         FILLS.saturating_sub(self.in_user)
     }
 
-    /// Returns the number of the child's entry.
-    fn childs_entry(&self) -> u64 {
-        self.parents_entry().saturating_add(1)
-    }
-
     /// Returns the address of which an entry is filled before the fork.
     fn filled(&self, entry: u64) -> u64 {
         if entry == self.entry {
@@ -126,107 +162,45 @@ impl Script {
 
     /// Adds fills of these entries.
     fn put_fills(&self, sheet: &mut Sheet, first: u64, end: u64) -> Result<(), AllocError> {
-        let alloc = sheet.alloc;
         for entry in first..end {
-            let address = self.filled(entry);
-            let fill = format!(in alloc; "fill 0 {address:#x}")?;
-            sheet.line(fill.as_str(), format!(in alloc; "entry {entry}")?.as_str())?;
+            let values = [
+                ("address", Value::Hex(self.filled(entry))),
+                ("entry", Value::Count(entry)),
+            ];
+            sheet.put("fill 0 {address} => entry {entry}", &values)?;
         }
         Ok(())
     }
 
-    /// Adds the image, the boot, and what the process stores.
-    fn put_start(&self, sheet: &mut Sheet) -> Result<(), AllocError> {
-        let (alloc, frames, slots) = (sheet.alloc, self.frames, self.slots);
-        sheet.note(
-            "No fence empties the whole TLB here. The process of slot 0 has ASID 1, that of slot 1 has ASID 2, the kernel has 0.",
-        )?;
-        let (base, size) = (
-            self.first.saturating_mul(PAGE),
-            self.data.saturating_mul(PAGE),
-        );
-        sheet.declare(format!(in alloc; "image {base:#x}:{size:#x}:rw:61")?.as_str())?;
-        let boot = format!(in alloc; "boot 1 {frames} {slots} asid")?;
-        sheet.line(boot.as_str(), "ok")?;
-        sheet.line("start 0", "slot 0")?;
-        sheet.line("on 0 0", "ok")?;
-        let (word, another) = self.words;
-        let (place, other) = (self.place(), self.place_in(self.other));
-        let store = format!(in alloc; "store 0 {place:#x} 8 {word:#x}")?;
-        sheet.line(store.as_str(), "stored")?;
-        let store = format!(in alloc; "store 0 {other:#x} 8 {another:#x}")?;
-        sheet.line(store.as_str(), "stored")
-    }
-
-    /// Adds the fills of the process and of the kernel, and a load by an entry after the return.
-    fn put_trap(&self, sheet: &mut Sheet) -> Result<(), AllocError> {
-        let (place, entry) = (self.place(), self.entry);
-        sheet.note("The process keeps translations, and so does the kernel.")?;
+    /// Adds the fills of the process and of the kernel between the other lines.
+    fn put_all(&self, sheet: &mut Sheet, values: &[Named]) -> Result<(), AllocError> {
+        sheet.put(START, values)?;
         self.put_fills(sheet, 0, self.in_user)?;
-        sheet.line("enter 0", "ok")?;
+        sheet.put("enter 0 => ok", values)?;
         self.put_fills(sheet, self.in_user, FILLS)?;
-        sheet.note("a) The return, without a change of the tables.")?;
-        sheet.line("leave 0", "ok")?;
-        sheet.ask(format!(in sheet.alloc; "load 0 {place:#x} 8 @{entry}")?.as_str())
+        sheet.put(QUESTIONS, values)
     }
 
-    /// Adds the fork.
-    fn put_fork(&self, sheet: &mut Sheet) -> Result<(), AllocError> {
-        let (alloc, place, entry) = (sheet.alloc, self.place(), self.entry);
-        let (upper, now) = (place.saturating_add(4), self.parents_entry());
-        let note = format!(in alloc; "b) A fork takes W from the leaf of {place:#x}.")?;
-        sheet.note(note.as_str())?;
-        sheet.line("enter 0", "ok")?;
-        sheet.line("fork 0", "slot 1")?;
-        sheet.line("leave 0", "ok")?;
-        let load = format!(in alloc; "load 0 {place:#x} 8 @{entry}")?;
-        sheet.line(load.as_str(), "refused 20 NoEntry")?;
-        sheet.ask(format!(in alloc; "fill 0 {place:#x}")?.as_str())?;
-        sheet.ask(format!(in alloc; "load 0 {upper:#x} 4 @{now}")?.as_str())
-    }
-
-    /// Adds the child's loads.
-    fn put_child(&self, sheet: &mut Sheet) -> Result<(), AllocError> {
-        let (alloc, place) = (sheet.alloc, self.place());
-        let (parents, childs) = (self.parents_entry(), self.childs_entry());
-        sheet.note("c) The child runs on the same hart.")?;
-        sheet.line("enter 0", "ok")?;
-        sheet.line("on 0 1", "ok")?;
-        let load = format!(in alloc; "load 0 {place:#x} 8 @{parents}")?;
-        sheet.line(load.as_str(), "refused 20 NoEntry")?;
-        sheet.ask(format!(in alloc; "fill 0 {place:#x}")?.as_str())?;
-        sheet.ask(format!(in alloc; "load 0 {place:#x} 8 @{childs}")?.as_str())
-    }
-
-    /// Adds the child's store, by its entry and without.
-    fn put_store(&self, sheet: &mut Sheet) -> Result<(), AllocError> {
-        let (alloc, place, stored, entry) = (
-            sheet.alloc,
-            self.place(),
-            self.childs,
-            self.childs_entry(),
-        );
-        sheet.note("d) It stores through its entry.")?;
-        let store = format!(in alloc; "store 0 {place:#x} 4 {stored:#x}")?;
-        let shown = store.as_str();
-        let by_entry = format!(in alloc; "{shown} @{entry}")?;
-        sheet.line(by_entry.as_str(), "fault 15")?;
-        sheet.line("fix 0", "ready")?;
-        sheet.line(by_entry.as_str(), "refused 20 NoEntry")?;
-        sheet.line(store.as_str(), "stored")?;
-        sheet.ask(format!(in alloc; "fill 0 {place:#x}")?.as_str())?;
-        sheet.ask(format!(in alloc; "load 0 {place:#x} 8 @{entry}")?.as_str())
-    }
-
-    /// Adds the parent's loads.
-    fn put_parent(&self, sheet: &mut Sheet) -> Result<(), AllocError> {
-        let (alloc, place, entry) = (sheet.alloc, self.place(), self.parents_entry());
-        let other = self.place_in(self.other);
-        sheet.note("e) And the parent, through the entry that it kept?")?;
-        sheet.line("enter 0", "ok")?;
-        sheet.line("on 0 0", "ok")?;
-        sheet.ask(format!(in alloc; "load 0 {place:#x} 8 @{entry}")?.as_str())?;
-        sheet.ask(format!(in alloc; "load 0 {other:#x} 8")?.as_str())
+    /// Adds the lines.
+    fn put(&self, sheet: &mut Sheet) -> Result<(), AllocError> {
+        let (place, parents) = (self.place(), self.parents_entry());
+        let (word, another) = self.words;
+        let values = [
+            ("base", Value::Hex(self.first.saturating_mul(PAGE))),
+            ("size", Value::Hex(self.data.saturating_mul(PAGE))),
+            ("frames", Value::Count(self.frames)),
+            ("slots", Value::Count(self.slots)),
+            ("place", Value::Hex(place)),
+            ("other", Value::Hex(self.place_in(self.other))),
+            ("word", Value::Hex(word)),
+            ("another", Value::Hex(another)),
+            ("entry", Value::Count(self.entry)),
+            ("upper", Value::Hex(place.saturating_add(4))),
+            ("parents", Value::Count(parents)),
+            ("childs", Value::Count(parents.saturating_add(1))),
+            ("stored", Value::Hex(self.childs)),
+        ];
+        self.put_all(sheet, &values)
     }
 }
 
@@ -236,10 +210,5 @@ pub fn put(sheet: &mut Sheet, numbers: Option<Numbers>) -> Result<(), AllocError
         Some(mut numbers) => Script::drawn(&mut numbers),
         None => OF_PAGE,
     };
-    script.put_start(sheet)?;
-    script.put_trap(sheet)?;
-    script.put_fork(sheet)?;
-    script.put_child(sheet)?;
-    script.put_store(sheet)?;
-    script.put_parent(sheet)
+    script.put(sheet)
 }

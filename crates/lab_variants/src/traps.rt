@@ -3,8 +3,53 @@
 use crate::accesses::{Access, Verb};
 use crate::frames::{PAGE, TRAMPOLINE};
 use crate::numbers::Numbers;
-use crate::sheet::{Sheet, hex};
+use crate::sheet::{Sheet, Value};
 use std::alloc::AllocError;
+
+/// The lines of the lab.
+const LINES: &str =
+    "# Pages of the image: {data} of data at {base}. A guard page and a stack page follow. Each hart runs a process of it.
+image {base}:{size}:rw:{first}
+boot 2 {frames} {slots} full => ok
+start 0 => slot 0
+start 0 => slot 1
+on 0 0 => ok
+on 1 1 => ok
+store 0 {address} 8 {mine} => stored
+store 1 {address} 8 {other} => stored
+# Each hart keeps translations in its TLB, and uses them.
+fill 0 {address} => entry 0
+fill 0 {base} => entry 1
+fill 1 {first_fill} => entry 0
+fill 1 {second_fill} => entry 1
+fill 1 {third_fill} => entry 2
+load 0 {upper} 4 @0 => ?
+load 0 {base} 8 @1 => ?
+# a) The trap: hart 0 is in the trampoline page, before the first instruction of kernel entry.
+trap 0 => ok
+load 0 {address} 8 => refused 19 Impossible enter0
+tramp 0 0 => frame 0
+load 1 {address} 8 @{entry} => ?
+# b) The first fence, of hart 0.
+next 0 => ok
+evict {evicts} {evicted} => ?
+fill 0 {address} => entry 0
+fill 0 {base} => entry 1
+load 1 {upper} 4 @{left} => ?
+# c) satp is written: from here on it names the kernel's table.
+next 0 => ok
+tramp 0 0 => frame 0
+evict 0 {later} => ?
+# d) The second fence. The kernel copies bytes from the process and to it.
+next 0 => ok
+evict 0 0 => refused 20 NoEntry
+copyin 0 {address} 8 => ?
+copyout 0 {middle} {copied} => copied 2
+# e) Back, and an access that is denied.
+leave 0 => ok
+load 0 {address} 8 => ?
+{access} => fault {cause}
+fix 0 => ?";
 
 /// Where the access that is denied goes.
 #[derive(Clone, Copy)]
@@ -141,118 +186,46 @@ impl Script {
         }
     }
 
-    /// Adds the image, the boot, and a process on each hart.
-    fn put_start(&self, sheet: &mut Sheet) -> Result<(), AllocError> {
-        let (alloc, base, data) = (sheet.alloc, self.base, self.data);
-        let (frames, slots, size) = (self.frames, self.slots, data.saturating_mul(PAGE));
-        let note = format!(in alloc;
-            "Pages of the image: {data} of data at {base:#x}. A guard page and a stack page follow. Each hart runs a process of it."
-        )?;
-        sheet.note(note.as_str())?;
-        let first = hex(alloc, self.first, 8)?;
-        let first = first.as_str();
-        let image = format!(in alloc; "image {base:#x}:{size:#x}:rw:{first}")?;
-        sheet.declare(image.as_str())?;
-        let boot = format!(in alloc; "boot 2 {frames} {slots} full")?;
-        sheet.line(boot.as_str(), "ok")?;
-        sheet.line("start 0", "slot 0")?;
-        sheet.line("start 0", "slot 1")?;
-        sheet.line("on 0 0", "ok")?;
-        sheet.line("on 1 1", "ok")?;
-        let address = self.address();
-        let (mine, other) = self.words;
-        let store = format!(in alloc; "store 0 {address:#x} 8 {mine:#x}")?;
-        sheet.line(store.as_str(), "stored")?;
-        let store = format!(in alloc; "store 1 {address:#x} 8 {other:#x}")?;
-        sheet.line(store.as_str(), "stored")
-    }
-
-    /// Adds a translation to hart 0's TLB for the place, as entry 0, and one for the first page, as entry 1.
-    fn put_fills(&self, sheet: &mut Sheet) -> Result<(), AllocError> {
-        let (alloc, base, address) = (sheet.alloc, self.base, self.address());
-        let fill = format!(in alloc; "fill 0 {address:#x}")?;
-        sheet.line(fill.as_str(), "entry 0")?;
-        let fill = format!(in alloc; "fill 0 {base:#x}")?;
-        sheet.line(fill.as_str(), "entry 1")
-    }
-
-    /// Adds three translations to hart 1's TLB.
-    fn put_other_fills(&self, sheet: &mut Sheet) -> Result<(), AllocError> {
-        let alloc = sheet.alloc;
-        let stack = self.guard().saturating_add(PAGE);
-        for entry in 0..3u64 {
-            let address = if entry == self.entry {
-                self.address()
-            } else if entry == 0 {
-                self.base
-            } else {
-                stack
-            };
-            let fill = format!(in alloc; "fill 1 {address:#x}")?;
-            sheet.line(fill.as_str(), format!(in alloc; "entry {entry}")?.as_str())?;
+    /// Returns the address of which hart 1's entry of this number is.
+    fn filled(&self, entry: u64) -> u64 {
+        if entry == self.entry {
+            self.address()
+        } else if entry == 0 {
+            self.base
+        } else {
+            self.guard().saturating_add(PAGE)
         }
-        Ok(())
     }
 
-    /// Adds what the TLBs have before the trap, and loads by them.
-    fn put_user(&self, sheet: &mut Sheet) -> Result<(), AllocError> {
-        let (alloc, base) = (sheet.alloc, self.base);
-        let upper = self.address().saturating_add(4);
-        sheet.note("Each hart keeps translations in its TLB, and uses them.")?;
-        self.put_fills(sheet)?;
-        self.put_other_fills(sheet)?;
-        sheet.ask(format!(in alloc; "load 0 {upper:#x} 4 @0")?.as_str())?;
-        sheet.ask(format!(in alloc; "load 0 {base:#x} 8 @1")?.as_str())
-    }
-
-    /// Adds the trap and the first fence.
-    fn put_trap(&self, sheet: &mut Sheet) -> Result<(), AllocError> {
-        let (alloc, address, entry) = (sheet.alloc, self.address(), self.entry);
-        sheet.note(
-            "a) The trap: hart 0 is in the trampoline page, before the first instruction of kernel entry.",
-        )?;
-        sheet.line("trap 0", "ok")?;
-        let load = format!(in alloc; "load 0 {address:#x} 8")?;
-        sheet.line(load.as_str(), "refused 19 Impossible enter0")?;
-        sheet.line("tramp 0 0", "frame 0")?;
-        sheet.ask(format!(in alloc; "load 1 {address:#x} 8 @{entry}")?.as_str())?;
-        sheet.note("b) The first fence, of hart 0.")?;
-        sheet.line("next 0", "ok")?;
-        let (evicts, evicted) = (self.evicts, self.evicted);
-        sheet.ask(format!(in alloc; "evict {evicts} {evicted}")?.as_str())?;
-        self.put_fills(sheet)?;
-        let (upper, left) = (address.saturating_add(4), self.entry_left());
-        sheet.ask(format!(in alloc; "load 1 {upper:#x} 4 @{left}")?.as_str())
-    }
-
-    /// Adds the write of satp, the second fence, and copies by the kernel.
-    fn put_kernel(&self, sheet: &mut Sheet) -> Result<(), AllocError> {
-        let (alloc, address, later) = (sheet.alloc, self.address(), self.later);
-        sheet.note("c) satp is written: from here on it names the kernel's table.")?;
-        sheet.line("next 0", "ok")?;
-        sheet.line("tramp 0 0", "frame 0")?;
-        sheet.ask(format!(in alloc; "evict 0 {later}")?.as_str())?;
-        sheet.note("d) The second fence. The kernel copies bytes from the process and to it.")?;
-        sheet.line("next 0", "ok")?;
-        sheet.line("evict 0 0", "refused 20 NoEntry")?;
-        sheet.ask(format!(in alloc; "copyin 0 {address:#x} 8")?.as_str())?;
-        let place = address.saturating_add(2);
-        let copied = hex(alloc, self.copied, 2)?;
-        let copied = copied.as_str();
-        let copy = format!(in alloc; "copyout 0 {place:#x} {copied}")?;
-        sheet.line(copy.as_str(), "copied 2")
-    }
-
-    /// Adds the return, and an access that is denied.
-    fn put_return(&self, sheet: &mut Sheet) -> Result<(), AllocError> {
-        let (alloc, address, access) = (sheet.alloc, self.address(), self.last_access());
-        sheet.note("e) Back, and an access that is denied.")?;
-        sheet.line("leave 0", "ok")?;
-        sheet.ask(format!(in alloc; "load 0 {address:#x} 8")?.as_str())?;
-        let cause = access.verb.cause();
-        let answer = format!(in alloc; "fault {cause}")?;
-        sheet.line(format!(in alloc; "{access}")?.as_str(), answer.as_str())?;
-        sheet.ask("fix 0")
+    /// Adds the lines.
+    fn put(&self, sheet: &mut Sheet) -> Result<(), AllocError> {
+        let (address, access) = (self.address(), self.last_access());
+        let (mine, other) = self.words;
+        let values = [
+            ("data", Value::Count(self.data)),
+            ("base", Value::Hex(self.base)),
+            ("size", Value::Hex(self.data.saturating_mul(PAGE))),
+            ("first", Value::Bytes(self.first, 8)),
+            ("frames", Value::Count(self.frames)),
+            ("slots", Value::Count(self.slots)),
+            ("address", Value::Hex(address)),
+            ("mine", Value::Hex(mine)),
+            ("other", Value::Hex(other)),
+            ("first_fill", Value::Hex(self.filled(0))),
+            ("second_fill", Value::Hex(self.filled(1))),
+            ("third_fill", Value::Hex(self.filled(2))),
+            ("upper", Value::Hex(address.saturating_add(4))),
+            ("entry", Value::Count(self.entry)),
+            ("evicts", Value::Count(self.evicts)),
+            ("evicted", Value::Count(self.evicted)),
+            ("left", Value::Count(self.entry_left())),
+            ("later", Value::Count(self.later)),
+            ("middle", Value::Hex(address.saturating_add(2))),
+            ("copied", Value::Bytes(self.copied, 2)),
+            ("access", Value::Access(access)),
+            ("cause", Value::Count(access.verb.cause())),
+        ];
+        sheet.put(LINES, &values)
     }
 }
 
@@ -262,9 +235,5 @@ pub fn put(sheet: &mut Sheet, numbers: Option<Numbers>) -> Result<(), AllocError
         Some(mut numbers) => Script::drawn(&mut numbers),
         None => OF_PAGE,
     };
-    script.put_start(sheet)?;
-    script.put_user(sheet)?;
-    script.put_trap(sheet)?;
-    script.put_kernel(sheet)?;
-    script.put_return(sheet)
+    script.put(sheet)
 }
