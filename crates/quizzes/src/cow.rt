@@ -1,13 +1,13 @@
 // Quizzes about copy-on-write forks: who shares a frame, which stores fault, what parent and child read.
 
-use crate::process::{Access, Process};
+use crate::process::Access;
 use crate::quiz::{Place, Quiz};
 use crate::steps::Touch;
 use std::alloc::AllocError;
 use usertest_world::PAGE;
 
 /// Where the accesses of a quiz go: few places, so that parent and child meet.
-#[derive(Clone, Copy, PartialEq, Eq, Debug)]
+#[derive(Clone, Copy)]
 struct Spots {
     /// The first byte of the data, which the image gives.
     data: u64,
@@ -18,6 +18,12 @@ struct Spots {
 }
 
 impl Quiz {
+    /// Returns the address of the guard page, two pages below the heap.
+    fn guard(&self) -> u64 {
+        let (base, _) = self.heap();
+        base.saturating_sub(2 * PAGE)
+    }
+
     /// Returns one of the places.
     fn spot(&mut self, spots: Spots) -> u64 {
         match self.random.below(8) {
@@ -57,7 +63,7 @@ impl Quiz {
 
     /// Makes an access that is denied: the process ends. Returns false.
     fn deny_cow(&mut self) -> Result<bool, AllocError> {
-        let guard = self.me().map_or(0, |me| guard_of(me));
+        let guard = self.guard();
         let touch = match self.random.below(4) {
             0 => Touch::load(guard.saturating_add(8)),
             1 => Touch::store(self.random.below(0x100), 1),
@@ -67,19 +73,14 @@ impl Quiz {
                 width: 4,
                 value: 0,
             },
-            _ => Touch {
-                access: Access::Fetch,
-                address: PAGE,
-                width: 4,
-                value: 0,
-            },
+            _ => Touch::fetch(PAGE),
         };
         self.touch(touch, false)
     }
 
     /// The kernel copies to the end of the data, and maybe past it.
     fn copy_to_guard(&mut self) -> Result<(), AllocError> {
-        let guard = self.me().map_or(0, |me| guard_of(me));
+        let guard = self.guard();
         let address = guard.saturating_sub(self.random.between(1, 6));
         let count = self.random.between(2, 8);
         self.copy_out(address, count)?;
@@ -134,7 +135,7 @@ impl Quiz {
             "image 0x0:0x1000:rx:13050000 0x1000:{size:#x}:rw:{byte:02x}"
         )?)?;
         self.begin("boot 1 64 4 full", pages)?;
-        let base = self.me().map_or(0, |me| me.base);
+        let (base, _) = self.heap();
         let spots = Spots {
             data: PAGE,
             beside: PAGE.saturating_add(self.random.between(1, 512).saturating_mul(8)),
@@ -160,9 +161,4 @@ impl Quiz {
         }
         Ok(())
     }
-}
-
-/// Returns the address of the guard page.
-fn guard_of(process: &Process) -> u64 {
-    process.base.saturating_sub(2 * PAGE)
 }

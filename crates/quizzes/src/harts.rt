@@ -1,13 +1,13 @@
 // `Harts`: the harts of a script with their TLBs, as the generator knows them.
 
-use crate::process::{Access, Process, page_of};
+use crate::process::{Access, Process, lives, page_of, place_after};
 use crate::quiz::{Place, Quiz};
 use crate::steps::Touch;
 use crate::tlb::stores;
 use std::alloc::{AllocError, Global};
 
 /// An entry of a TLB.
-#[derive(Clone, Copy, PartialEq, Eq, Debug)]
+#[derive(Clone, Copy)]
 struct Entry {
     page: u64,
     asid: u64,
@@ -51,7 +51,7 @@ impl Harts {
                 entries: Vec::new(alloc),
                 marked: Vec::new(alloc),
             };
-            harts.push(hart).map_err(AllocError::from)?;
+            harts.push(hart)?;
         }
         Ok(Harts {
             alloc,
@@ -65,9 +65,10 @@ impl Harts {
 
     /// Returns the place of the hart.
     fn place(&self) -> Place {
-        self.harts
-            .get(self.hart)
-            .map_or(Place::Idle, |hart| hart.place)
+        match self.harts.get(self.hart) {
+            Some(hart) => hart.place,
+            None => Place::Idle,
+        }
     }
 
     /// Returns whether the hart has no process.
@@ -77,9 +78,10 @@ impl Harts {
 
     /// Returns how many entries the hart's TLB has.
     pub fn entries(&self) -> usize {
-        self.harts
-            .get(self.hart)
-            .map_or(0, |hart| hart.entries.len())
+        match self.harts.get(self.hart) {
+            Some(hart) => hart.entries.len(),
+            None => 0,
+        }
     }
 
     /// Returns the page of an entry.
@@ -116,7 +118,7 @@ impl Harts {
     /// Marks a slot on every hart.
     pub fn mark(&mut self, slot: usize) -> Result<(), AllocError> {
         for hart in self.harts.as_mut_slice() {
-            hart.marked.push(slot).map_err(AllocError::from)?;
+            hart.marked.push(slot)?;
         }
         Ok(())
     }
@@ -147,6 +149,12 @@ impl Harts {
         self.set_place(Place::User);
     }
 
+    /// Adds a line of this word and the hart.
+    fn say(&self, quiz: &mut Quiz, word: &str, answer: &str) -> Result<(), AllocError> {
+        let hart = self.hart;
+        quiz.say(format!(in self.alloc; "{word} {hart}")?, answer)
+    }
+
     /// The hart enters the kernel, if it is in user mode.
     pub fn to_kernel(&mut self, quiz: &mut Quiz) -> Result<(), AllocError> {
         if self.place() != Place::User {
@@ -154,8 +162,7 @@ impl Harts {
         }
         self.fence();
         self.set_place(Place::Kernel);
-        let hart = self.hart;
-        quiz.say(format!(in self.alloc; "enter {hart}")?, "ok")
+        self.say(quiz, "enter", "ok")
     }
 
     /// The hart returns to user mode, if it is in the kernel.
@@ -164,8 +171,7 @@ impl Harts {
             return Ok(());
         }
         self.clean();
-        let hart = self.hart;
-        quiz.say(format!(in self.alloc; "leave {hart}")?, "ok")
+        self.say(quiz, "leave", "ok")
     }
 
     /// Puts the process of a slot on the hart, which is in the kernel or idle.
@@ -179,27 +185,23 @@ impl Harts {
         quiz.say(format!(in self.alloc; "on {hart} {slot}")?, "ok")
     }
 
+    /// Returns whether the process of a slot is on a hart.
+    fn runs(&self, slot: usize) -> bool {
+        for hart in self.harts.as_slice() {
+            if hart.slot == Some(slot) {
+                return true;
+            }
+        }
+        false
+    }
+
     /// Returns the slot of a process that is on no hart; `None` if there is none.
     fn waiting(&self, quiz: &mut Quiz) -> Option<usize> {
         let count = self.processes.len();
         let first = quiz.random.index(count);
         for step in 0..count {
-            let at = first.saturating_add(step);
-            let slot = if at < count {
-                at
-            } else {
-                at.saturating_sub(count)
-            };
-            let runs = self
-                .harts
-                .as_slice()
-                .iter()
-                .any(|hart| hart.slot == Some(slot));
-            let lives = self
-                .processes
-                .get(slot)
-                .is_some_and(|process| process.lives);
-            if lives && !runs {
+            let slot = place_after(first, step, count);
+            if lives(self.processes.as_slice(), slot) && !self.runs(slot) {
                 return Some(slot);
             }
         }
@@ -246,12 +248,11 @@ impl Harts {
 
     /// Returns the ASID under which the hart fills entries.
     fn asid(&self) -> u64 {
-        let by_user_table = self
-            .harts
-            .get(self.hart)
-            .is_some_and(|hart| hart.by_user_table);
-        match self.slot() {
-            Some(slot) if self.asids && by_user_table => (slot as u64).saturating_add(1),
+        let Some(hart) = self.harts.get(self.hart) else {
+            return 0;
+        };
+        match hart.slot {
+            Some(slot) if self.asids && hart.by_user_table => (slot as u64).saturating_add(1),
             _ => 0,
         }
     }
@@ -261,9 +262,7 @@ impl Harts {
         let (hart, number, asid) = (self.hart, self.entries(), self.asid());
         if let Some(it) = self.harts.get_mut(hart) {
             let page = page_of(address);
-            it.entries
-                .push(Entry { page, asid })
-                .map_err(AllocError::from)?;
+            it.entries.push(Entry { page, asid })?;
         }
         let words = format!(in self.alloc; "entry {number}")?;
         let text = format!(in self.alloc; "fill {hart} {address:#x}")?;
@@ -287,8 +286,7 @@ impl Harts {
 
     /// The process traps: the hart is before the first instruction of kernel entry.
     pub fn trap(&mut self, quiz: &mut Quiz) -> Result<(), AllocError> {
-        let hart = self.hart;
-        quiz.say(format!(in self.alloc; "trap {hart}")?, "ok")
+        self.say(quiz, "trap", "ok")
     }
 
     /// The hart executes an instruction of kernel entry, by its number from 0: a fence, a write of satp, a fence.
@@ -303,8 +301,7 @@ impl Harts {
         if number == 2 {
             self.set_place(Place::Kernel);
         }
-        let hart = self.hart;
-        quiz.say(format!(in self.alloc; "next {hart}")?, "ok")
+        self.say(quiz, "next", "ok")
     }
 
     /// Returns the text of an access on the hart.
@@ -323,17 +320,21 @@ impl Harts {
             return "refused";
         };
         let granted = me.grants(touch.access, touch.address, 1);
-        match granted && me.is_ready(touch.access, touch.address) {
-            false => "fault",
-            true if stores(touch) => "stored",
-            true => "value",
+        if !granted || !me.is_ready(touch.access, touch.address) {
+            "fault"
+        } else if stores(touch) {
+            "stored"
+        } else {
+            "value"
         }
     }
 
-    /// Returns whether the process on the hart may load from an address.
-    pub fn may_load(&self, address: u64) -> bool {
-        self.me()
-            .is_some_and(|me| me.grants(Access::Load, address, 1))
+    /// Returns whether the process on the hart is granted an access to a byte.
+    pub fn grants(&self, access: Access, address: u64) -> bool {
+        match self.me() {
+            Some(me) => me.grants(access, address, 1),
+            None => false,
+        }
     }
 
     /// Returns whether an entry serves an access to an address.
@@ -341,11 +342,10 @@ impl Harts {
         let Some(hart) = self.harts.get(self.hart) else {
             return false;
         };
-        let key = Entry {
-            page: page_of(address),
-            asid: self.asid(),
-        };
-        hart.entries.get(entry).is_some_and(|it| *it == key)
+        match hart.entries.get(entry) {
+            Some(it) => it.page == page_of(address) && it.asid == self.asid(),
+            None => false,
+        }
     }
 
     /// Accesses by an entry.
@@ -379,9 +379,7 @@ impl Harts {
         }
         let hart = self.hart;
         let text = format!(in self.alloc; "fix {hart}")?;
-        let granted = self
-            .me()
-            .is_some_and(|me| me.grants(touch.access, touch.address, 1));
+        let granted = self.grants(touch.access, touch.address);
         self.fence();
         if granted {
             if let Some(me) = self.me_mut() {
@@ -408,31 +406,35 @@ impl Harts {
         }
     }
 
+    /// Returns whether a process has ended.
+    fn has_ended(&self) -> bool {
+        for process in self.processes.as_slice() {
+            if !process.lives {
+                return true;
+            }
+        }
+        false
+    }
+
     /// Forks, once.
     pub fn fork(&mut self, quiz: &mut Quiz) -> Result<(), AllocError> {
         let Some(slot) = self.slot() else {
             return Ok(());
         };
-        let ended = self
-            .processes
-            .as_slice()
-            .iter()
-            .any(|process| !process.lives);
-        if self.has_forked || ended {
+        if self.has_forked || self.has_ended() {
             return Ok(());
         }
         self.has_forked = true;
         self.to_kernel(quiz)?;
-        let hart = self.hart;
         let child = self.processes.len();
-        quiz.say(format!(in self.alloc; "fork {hart}")?, "slot")?;
+        self.say(quiz, "fork", "slot")?;
         let alloc = self.alloc;
         let Some(me) = self.me_mut() else {
             return Ok(());
         };
         let is_new = me.mark();
         let process = me.child(alloc, child as u64)?;
-        self.processes.push(process).map_err(AllocError::from)?;
+        self.processes.push(process)?;
         if is_new {
             self.mark(slot)?;
         }

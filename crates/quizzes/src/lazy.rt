@@ -14,8 +14,11 @@ const GROWTHS: [u64; 8] = [
 
 impl Quiz {
     /// Returns where the heap begins and ends.
-    fn heap(&self) -> (u64, u64) {
-        self.me().map_or((0, 0), |me| (me.base, me.size))
+    pub(crate) fn heap(&self) -> (u64, u64) {
+        match self.me() {
+            Some(me) => (me.base, me.size),
+            None => (0, 0),
+        }
     }
 
     /// Grows the heap.
@@ -122,12 +125,7 @@ impl Quiz {
         let touch = match self.random.below(4) {
             0 => Touch::load(rounded_up(size)),
             1 => Touch::store(base.saturating_sub(2 * PAGE), 1),
-            2 => Touch {
-                access: Access::Fetch,
-                address: base.saturating_sub(PAGE),
-                width: 4,
-                value: 0,
-            },
+            2 => Touch::fetch(base.saturating_sub(PAGE)),
             _ => Touch {
                 access: Access::Load,
                 address: base

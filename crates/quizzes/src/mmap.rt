@@ -1,6 +1,6 @@
 // Quizzes about mappings of files: where they go, which accesses fault, what is written back and when, what is past the file's end.
 
-use crate::process::{Access, Region};
+use crate::process::{Region, place_after};
 use crate::quiz::{Place, Quiz};
 use crate::steps::Touch;
 use std::alloc::AllocError;
@@ -14,7 +14,7 @@ const WRITE: u64 = 2;
 const SHARED: u64 = 1;
 
 /// The files of a quiz: one that may be written, of some bytes above a page, and a short one that may not.
-#[derive(Clone, Copy, PartialEq, Eq, Debug)]
+#[derive(Clone, Copy)]
 struct Lengths {
     first: u64,
     second: u64,
@@ -63,26 +63,20 @@ impl Quiz {
                 shared,
                 file: Some(file),
             };
-            me.regions.push(region).map_err(AllocError::from)?;
+            me.regions.push(region)?;
         }
         self.ask(text, "at")
     }
 
     /// Returns one of the mappings, with its place among the regions; `None` if there is none.
     fn mapping(&mut self) -> Option<(usize, Region)> {
-        let count = self.me().map_or(0, |me| me.regions.len());
+        let me = self.processes.get(self.current)?;
+        let count = me.regions.len();
         let first = self.random.index(count);
         for step in 0..count {
-            let at = first.saturating_add(step);
-            let number = if at < count {
-                at
-            } else {
-                at.saturating_sub(count)
-            };
-            let region = self.me().and_then(|me| me.regions.get(number).copied());
-            if let Some(region) = region
-                && region.file.is_some()
-            {
+            let number = place_after(first, step, count);
+            let region = me.regions.get(number).copied()?;
+            if region.file.is_some() {
                 return Some((number, region));
             }
         }
@@ -207,12 +201,7 @@ impl Quiz {
             return Ok(true);
         };
         let touch = if self.random.chance(500) {
-            Touch {
-                access: Access::Fetch,
-                address: region.start,
-                width: 4,
-                value: 0,
-            }
+            Touch::fetch(region.start)
         } else {
             Touch::load(region.end)
         };

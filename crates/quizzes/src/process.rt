@@ -4,7 +4,7 @@ use std::alloc::{AllocError, Global};
 use usertest_world::{PAGE, TRAPFRAME, rounded_up};
 
 /// What an access does.
-#[derive(Clone, Copy, PartialEq, Eq, Debug)]
+#[derive(Clone, Copy)]
 pub(crate) enum Access {
     Fetch,
     Load,
@@ -12,7 +12,7 @@ pub(crate) enum Access {
 }
 
 /// A run of pages with the same rights; each may be read.
-#[derive(Clone, Copy, PartialEq, Eq, Debug)]
+#[derive(Clone, Copy)]
 pub(crate) struct Region {
     pub start: u64,
     pub end: u64,
@@ -25,7 +25,7 @@ pub(crate) struct Region {
 }
 
 /// A page that has a frame.
-#[derive(Clone, Copy, PartialEq, Eq, Debug)]
+#[derive(Clone, Copy)]
 pub(crate) struct Settled {
     /// Its address.
     pub page: u64,
@@ -51,6 +51,24 @@ pub(crate) struct Process {
 /// Returns the address of the page of an address.
 pub(crate) fn page_of(address: u64) -> u64 {
     address.saturating_sub(address % PAGE)
+}
+
+/// Returns the place that comes so many steps after the first of a round of places.
+pub(crate) fn place_after(first: usize, step: usize, count: usize) -> usize {
+    let at = first.saturating_add(step);
+    if at < count {
+        at
+    } else {
+        at.saturating_sub(count)
+    }
+}
+
+/// Returns whether there is a process of this number, and it lives.
+pub(crate) fn lives(processes: &[Process], number: usize) -> bool {
+    match processes.get(number) {
+        Some(process) => process.lives,
+        None => false,
+    }
 }
 
 impl Region {
@@ -99,7 +117,7 @@ impl Process {
             shared: false,
             file: None,
         };
-        self.regions.push(region).map_err(AllocError::from)?;
+        self.regions.push(region)?;
         let pages = end.saturating_sub(start) / PAGE;
         for number in 0..pages {
             let page = start.saturating_add(number.saturating_mul(PAGE));
@@ -115,7 +133,8 @@ impl Process {
             forked,
             stored,
         };
-        self.settled.push(settled).map_err(AllocError::from)
+        self.settled.push(settled)?;
+        Ok(())
     }
 
     /// Returns the region of an address; `None` if there is none.
@@ -138,11 +157,10 @@ impl Process {
 
     /// Returns whether an access is granted.
     pub fn grants(&self, access: Access, address: u64, width: u64) -> bool {
-        let aligned = address.is_multiple_of(width);
-        aligned
-            && self
-                .region_of(address)
-                .is_some_and(|region| region.grants(access))
+        match self.region_of(address) {
+            Some(region) => address.is_multiple_of(width) && region.grants(access),
+            None => false,
+        }
     }
 
     /// Returns what is known of the page of an address that has a frame.
@@ -158,8 +176,10 @@ impl Process {
 
     /// Returns whether a store to a page is kept for its file.
     fn keeps_stores(&self, address: u64) -> bool {
-        self.region_of(address)
-            .is_some_and(|region| region.shared && region.writable)
+        match self.region_of(address) {
+            Some(region) => region.shared && region.writable,
+            None => false,
+        }
     }
 
     /// Returns whether an access that is granted needs no service.
@@ -201,9 +221,7 @@ impl Process {
         let Some(settled) = self.settled.get(number).copied() else {
             return false;
         };
-        let writable = self
-            .region_of(settled.page)
-            .is_some_and(|region| region.writable);
+        let writable = self.grants(Access::Store, settled.page, 1);
         if !writable || settled.forked {
             return false;
         }

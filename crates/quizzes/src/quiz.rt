@@ -7,7 +7,7 @@ use usertest_rows::{Expected, Line};
 use usertest_world::Random;
 
 /// Who answers the lines of a quiz.
-#[derive(Clone, Copy, PartialEq, Eq, Debug)]
+#[derive(Clone, Copy)]
 pub enum Teller {
     /// The machine that plays scripts.
     Machine,
@@ -16,7 +16,7 @@ pub enum Teller {
 }
 
 /// Where the hart is.
-#[derive(Clone, Copy, PartialEq, Eq, Debug)]
+#[derive(Clone, Copy)]
 pub(crate) enum Place {
     Idle,
     User,
@@ -63,27 +63,26 @@ impl Quiz {
         }
     }
 
+    /// Adds a line.
+    fn push(&mut self, text: String, expected: Expected) -> Result<(), AllocError> {
+        self.lines.push(Line { text, expected })?;
+        Ok(())
+    }
+
     /// Adds a declaration, which has no answer.
     pub(crate) fn declare(&mut self, text: String) -> Result<(), AllocError> {
-        let expected = Expected::Nothing;
-        self.lines
-            .push(Line { text, expected })
-            .map_err(AllocError::from)
+        self.push(text, Expected::Nothing)
     }
 
     /// Adds a line whose answer begins with these words.
     pub(crate) fn say(&mut self, text: String, words: &str) -> Result<(), AllocError> {
-        let expected = Expected::Begins(String::from_str(self.alloc, words)?);
-        self.lines
-            .push(Line { text, expected })
-            .map_err(AllocError::from)
+        let words = String::from_str(self.alloc, words)?;
+        self.push(text, Expected::Begins(words))
     }
 
     /// Adds a line whose answer begins with these words, and that is worth a question.
     pub(crate) fn ask(&mut self, text: String, words: &str) -> Result<(), AllocError> {
-        self.worthy
-            .push(self.lines.len())
-            .map_err(AllocError::from)?;
+        self.worthy.push(self.lines.len())?;
         self.say(text, words)
     }
 
@@ -106,13 +105,8 @@ impl Quiz {
         if done == count {
             return self.ask(text, "copied");
         }
-        self.worthy
-            .push(self.lines.len())
-            .map_err(AllocError::from)?;
-        let expected = Expected::Short(done);
-        self.lines
-            .push(Line { text, expected })
-            .map_err(AllocError::from)
+        self.worthy.push(self.lines.len())?;
+        self.push(text, Expected::Short(done))
     }
 
     /// `say`, with a text that is not owned.

@@ -1,11 +1,11 @@
 // Steps of processes: the lines of accesses and kernel calls, and what the generator then knows.
 
-use crate::process::{Access, Process};
+use crate::process::{Access, Process, lives, place_after};
 use crate::quiz::{Place, Quiz};
 use std::alloc::AllocError;
 
 /// An access to an address.
-#[derive(Clone, Copy, PartialEq, Eq, Debug)]
+#[derive(Clone, Copy)]
 pub(crate) struct Touch {
     pub access: Access,
     pub address: u64,
@@ -21,6 +21,16 @@ impl Touch {
             access: Access::Load,
             address,
             width: 1,
+            value: 0,
+        }
+    }
+
+    /// Returns a fetch of an instruction.
+    pub fn fetch(address: u64) -> Touch {
+        Touch {
+            access: Access::Fetch,
+            address,
+            width: 4,
             value: 0,
         }
     }
@@ -43,7 +53,7 @@ impl Quiz {
         self.say_words("start 0", "slot 0")?;
         self.say_words("on 0 0", "ok")?;
         let process = Process::new(self.alloc, 0, data_pages)?;
-        self.processes.push(process).map_err(AllocError::from)?;
+        self.processes.push(process)?;
         self.current = 0;
         self.place = Place::User;
         Ok(())
@@ -70,9 +80,12 @@ impl Quiz {
     /// Puts another process on the hart.
     pub(crate) fn to_process(&mut self, number: usize) -> Result<(), AllocError> {
         self.to_kernel()?;
-        let slot = self.processes.get(number).map_or(0, |process| process.slot);
         self.current = number;
         self.place = Place::User;
+        let slot = match self.me() {
+            Some(me) => me.slot,
+            None => 0,
+        };
         self.say(format!(in self.alloc; "on 0 {slot}")?, "ok")
     }
 
@@ -81,17 +94,8 @@ impl Quiz {
         let count = self.processes.len();
         let first = self.random.index(count);
         for step in 0..count {
-            let at = first.saturating_add(step);
-            let number = if at < count {
-                at
-            } else {
-                at.saturating_sub(count)
-            };
-            let lives = self
-                .processes
-                .get(number)
-                .is_some_and(|process| process.lives);
-            if lives && number != self.current {
+            let number = place_after(first, step, count);
+            if lives(self.processes.as_slice(), number) && number != self.current {
                 return Some(number);
             }
         }
@@ -176,16 +180,21 @@ impl Quiz {
         self.put(asks, text, "free")
     }
 
+    /// Returns whether a living process is in this slot.
+    fn is_taken(&self, slot: u64) -> bool {
+        for process in self.processes.as_slice() {
+            if process.lives && process.slot == slot {
+                return true;
+            }
+        }
+        false
+    }
+
     /// Returns the lowest slot without a process.
     fn free_slot(&self) -> u64 {
         let count = self.processes.len() as u64;
         for slot in 0..count {
-            let taken = self
-                .processes
-                .as_slice()
-                .iter()
-                .any(|it| it.lives && it.slot == slot);
-            if !taken {
+            if !self.is_taken(slot) {
                 return slot;
             }
         }
@@ -205,7 +214,8 @@ impl Quiz {
             }
             None => return Ok(()),
         };
-        self.processes.push(child).map_err(AllocError::from)
+        self.processes.push(child)?;
+        Ok(())
     }
 
     /// The process on the hart exits.

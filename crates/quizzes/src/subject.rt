@@ -1,7 +1,7 @@
 // `Subject`: what a quiz asks about.
 
 /// What a quiz asks about.
-#[derive(Clone, Copy, PartialEq, Eq, Debug)]
+#[derive(Clone, Copy)]
 pub enum Subject {
     /// Copy-on-write forks.
     Cow,

@@ -21,7 +21,7 @@ const LEAVES: [u64; 16] = [
 ];
 
 /// Page tables whose three tables have an entry each for one address, and leaves beside it.
-#[derive(Clone, Copy, PartialEq, Eq, Debug)]
+#[derive(Clone, Copy)]
 pub(crate) struct Tables {
     pub index2: u64,
     pub index1: u64,

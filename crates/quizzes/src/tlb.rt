@@ -26,7 +26,7 @@ impl Harts {
             _ => spot,
         };
         let early = quiz.lines.len() < 14;
-        let address = if early && !self.may_load(address) {
+        let address = if early && !self.grants(Access::Load, address) {
             0x1000
         } else {
             address
@@ -145,12 +145,8 @@ impl Quiz {
         self.say_words("start 0", "slot 0")?;
         self.say_words("start 1", "slot 1")?;
         let mut play = Harts::new(self.alloc, harts, asids)?;
-        play.processes
-            .push(Process::new(self.alloc, 0, 2)?)
-            .map_err(AllocError::from)?;
-        play.processes
-            .push(Process::new(self.alloc, 1, 2)?)
-            .map_err(AllocError::from)?;
+        play.processes.push(Process::new(self.alloc, 0, 2)?)?;
+        play.processes.push(Process::new(self.alloc, 1, 2)?)?;
         play.mark(0)?;
         play.mark(1)?;
         play.put_on(self, 0)?;
