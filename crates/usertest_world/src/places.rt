@@ -34,7 +34,7 @@ pub fn rounded_up(size: u64) -> u64 {
 }
 
 /// From where the C program counts a place.
-#[derive(Clone, Copy, PartialEq, Eq)]
+#[derive(Clone, Copy)]
 pub enum Base {
     /// From the beginning of the heap.
     Heap,

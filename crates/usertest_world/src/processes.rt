@@ -62,7 +62,7 @@ impl Process {
     pub fn child(&self, alloc: Global, parent: usize, slot: u64) -> Result<Process, AllocError> {
         let mut mappings = Vec::new(alloc);
         for mapping in self.mappings.as_slice() {
-            mappings.push(mapping.child_of()).map_err(AllocError::from)?;
+            mappings.push(mapping.child_of())?;
         }
         Ok(Process {
             slot,
@@ -122,9 +122,34 @@ impl Process {
 
     /// Returns the place of the mapping of this number in the list of mappings.
     pub fn find_mapping(&self, number: u64) -> Option<usize> {
-        self.mappings
-            .as_slice()
-            .iter()
-            .position(|mapping| mapping.number == number)
+        for (at, mapping) in self.mappings.as_slice().iter().enumerate() {
+            if mapping.number == number {
+                return Some(at);
+            }
+        }
+        None
+    }
+
+    /// Returns whether a mapping is of this file.
+    pub(crate) fn maps(&self, file: usize) -> bool {
+        for mapping in self.mappings.as_slice() {
+            if mapping.file.number == file {
+                return true;
+            }
+        }
+        false
+    }
+
+    /// Returns whether a mapping shares this page of this file and has stored to it.
+    pub(crate) fn has_stored(&self, file: usize, page: usize) -> bool {
+        for mapping in self.mappings.as_slice() {
+            if let Some(its_page) = mapping.page_of(file, page)
+                && mapping.shared
+                && mapping.view(its_page).stored_to
+            {
+                return true;
+            }
+        }
+        false
     }
 }

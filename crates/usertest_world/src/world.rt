@@ -106,7 +106,7 @@ impl World {
         for number in 0..self.count() {
             let process = self.process(number);
             if process.lives && process.parent == Some(parent) {
-                children.push(number).map_err(AllocError::from)?;
+                children.push(number)?;
             }
         }
         Ok(children)
@@ -131,7 +131,7 @@ impl World {
             let Some(number) = now else {
                 break;
             };
-            line.push(number).map_err(AllocError::from)?;
+            line.push(number)?;
             now = self.process(number).parent;
         }
         Ok(line)
@@ -185,19 +185,25 @@ impl World {
         self.note_fork();
         let parent = self.me_mut();
         parent.spawned = parent.spawned.saturating_add(1);
-        self.others.push(child).map_err(AllocError::from)?;
+        self.others.push(child)?;
         Ok(self.others.len())
     }
 
     /// Returns whether a shared mapping of a process has this page of this file. The mapping numbered `but` does not count.
     fn process_shares(&self, number: usize, but: Option<u64>, file: usize, page: usize) -> bool {
         let process = self.process(number);
-        process.lives
-            && process.mappings.as_slice().iter().any(|mapping| {
-                mapping.shared
-                    && Some(mapping.number) != but
-                    && mapping.page_of(file, page).is_some()
-            })
+        if !process.lives {
+            return false;
+        }
+        for mapping in process.mappings.as_slice() {
+            if mapping.shared
+                && Some(mapping.number) != but
+                && mapping.page_of(file, page).is_some()
+            {
+                return true;
+            }
+        }
+        false
     }
 
     /// Returns whether a shared mapping has this page of this file, beside a mapping of a process.
@@ -323,11 +329,7 @@ impl World {
     fn is_stored_by_sharer(&self, file: usize, page: usize) -> bool {
         for number in 0..self.count() {
             let process = self.process(number);
-            let stored = process.mappings.as_slice().iter().any(|mapping| {
-                let its_page = mapping.page_of(file, page);
-                mapping.shared && its_page.is_some_and(|it| mapping.view(it).stored_to)
-            });
-            if process.lives && stored {
+            if process.lives && process.has_stored(file, page) {
                 return true;
             }
         }
@@ -356,7 +358,8 @@ impl World {
         let process = self.me_mut();
         process.next_mapping = process.next_mapping.saturating_add(1);
         process.unmapped.clear();
-        process.mappings.push(mapping).map_err(AllocError::from)
+        process.mappings.push(mapping)?;
+        Ok(())
     }
 
     /// Returns whether labs determine what a page of a file contains.
@@ -368,12 +371,7 @@ impl World {
     pub fn is_mapped(&self, file: usize) -> bool {
         for number in 0..self.count() {
             let process = self.process(number);
-            let maps = process
-                .mappings
-                .as_slice()
-                .iter()
-                .any(|mapping| mapping.file.number == file);
-            if process.lives && maps {
+            if process.lives && process.maps(file) {
                 return true;
             }
         }
