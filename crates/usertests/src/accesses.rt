@@ -1,6 +1,6 @@
 // Loads and stores, in the heap or in a mapping.
 
-use crate::state::Test;
+use crate::state::Maker;
 use std::alloc::AllocError;
 use usertest_rows::Call;
 use usertest_world::{PAGE, Place};
@@ -8,7 +8,7 @@ use usertest_world::{PAGE, Place};
 /// The widths of accesses, in bytes.
 const WIDTHS: [u64; 4] = [1, 2, 4, 8];
 
-impl Test {
+impl Maker {
     /// Returns whether an access goes to a mapping, with this probability if there is one.
     fn takes_mapping(&mut self, permille: u64) -> bool {
         !self.world.me().mappings.is_empty() && self.random.chance(permille)
@@ -77,15 +77,12 @@ impl Test {
         store: Option<u64>,
         status: u64,
     ) -> Result<(), AllocError> {
-        let (alloc, address) = (self.alloc, place.address);
         self.begin_child()?;
-        let text = format!(in alloc; "load 0 {address:#x} {width}")?;
-        self.say_access(text.as_str(), "value")?;
+        self.test.say_load(place, width)?;
         if let Some(value) = store {
-            self.say_store(place, width, value)?;
+            self.test.say_store(place, width, value)?;
         }
-        self.say_exit(format!(in alloc; "{status}")?.as_str())?;
-        self.end_child()
+        self.end_child(status)
     }
 
     /// A child loads, may store, and exits. Returns whether there is a place for it.
@@ -96,7 +93,7 @@ impl Test {
             return Ok(false);
         };
         let (value, status) = (self.random.value(width), self.random.below(60));
-        let step = self.next_line();
+        let step = self.test.next_line();
         let store = if storing { Some(value) } else { None };
         self.say_peek(place, width, store, status)?;
         let word = storing as u64;

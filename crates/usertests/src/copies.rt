@@ -1,6 +1,6 @@
 // Copies that the kernel makes from and to memory of a process.
 
-use crate::state::Test;
+use crate::state::Maker;
 use std::alloc::AllocError;
 use usertest_rows::{Call, Expected};
 use usertest_world::{Base, NOBODYS, PAGE, Place};
@@ -12,7 +12,7 @@ struct Target {
     done: u64,
 }
 
-impl Test {
+impl Maker {
     /// Returns bytes as `out` of the runtime makes them, in hexadecimal digits.
     fn pattern(&self, seed: u64, size: u64) -> Result<String, AllocError> {
         let mut text = String::new(self.alloc);
@@ -54,7 +54,7 @@ impl Test {
             for page in 0..mapping.pages {
                 let view = mapping.view(page);
                 if !view.unknown && view.touched && (view.stored_to || !out) {
-                    found.push((at, page)).map_err(AllocError::from)?;
+                    found.push((at, page))?;
                 }
             }
         }
@@ -96,7 +96,7 @@ impl Test {
         let end = self.world.me().size.saturating_sub(size);
         for offset in offsets {
             if offset.is_multiple_of(PAGE) && *offset > 0 && *offset < end {
-                edges.push(*offset).map_err(AllocError::from)?;
+                edges.push(*offset)?;
             }
         }
         Ok(())
@@ -190,25 +190,29 @@ impl Test {
 
     /// The kernel copies to a place, by read().
     fn copy_out(&mut self, target: Target, via: u64, size: u64) -> Result<(), AllocError> {
-        let (alloc, step, seed) = (self.alloc, self.next_line(), self.random.between(1, 200));
+        let (alloc, step, seed) = (
+            self.alloc,
+            self.test.next_line(),
+            self.random.between(1, 200),
+        );
         let (place, address) = (target.place, target.place.address);
         self.note_copyout(target)?;
         let bytes = self.pattern(seed, size)?;
         let bytes = bytes.as_str();
         let line = format!(in alloc; "copyout 0 {address:#x} {bytes}")?;
         let expected = self.copy_answer(size, target.done)?;
-        self.say_call(line, expected)?;
+        self.test.say_call(line, expected)?;
         let arguments = format!(in alloc; "{via}, {place}, {size}, {seed}, ")?;
         self.write_step(Call::Out, step, arguments)
     }
 
     /// The kernel copies from a place, by write().
     fn copy_in(&mut self, target: Target, via: u64, size: u64) -> Result<(), AllocError> {
-        let (alloc, step) = (self.alloc, self.next_line());
+        let (alloc, step) = (self.alloc, self.test.next_line());
         let (place, address) = (target.place, target.place.address);
         let line = format!(in alloc; "copyin 0 {address:#x} {size}")?;
         let expected = self.copy_answer(size, target.done)?;
-        self.say_call(line, expected)?;
+        self.test.say_call(line, expected)?;
         let arguments = format!(in alloc; "{via}, {place}, {size}, ")?;
         self.write_step(Call::In, step, arguments)
     }
@@ -263,14 +267,13 @@ impl Test {
         let Some(offset) = self.heap_place(4, true)? else {
             return Ok(false);
         };
-        let (alloc, step, status) = (self.alloc, self.next_line(), self.random.below(60));
+        let (alloc, step, status) = (self.alloc, self.test.next_line(), self.random.below(60));
         self.begin_child()?;
-        self.say_exit(format!(in alloc; "{status}")?.as_str())?;
-        self.end_child()?;
+        self.end_child(status)?;
         let place = Place::heap(offset);
         let address = place.address;
         let line = format!(in alloc; "copyout 0 {address:#x} {status:02x}000000")?;
-        self.say_kernel(line.as_str(), "copied 4")?;
+        self.test.say_kernel(line.as_str(), "copied 4")?;
         self.remember(offset)?;
         self.write_text(format!(in alloc; "  out_wait({step}, {place}, {status});\n")?)?;
         Ok(true)

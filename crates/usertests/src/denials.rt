@@ -1,6 +1,6 @@
 // Accesses that must end the process.
 
-use crate::state::Test;
+use crate::state::Maker;
 use std::alloc::AllocError;
 use usertest_world::{Base, NOBODYS, PAGE, Place, rounded_up};
 
@@ -23,7 +23,7 @@ pub struct Denied {
     pub rule: Option<u64>,
 }
 
-impl Test {
+impl Maker {
     /// Returns an access above the heap. The rest of its last page is granted in the model, and labs differ there.
     fn above_heap(&mut self) -> Denied {
         let distance = self
@@ -87,7 +87,7 @@ impl Test {
         let mut found = Vec::new(self.alloc);
         for (at, mapping) in self.world.me().mappings.as_slice().iter().enumerate() {
             if !mapping.writable {
-                found.push(at).map_err(AllocError::from)?;
+                found.push(at)?;
             }
         }
         Ok(found)
@@ -140,16 +140,18 @@ impl Test {
         } else {
             format!(in alloc; "load 0 {address:#x} {width}")?
         };
-        self.say_words(text.as_str(), "fault")?;
+        self.test.say_words(text.as_str(), "fault")?;
         match access.rule {
-            Some(rule) => self.say_words("fix 0", format!(in alloc; "ended {rule}")?.as_str()),
-            None => self.say_words("fix 0", "ended"),
+            Some(rule) => self
+                .test
+                .say_words("fix 0", format!(in alloc; "ended {rule}")?.as_str()),
+            None => self.test.say_words("fix 0", "ended"),
         }
     }
 
     /// Adds a row that old versions of xv6 leave out if it is about the text: before 2023 they let programs store to it.
     fn write_unless_old(&mut self, place: Place, text: String) -> Result<(), AllocError> {
-        if place.base != Base::Text {
+        if !matches!(place.base, Base::Text) {
             return self.write_text(text);
         }
         let shown = text.as_str();
@@ -158,10 +160,10 @@ impl Test {
 
     /// A child makes an access that ends it.
     pub(crate) fn deny(&mut self, access: Denied) -> Result<(), AllocError> {
-        let step = self.next_line();
+        let step = self.test.next_line();
         self.begin_child()?;
         self.say_denied(access)?;
-        self.end_child()?;
+        self.schedule(self.world.current)?;
         let (place, width, store) = (access.place, access.width, access.store as u64);
         let text = format!(in self.alloc; "  denied({step}, {store}, {place}, {width});\n")?;
         self.write_unless_old(place, text)
@@ -186,7 +188,7 @@ impl Test {
         let text = format!(in alloc;
             "  at({step}); {shown} fail({step}, \"this access must end the process\");\n"
         )?;
-        if place.base != Base::Text {
+        if !matches!(place.base, Base::Text) {
             return self.write_text(text);
         }
         let shown = text.as_str();
@@ -207,7 +209,7 @@ impl Test {
             self.exit()?;
             return Ok(true);
         }
-        let step = self.next_line();
+        let step = self.test.next_line();
         let access = self.choose_denied()?;
         self.say_denied(access)?;
         self.write_end(step, access)?;

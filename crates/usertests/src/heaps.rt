@@ -1,7 +1,7 @@
 // Steps in the heap.
 
 use crate::denials::{Denied, NO_REGION};
-use crate::state::Test;
+use crate::state::Maker;
 use std::alloc::AllocError;
 use usertest_rows::{Call, Expected, Kind};
 use usertest_world::{HEAP, PAGE, Place, pages_of, rounded_up};
@@ -15,7 +15,7 @@ const MOST_LAZY_PAGES: u64 = 4000;
 /// The most bytes of a heap that becomes huge.
 const MOST_BEFORE_HUGE: u64 = 0x100_0000;
 
-impl Test {
+impl Maker {
     /// Returns one of the places where any process has stored lately, if it may be accessed.
     fn hot_place(&mut self, width: u64) -> Option<u64> {
         let offset = self.random.choice(self.hot.as_slice());
@@ -38,7 +38,7 @@ impl Test {
         let size = self.world.me().size;
         for offset in offsets {
             if offset.is_multiple_of(width) && offset.saturating_add(width) <= size {
-                found.push(*offset).map_err(AllocError::from)?;
+                found.push(*offset)?;
             }
         }
         Ok(())
@@ -118,11 +118,11 @@ impl Test {
 
     /// Stores to so many pages in a row, values in a row.
     fn store_pages(&mut self, first: u64, count: u64) -> Result<(), AllocError> {
-        let (step, value) = (self.next_line(), self.random.between(1, 1 << 30));
+        let (step, value) = (self.test.next_line(), self.random.between(1, 1 << 30));
         for number in 0..count {
             let page = first.saturating_add(number);
             let place = Place::heap(page.saturating_mul(PAGE));
-            self.say_store(place, 8, value.saturating_add(number))?;
+            self.test.say_store(place, 8, value.saturating_add(number))?;
         }
         let place = Place::heap(first.saturating_mul(PAGE));
         let text = format!(in self.alloc; "  stp({step}, {place}, {count}, {value:#x});\n")?;
@@ -161,7 +161,7 @@ impl Test {
 
     /// Calls sbrk so that the heap has this size.
     pub(crate) fn resize(&mut self, size: u64) -> Result<(), AllocError> {
-        let (alloc, step, old) = (self.alloc, self.next_line(), self.world.me().size);
+        let (alloc, step, old) = (self.alloc, self.test.next_line(), self.world.me().size);
         let (more, less) = (size.saturating_sub(old), old.saturating_sub(size));
         let change = if size < old {
             format!(in alloc; "-{less}")?
@@ -171,7 +171,7 @@ impl Test {
         let (change, address) = (change.as_str(), HEAP.saturating_add(old));
         let line = format!(in alloc; "sbrk 0 {change}")?;
         let words = format!(in alloc; "old {address:#x}")?;
-        self.say_call(line, Expected::Begins(words))?;
+        self.test.say_call(line, Expected::Begins(words))?;
         self.write_step(Call::Grow, step, format!(in alloc; "{change}, ")?)?;
         let current = self.world.current;
         self.world.process_mut(current).resize(size);
@@ -309,8 +309,8 @@ impl Test {
         if !self.counted || self.kind == Kind::Mmap || (self.kind == Kind::Lazy && living > 1) {
             return Ok(false);
         }
-        let step = self.next_line();
-        self.say_words("audit", "free")?;
+        let step = self.test.next_line();
+        self.test.say_words("audit", "free")?;
         // 16 for each process, and for the parent of the first: tables, trapframe, pipes, the program's own pages.
         let more = living.saturating_add(1).saturating_mul(16);
         let arguments = format!(in self.alloc; "{more}, ")?;

@@ -1,8 +1,8 @@
 // `make`: the test of a kind and a seed. A test is made of steps, which are drawn by how often each is made in tests of its kind.
 
-use crate::state::Test;
+use crate::state::{Maker, Test};
 use std::alloc::{AllocError, Global};
-use usertest_rows::{Call, Kind, Life, Row, StepRow};
+use usertest_rows::{Call, Expected, Kind, Life, Row, StepRow};
 use usertest_world::{File, PAGE, Place};
 
 /// A step of a test.
@@ -33,64 +33,51 @@ enum Sort {
     Huge,
 }
 
-/// How often a step is made in a test of each kind, beside the others.
-#[derive(Clone, Copy)]
-struct Weight {
-    sort: Sort,
-    weights: [u64; 4],
+/// How often a step is made, beside the others, in a test of each kind: cow, lazy, mmap, mixed.
+type Weight = (Sort, [u64; 4]);
+
+/// The steps with their weights.
+const WEIGHTS: [Weight; 23] = [
+    (Sort::Load, [80, 70, 80, 80]),
+    (Sort::Store, [90, 60, 80, 80]),
+    (Sort::Map, [0, 0, 60, 40]),
+    (Sort::Unmap, [0, 0, 40, 30]),
+    (Sort::Show, [0, 0, 20, 15]),
+    (Sort::SomePages, [30, 30, 0, 20]),
+    (Sort::Sbrk, [30, 60, 10, 40]),
+    (Sort::Shrink, [10, 30, 0, 15]),
+    (Sort::ManyLazyPages, [0, 10, 0, 3]),
+    (Sort::Fork, [50, 20, 20, 40]),
+    (Sort::Switch, [80, 30, 40, 60]),
+    (Sort::End, [30, 20, 20, 25]),
+    (Sort::Denied, [20, 40, 40, 30]),
+    (Sort::Peek, [20, 40, 20, 20]),
+    (Sort::Copy, [80, 80, 30, 60]),
+    (Sort::Wait, [10, 10, 0, 10]),
+    (Sort::BoundFrames, [10, 10, 0, 10]),
+    (Sort::CopyToText, [5, 2, 0, 2]),
+    (Sort::CopyAfterLoad, [15, 0, 0, 7]),
+    (Sort::Execute, [8, 6, 5, 5]),
+    (Sort::Kill, [5, 3, 8, 5]),
+    (Sort::KillAfterStores, [0, 0, 12, 5]),
+    (Sort::Huge, [0, 6, 0, 2]),
+];
+
+/// Returns the weight for a kind.
+fn weight_of(weights: &[u64], kind: Kind) -> u64 {
+    weights.get(kind.number()).copied().unwrap_or(0)
 }
 
-/// Returns a step with how often it is made.
-const fn weighed(sort: Sort, weights: [u64; 4]) -> Weight {
-    Weight { sort, weights }
-}
-
-/// Returns the weights, in the order of the kinds: cow, lazy, mmap, mixed.
-fn weights() -> [Weight; 23] {
-    [
-        weighed(Sort::Load, [80, 70, 80, 80]),
-        weighed(Sort::Store, [90, 60, 80, 80]),
-        weighed(Sort::Map, [0, 0, 60, 40]),
-        weighed(Sort::Unmap, [0, 0, 40, 30]),
-        weighed(Sort::Show, [0, 0, 20, 15]),
-        weighed(Sort::SomePages, [30, 30, 0, 20]),
-        weighed(Sort::Sbrk, [30, 60, 10, 40]),
-        weighed(Sort::Shrink, [10, 30, 0, 15]),
-        weighed(Sort::ManyLazyPages, [0, 10, 0, 3]),
-        weighed(Sort::Fork, [50, 20, 20, 40]),
-        weighed(Sort::Switch, [80, 30, 40, 60]),
-        weighed(Sort::End, [30, 20, 20, 25]),
-        weighed(Sort::Denied, [20, 40, 40, 30]),
-        weighed(Sort::Peek, [20, 40, 20, 20]),
-        weighed(Sort::Copy, [80, 80, 30, 60]),
-        weighed(Sort::Wait, [10, 10, 0, 10]),
-        weighed(Sort::BoundFrames, [10, 10, 0, 10]),
-        weighed(Sort::CopyToText, [5, 2, 0, 2]),
-        weighed(Sort::CopyAfterLoad, [15, 0, 0, 7]),
-        weighed(Sort::Execute, [8, 6, 5, 5]),
-        weighed(Sort::Kill, [5, 3, 8, 5]),
-        weighed(Sort::KillAfterStores, [0, 0, 12, 5]),
-        weighed(Sort::Huge, [0, 6, 0, 2]),
-    ]
-}
-
-impl Weight {
-    /// Returns how often the step is made in a test of a kind.
-    fn of(&self, kind: Kind) -> u64 {
-        self.weights.get(kind.number()).copied().unwrap_or(0)
-    }
-}
-
-impl Test {
+impl Maker {
     /// Returns the sort of the next step.
     fn next_sort(&mut self) -> Sort {
-        let weights = weights();
+        let steps = WEIGHTS;
         let mut total = 0u64;
-        for weight in weights.iter() {
-            total = total.saturating_add(weight.of(self.kind));
+        for (_, weights) in steps.iter() {
+            total = total.saturating_add(weight_of(weights, self.kind));
         }
         let drawn = self.random.below(total);
-        sort_at(&weights, self.kind, drawn)
+        sort_at(&steps, self.kind, drawn)
     }
 
     /// Makes a step, and returns whether it can be made now; else nothing is done.
@@ -173,29 +160,31 @@ impl Test {
             seed: self.random.between(1, 250),
             read_only,
         };
-        self.world.files.push(file).map_err(AllocError::from)?;
+        self.world.files.push(file)?;
         let mode = if read_only { "ro" } else { "rw" };
         let mut text = format!(in self.alloc; "file {size} {mode} ")?;
         for at in 0..size {
             let byte = file.byte_at(at);
             write!(&mut text, "{byte:02x}")?;
         }
-        self.declare(text)
+        self.test.say(text, Expected::Nothing)
     }
 
-    /// Begins the script: declares an image, boots a machine and starts a process of the image.
-    fn begin(&mut self, offsets: bool) -> Result<(), AllocError> {
-        self.begin_life(0)?;
+    /// Begins the script: declares an image, boots a machine and starts a process of the image. Returns the step of an audit then.
+    fn begin(&mut self, offsets: bool) -> Result<usize, AllocError> {
+        self.test.begin_life(0)?;
         if self.kind.has_maps() {
             self.make_files(offsets)?;
         }
         let image = "image 0x0:0x1000:rx:13050000 0x1000:0x1000:rw:-";
-        self.declare(String::from_str(self.alloc, image)?)?;
-        self.say_words("boot 1 1024 32 full", "ok")?;
-        self.say_words("start 0", "slot 0")?;
-        self.say_words("on 0 0", "ok")?;
-        self.first_audit = self.next_line();
-        self.say_words("audit", "free")
+        self.test
+            .say(String::from_str(self.alloc, image)?, Expected::Nothing)?;
+        self.test.say_words("boot 1 1024 32 full", "ok")?;
+        self.test.say_words("start 0", "slot 0")?;
+        self.test.say_words("on 0 0", "ok")?;
+        let audit = self.test.next_line();
+        self.test.say_words("audit", "free")?;
+        Ok(audit)
     }
 
     /// Makes a load from the heap, if the heap has so many bytes.
@@ -234,7 +223,7 @@ impl Test {
         let mut leaves = Vec::new(self.alloc);
         for number in 1..self.world.count() {
             if self.world.process(number).lives && !self.world.has_children(number) {
-                leaves.push(number).map_err(AllocError::from)?;
+                leaves.push(number)?;
             }
         }
         let at = self.random.index(leaves.len());
@@ -258,11 +247,11 @@ impl Test {
     fn end_first(&mut self) -> Result<usize, AllocError> {
         self.pass_turn(0)?;
         self.last_looks()?;
-        let step = self.next_line();
-        self.say_exit("0")?;
+        let step = self.test.next_line();
+        self.test.say_exit("0")?;
         self.write_text(format!(in self.alloc; "  done({step}, 0);\n")?)?;
         self.world.end(0);
-        self.is_over = true;
+        self.test.is_over = true;
         Ok(step)
     }
 
@@ -284,16 +273,6 @@ impl Test {
         Ok(())
     }
 
-    /// Ends the functions of processes, and puts those of children before that of their parent.
-    fn end_lives(&mut self) -> Result<(), AllocError> {
-        for life in self.lives.as_mut_slice() {
-            let end = String::from_str(self.alloc, "}\n")?;
-            life.rows.push(Row::Text(end)).map_err(AllocError::from)?;
-        }
-        self.lives.as_mut_slice().reverse();
-        Ok(())
-    }
-
     /// Returns the rows that make the files in C, or those that remove them.
     fn file_rows(&self, make: bool) -> Result<String, AllocError> {
         let mut text = String::new(self.alloc);
@@ -311,70 +290,79 @@ impl Test {
         Ok(text)
     }
 
-    /// Returns the beginning of the function that makes the test, in which the first process ends in this step.
-    fn first_rows(&self, step: usize) -> Result<Vec<Row>, AllocError> {
+    /// Makes the end of the test: all processes end, and the files are shown. `audit` is the step of the first audit.
+    fn finish(&mut self, audit: usize) -> Result<(), AllocError> {
+        self.end_children()?;
+        let step = self.end_first()?;
+        self.show_files()?;
+        let (before, after) = (self.file_rows(true)?, self.file_rows(false)?);
+        self.test.end_lives()?;
+        self.test.write_first(before.as_str(), audit, step)?;
+        self.test.write_last(after.as_str())
+    }
+}
+
+impl Test {
+    /// Ends the functions of processes, and puts those of children before that of their parent.
+    fn end_lives(&mut self) -> Result<(), AllocError> {
+        for life in self.lives.as_mut_slice() {
+            let end = String::from_str(self.alloc, "}\n")?;
+            life.rows.push(Row::Text(end))?;
+        }
+        self.lives.as_mut_slice().reverse();
+        Ok(())
+    }
+
+    /// Adds the beginning of the function that makes the test, after the rows that make the files: it starts the first process, which ends
+    /// in this step, and waits for it.
+    fn write_first(&mut self, files: &str, audit: usize, step: usize) -> Result<(), AllocError> {
         let (alloc, prefix, name) = (self.alloc, self.prefix.as_str(), self.name.as_str());
-        let files = self.file_rows(true)?;
-        let files = files.as_str();
         let begin = format!(in alloc;
             "\nstatic void {prefix}test(void)\n{{\n{files}  begin_all(\"{name}\", {step});\n"
         )?;
+        let spawn = format!(in alloc; "  spawn(0, 0, {prefix}p0);\n")?;
         let held = StepRow {
             call: Call::Held,
-            step: self.first_audit,
+            step: audit,
             arguments: String::new(alloc),
         };
-        let spawn = format!(in alloc; "  spawn(0, 0, {prefix}p0);\n")?;
         let reap = StepRow {
             call: Call::Reap,
             step,
             arguments: String::from_str(alloc, "0, ")?,
         };
         let mut rows = Vec::new(alloc);
-        rows.push(Row::Text(begin)).map_err(AllocError::from)?;
-        rows.push(Row::Step(held)).map_err(AllocError::from)?;
-        rows.push(Row::Text(spawn)).map_err(AllocError::from)?;
-        rows.push(Row::Step(reap)).map_err(AllocError::from)?;
-        Ok(rows)
+        rows.push(Row::Text(begin))?;
+        rows.push(Row::Step(held))?;
+        rows.push(Row::Text(spawn))?;
+        rows.push(Row::Step(reap))?;
+        self.lives.push(Life {
+            rows,
+            last_turn: None,
+        })?;
+        Ok(())
     }
 
-    /// Adds the function that makes the test: it makes the files, waits for the first process, and looks at the end.
-    fn write_test(&mut self, step: usize) -> Result<(), AllocError> {
-        let first = Life {
-            rows: self.first_rows(step)?,
-            last_turn: None,
-        };
-        self.lives.push(first).map_err(AllocError::from)?;
-        let files = self.file_rows(false)?;
-        let files = files.as_str();
+    /// Adds what this function does after the first process has ended, before the rows that remove the files.
+    fn write_last(&mut self, files: &str) -> Result<(), AllocError> {
         let end = format!(in self.alloc; "{files}  end_all();\n}}\n")?;
-        self.last_rows
-            .push(Row::Text(end))
-            .map_err(AllocError::from)?;
+        self.last_rows.push(Row::Text(end))?;
         let last = Life {
             rows: std::mem::replace(&mut self.last_rows, Vec::new(self.alloc)),
             last_turn: None,
         };
-        self.lives.push(last).map_err(AllocError::from)
-    }
-
-    /// Makes the end of the test: all processes end, and the files are shown.
-    fn finish(&mut self) -> Result<(), AllocError> {
-        self.end_children()?;
-        let step = self.end_first()?;
-        self.show_files()?;
-        self.end_lives()?;
-        self.write_test(step)
+        self.lives.push(last)?;
+        Ok(())
     }
 }
 
 /// Returns the sort of the step at which the weights of a kind, one after the other, come to more than `drawn`.
-fn sort_at(weights: &[Weight], kind: Kind, drawn: u64) -> Sort {
+fn sort_at(steps: &[Weight], kind: Kind, drawn: u64) -> Sort {
     let mut left = drawn;
-    for weight in weights {
-        match left.checked_sub(weight.of(kind)) {
+    for (sort, weights) in steps {
+        match left.checked_sub(weight_of(weights, kind)) {
             Some(rest) => left = rest,
-            None => return weight.sort,
+            None => return *sort,
         }
     }
     Sort::Load
@@ -393,15 +381,15 @@ pub fn make(
     offsets: bool,
     parts: usize,
 ) -> Result<Test, AllocError> {
-    let mut test = Test::new(alloc, kind, seed, parts)?;
-    test.begin(offsets)?;
-    if kind != Kind::Mmap && test.random.chance(800) {
-        test.sbrk()?;
+    let mut maker = Maker::new(alloc, kind, seed, parts)?;
+    let audit = maker.begin(offsets)?;
+    if kind != Kind::Mmap && maker.random.chance(800) {
+        maker.sbrk()?;
     }
-    if kind.shares_copies() && test.random.chance(300) {
-        test.fork_of_many_pages()?;
+    if kind.shares_copies() && maker.random.chance(300) {
+        maker.fork_of_many_pages()?;
     }
-    test.make_steps(steps)?;
-    test.finish()?;
-    Ok(test)
+    maker.make_steps(steps)?;
+    maker.finish(audit)?;
+    Ok(maker.test)
 }

@@ -1,6 +1,6 @@
 // Steps in mappings, and what files contain.
 
-use crate::state::Test;
+use crate::state::Maker;
 use std::alloc::AllocError;
 use usertest_rows::{Call, Expected};
 use usertest_world::{Base, File, Mapping, PAGE, Place, Unmapped, View, pages_of};
@@ -43,7 +43,7 @@ impl MapRequest {
     }
 }
 
-impl Test {
+impl Maker {
     /// Returns the mapping of the current process at this place of its list.
     pub(crate) fn mapping(&self, at: usize) -> Option<Mapping> {
         self.world.me().mappings.get(at).copied()
@@ -57,7 +57,7 @@ impl Test {
             for page in 0..mapping.pages {
                 let view = mapping.view(page);
                 if !view.unknown && (mapping.writable || !storing) && (view.touched || !touched) {
-                    found.push((at, page)).map_err(AllocError::from)?;
+                    found.push((at, page))?;
                 }
             }
         }
@@ -168,11 +168,11 @@ impl Test {
     fn load_each(&mut self, at: usize, first: usize, count: usize) -> Result<(), AllocError> {
         for number in 0..count {
             let page = first.saturating_add(number);
-            let known = self
-                .mapping(at)
-                .is_some_and(|mapping| !mapping.view(page).unknown);
-            if known {
-                self.load_mapped_at(at, (page as u64).saturating_mul(PAGE), 8)?;
+            match self.mapping(at) {
+                Some(mapping) if !mapping.view(page).unknown => {
+                    self.load_mapped_at(at, (page as u64).saturating_mul(PAGE), 8)?;
+                }
+                _ => {}
             }
         }
         Ok(())
@@ -180,8 +180,12 @@ impl Test {
 
     /// Returns whether the C program's file has another part after this one: past its end there are no zeros then, but that part.
     fn is_followed(&self, file: &File) -> bool {
-        self.world.files.as_slice().iter().any(|other| other.c_number == file.c_number
-            && other.offset > file.offset)
+        for other in self.world.files.as_slice() {
+            if other.c_number == file.c_number && other.offset > file.offset {
+                return true;
+            }
+        }
+        false
     }
 
     /// Returns any request of at most `most` pages; `None` if there is no file.
@@ -249,20 +253,20 @@ impl Test {
 
     /// Asks for a mapping that is refused: stores would go back to a file that is read-only.
     fn map_refused(&mut self, request: &MapRequest) -> Result<(), AllocError> {
-        let step = self.next_line();
+        let step = self.test.next_line();
         let line = self.request_line(request)?;
-        self.say_kernel(line.as_str(), "refused 16")?;
+        self.test.say_kernel(line.as_str(), "refused 16")?;
         self.write_map(step, 0, "O_RDONLY", request)
     }
 
     /// Makes a mapping. Returns its place in the list.
     fn map_granted(&mut self, request: &MapRequest) -> Result<usize, AllocError> {
-        let (alloc, step, file) = (self.alloc, self.next_line(), request.file);
+        let (alloc, step, file) = (self.alloc, self.test.next_line(), request.file);
         let pages = pages_of(request.length) as usize;
         let start = self.world.me().place_of_mapping(pages);
         let number = self.world.me().next_mapping;
         let line = self.request_line(request)?;
-        self.say_call(line, Expected::Begins(format!(in alloc; "at {start:#x}")?))?;
+        self.test.say_call(line, Expected::Begins(format!(in alloc; "at {start:#x}")?))?;
         self.world.map(Mapping {
             number,
             file,
@@ -352,10 +356,7 @@ impl Test {
                 offset,
                 address: start.saturating_add(from),
             };
-            process
-                .unmapped
-                .push(Unmapped { number, place })
-                .map_err(AllocError::from)?;
+            process.unmapped.push(Unmapped { number, place })?;
         }
         Ok(())
     }
@@ -419,11 +420,11 @@ impl Test {
         let Some(mapping) = self.mapping(at) else {
             return Ok(());
         };
-        let (alloc, step, number) = (self.alloc, self.next_line(), mapping.number);
+        let (alloc, step, number) = (self.alloc, self.test.next_line(), mapping.number);
         let place = mapping.at((first as u64).saturating_mul(PAGE));
         let (address, size) = (place.address, (count as u64).saturating_mul(PAGE));
         let line = format!(in alloc; "munmap 0 {address:#x} {size}")?;
-        self.say_kernel(line.as_str(), "ok")?;
+        self.test.say_kernel(line.as_str(), "ok")?;
         let front_word = front as u64;
         self.write_text(format!(in alloc;
             "  unmap({step}, {number}, {place}, {size}, {front_word});\n"
@@ -477,10 +478,15 @@ impl Test {
         if count == 0 {
             return Ok(false);
         }
-        let (alloc, step, number, size) = (self.alloc, self.next_line(), file.number, file.size);
+        let (alloc, step, number, size) = (
+            self.alloc,
+            self.test.next_line(),
+            file.number,
+            file.size,
+        );
         let line = format!(in alloc; "show {number} {offset} {count}")?;
         let words = format!(in alloc; "file {size}")?;
-        self.say_words(line.as_str(), words.as_str())?;
+        self.test.say_words(line.as_str(), words.as_str())?;
         let (c_number, c_offset) = (file.c_number, file.offset.saturating_add(offset));
         let arguments = format!(in alloc; "\"kitf{c_number}\", {c_offset}, {count}, ")?;
         self.write_step(Call::Show, step, arguments)?;
@@ -526,7 +532,7 @@ impl Test {
         let mut children = Vec::new(self.alloc);
         for child in self.childless()?.as_slice() {
             if self.has_room(*child) {
-                children.push(*child).map_err(AllocError::from)?;
+                children.push(*child)?;
             }
         }
         let at = self.random.index(children.len());

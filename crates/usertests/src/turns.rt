@@ -1,7 +1,7 @@
 // Processes: how they start and end, and who has the turn. The script says the order of all steps of all processes. In C a turn goes
 // along the tree, by back() on the way up and give() on the way down.
 
-use crate::state::Test;
+use crate::state::{Maker, Test};
 use std::alloc::AllocError;
 use usertest_rows::{Call, Life, Row, StepRow};
 
@@ -23,20 +23,12 @@ impl Test {
         let prefix = self.prefix.as_str();
         let text = format!(in self.alloc; "\nstatic void {prefix}p{process}(void)\n{{\n")?;
         let mut rows = Vec::new(self.alloc);
-        rows.push(Row::Text(text)).map_err(AllocError::from)?;
+        rows.push(Row::Text(text))?;
         let life = Life {
             rows,
             last_turn: None,
         };
-        self.lives.push(life).map_err(AllocError::from)
-    }
-
-    /// Puts a process on the hart, which is in the kernel.
-    pub(crate) fn schedule(&mut self, process: usize) -> Result<(), AllocError> {
-        let slot = self.world.process(process).slot;
-        let text = format!(in self.alloc; "on 0 {slot}")?;
-        self.say_words(text.as_str(), "ok")?;
-        self.world.current = process;
+        self.lives.push(life)?;
         Ok(())
     }
 
@@ -46,16 +38,42 @@ impl Test {
         self.write_row(process, Row::Text(text))
     }
 
-    /// In C: the parent of a process gives it the turn.
-    fn write_give(&mut self, process: usize) -> Result<(), AllocError> {
-        let index = self.world.process(process).index;
-        let parent = self.world.process(process).parent.unwrap_or(0);
+    /// In C: the parent gives the turn to this process, its child of this index. Notes the row.
+    fn write_give(&mut self, parent: usize, process: usize, index: u64) -> Result<(), AllocError> {
         let text = format!(in self.alloc; "  give({index});\n")?;
-        let row = self.lives.get(parent).map_or(0, |life| life.rows.len());
+        let row = match self.lives.get(parent) {
+            Some(life) => life.rows.len(),
+            None => 0,
+        };
         if let Some(life) = self.lives.get_mut(process) {
             life.last_turn = Some(row);
         }
         self.write_row(parent, Row::Text(text))
+    }
+
+    /// In C: in place of the row in which the parent gives a process its last turn, it waits for its end.
+    fn write_reap(&mut self, parent: usize, process: usize, reap: Row) {
+        let turn = match self.lives.get(process) {
+            Some(life) => life.last_turn,
+            None => None,
+        };
+        if let Some(at) = turn
+            && let Some(life) = self.lives.get_mut(parent)
+            && let Some(row) = life.rows.get_mut(at)
+        {
+            *row = reap;
+        }
+    }
+}
+
+impl Maker {
+    /// Puts a process on the hart, which is in the kernel.
+    pub(crate) fn schedule(&mut self, process: usize) -> Result<(), AllocError> {
+        let slot = self.world.process(process).slot;
+        let text = format!(in self.alloc; "on 0 {slot}")?;
+        self.test.say_words(text.as_str(), "ok")?;
+        self.world.current = process;
+        Ok(())
     }
 
     /// In C: the turn goes up from the process on the hart to the first process of this line.
@@ -64,16 +82,18 @@ impl Test {
             if down.contains(process) {
                 break;
             }
-            self.write_back(*process)?;
+            self.test.write_back(*process)?;
         }
         Ok(())
     }
 
     /// In C: the turn goes down to a process.
     fn write_down(&mut self, up: &[usize], down: &[usize]) -> Result<(), AllocError> {
-        for process in down.iter().rev() {
-            if !up.contains(process) {
-                self.write_give(*process)?;
+        for number in down.iter().rev() {
+            if !up.contains(number) {
+                let process = self.world.process(*number);
+                let parent = process.parent.unwrap_or(0);
+                self.test.write_give(parent, *number, process.index)?;
             }
         }
         Ok(())
@@ -88,7 +108,7 @@ impl Test {
         let down = self.world.line_of(to)?;
         self.write_up(up.as_slice(), down.as_slice())?;
         self.write_down(up.as_slice(), down.as_slice())?;
-        self.say_words("enter 0", "ok")?;
+        self.test.say_words("enter 0", "ok")?;
         self.schedule(to)
     }
 
@@ -103,11 +123,12 @@ impl Test {
         {
             return Ok(false);
         }
-        let (alloc, step, slot) = (self.alloc, self.next_line(), self.world.free_slot());
-        self.say_kernel("fork 0", format!(in alloc; "slot {slot}")?.as_str())?;
+        let (alloc, step, slot) = (self.alloc, self.test.next_line(), self.world.free_slot());
+        self.test
+            .say_kernel("fork 0", format!(in alloc; "slot {slot}")?.as_str())?;
         let child = self.world.fork()?;
-        self.begin_life(child)?;
-        let prefix = self.prefix.as_str();
+        self.test.begin_life(child)?;
+        let prefix = self.test.prefix.as_str();
         let text = format!(in alloc; "  spawn({step}, {spawned}, {prefix}p{child});\n")?;
         self.write_text(text)?;
         if self.random.chance(500) {
@@ -119,14 +140,18 @@ impl Test {
     /// Forks a child that lives for some steps only, in which it must end: in C the runtime forks it. It is on the hart then.
     pub(crate) fn begin_child(&mut self) -> Result<(), AllocError> {
         let (alloc, slot) = (self.alloc, self.world.free_slot());
-        self.say_kernel("fork 0", format!(in alloc; "slot {slot}")?.as_str())?;
+        self.test
+            .say_kernel("fork 0", format!(in alloc; "slot {slot}")?.as_str())?;
         self.world.note_fork();
-        self.say_words("enter 0", "ok")?;
-        self.say_words(format!(in alloc; "on 0 {slot}")?.as_str(), "ok")
+        self.test.say_words("enter 0", "ok")?;
+        self.test
+            .say_words(format!(in alloc; "on 0 {slot}")?.as_str(), "ok")
     }
 
-    /// Puts the parent on the hart again, once the child has ended.
-    pub(crate) fn end_child(&mut self) -> Result<(), AllocError> {
+    /// The child exits, and the parent is on the hart again.
+    pub(crate) fn end_child(&mut self, status: u64) -> Result<(), AllocError> {
+        self.test
+            .say_exit(format!(in self.alloc; "{status}")?.as_str())?;
         self.schedule(self.world.current)
     }
 
@@ -135,7 +160,7 @@ impl Test {
         let mut others = Vec::new(self.alloc);
         for number in 0..self.world.count() {
             if number != self.world.current && self.world.process(number).lives {
-                others.push(number).map_err(AllocError::from)?;
+                others.push(number)?;
             }
         }
         let at = self.random.index(others.len());
@@ -150,21 +175,21 @@ impl Test {
 
     /// Executes the program anew, with an empty heap. Returns whether it did: what exec does with mappings, labs leave open.
     pub(crate) fn execute(&mut self) -> Result<bool, AllocError> {
-        let (alloc, step, current) = (self.alloc, self.next_line(), self.world.current);
+        let (alloc, step, current) = (self.alloc, self.test.next_line(), self.world.current);
         if !self.world.me().mappings.is_empty() || self.world.me().execs >= MOST_EXECS {
             return Ok(false);
         }
-        self.say_kernel("exec 0 0", "ok")?;
+        self.test.say_kernel("exec 0 0", "ok")?;
         self.world.process_mut(current).execute();
         self.counted = false;
-        let part = self.parts_before.saturating_add(self.parts.len());
-        let (prefix, execs) = (self.prefix.as_str(), self.world.me().execs);
+        let part = self.test.parts_before.saturating_add(self.test.parts.len());
+        let (prefix, execs) = (self.test.prefix.as_str(), self.world.me().execs);
         let name = format!(in alloc; "{prefix}p{current}_{execs}")?;
         let shown = name.as_str();
         let text = format!(in alloc;
             "  again({step}, {part});\n}}\n\nstatic void {shown}(void)\n{{\n"
         )?;
-        self.parts.push(name).map_err(AllocError::from)?;
+        self.test.parts.push(name)?;
         self.write_text(text)?;
         Ok(true)
     }
@@ -172,28 +197,22 @@ impl Test {
     /// The process on the hart has ended in this step, in its last turn: its parent goes on, and waits for it.
     pub(crate) fn leave_family(&mut self, step: usize) -> Result<(), AllocError> {
         let process = self.world.current;
-        let index = self.world.process(process).index;
-        let parent = self.world.process(process).parent.unwrap_or(0);
+        let ended = self.world.process(process);
+        let (index, parent) = (ended.index, ended.parent.unwrap_or(0));
         let reap = Row::Step(StepRow {
             call: Call::Reap,
             step,
             arguments: format!(in self.alloc; "{index}, ")?,
         });
-        let turn = self.lives.get(process).map_or(None, |life| life.last_turn);
-        if let Some(at) = turn
-            && let Some(life) = self.lives.get_mut(parent)
-            && let Some(row) = life.rows.get_mut(at)
-        {
-            *row = reap;
-        }
+        self.test.write_reap(parent, process, reap);
         self.world.end(process);
         self.schedule(parent)
     }
 
     /// The process on the hart exits.
     pub(crate) fn exit(&mut self) -> Result<(), AllocError> {
-        let (alloc, step, status) = (self.alloc, self.next_line(), self.random.below(60));
-        self.say_exit(format!(in alloc; "{status}")?.as_str())?;
+        let (alloc, step, status) = (self.alloc, self.test.next_line(), self.random.below(60));
+        self.test.say_exit(format!(in alloc; "{status}")?.as_str())?;
         self.write_text(format!(in alloc; "  done({step}, {status});\n")?)?;
         self.leave_family(step)
     }
@@ -204,7 +223,7 @@ impl Test {
         let children = self.world.children_of(self.world.current)?;
         for child in children.as_slice() {
             if !self.world.has_children(*child) {
-                found.push(*child).map_err(AllocError::from)?;
+                found.push(*child)?;
             }
         }
         Ok(found)
@@ -217,7 +236,7 @@ impl Test {
             for page in 0..mapping.pages {
                 if mapping.shared && mapping.view(page).stored_to && found.len() < 2 {
                     let pair = (mapping.file.number, mapping.first.saturating_add(page));
-                    found.push(pair).map_err(AllocError::from)?;
+                    found.push(pair)?;
                 }
             }
         }
@@ -226,11 +245,11 @@ impl Test {
 
     /// Kills a child that waits for its turn. Returns at most two pages of files to which it had stored.
     pub(crate) fn kill(&mut self, child: usize) -> Result<Vec<(usize, usize)>, AllocError> {
-        let (parent, step) = (self.world.current, self.next_line());
+        let (parent, step) = (self.world.current, self.test.next_line());
         let index = self.world.process(child).index;
-        self.say_words("enter 0", "ok")?;
+        self.test.say_words("enter 0", "ok")?;
         self.schedule(child)?;
-        self.say_exit("-1")?;
+        self.test.say_exit("-1")?;
         let stored = self.stored_pages(child)?;
         self.world.end(child);
         self.schedule(parent)?;
