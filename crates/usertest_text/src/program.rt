@@ -43,6 +43,13 @@ impl Names {
     }
 }
 
+/// The headers that a program includes.
+const HEADERS: &str = "#include \"kernel/types.h\"
+#include \"kernel/stat.h\"
+#include \"kernel/fcntl.h\"
+#include \"user/user.h\"
+";
+
 /// Appends what stands above the tests of a kind: the title, the headers, and the runtime.
 pub fn put_head(
     alloc: Global,
@@ -58,26 +65,18 @@ pub fn put_head(
     let head = format!(in alloc;
         "// {title}: made by `xv6lab usertest`. A step is a line of the script of that name.\n"
     )?;
-    let headers = format!(in alloc;
-        "#include \"kernel/types.h\"\n#include \"kernel/stat.h\"\n#include \"kernel/fcntl.h\"\n#include \"user/user.h\"\n{maps}"
-    )?;
     out.extend_from_slice(head.as_str().as_bytes())?;
-    out.extend_from_slice(headers.as_str().as_bytes())?;
-    out.extend_from_slice(OPTIONS.as_bytes())?;
-    out.extend_from_slice(TURNS.as_bytes())?;
-    out.extend_from_slice(ACCESSES.as_bytes())?;
-    out.extend_from_slice(FILES.as_bytes())
+    for text in [HEADERS, maps, OPTIONS, TURNS, ACCESSES, FILES].iter() {
+        out.extend_from_slice(text.as_bytes())?;
+    }
+    Ok(())
 }
 
 /// Appends what stands below the tests: `main`.
 pub fn put_main(alloc: Global, out: &mut Vec<u8>, names: &Names) -> Result<(), AllocError> {
     let (tests, parts, count) = (names.tests.as_str(), names.parts.as_str(), names.count);
-    let lists = format!(in alloc;
-        "  static const Life tests[] = {{ {tests} }};\n  static const Life parts[] = {{ {parts}0 }};\n"
-    )?;
-    let lists = lists.as_str();
     let main = format!(in alloc;
-        "\nint main(int argc, char *argv[])\n{{\n{lists}  run_all(argc, argv, tests, {count}, parts);\n}}\n"
+        "\nint main(int argc, char *argv[])\n{{\n  static const Life tests[] = {{ {tests} }};\n  static const Life parts[] = {{ {parts}0 }};\n  run_all(argc, argv, tests, {count}, parts);\n}}\n"
     )?;
     out.extend_from_slice(main.as_str().as_bytes())
 }
