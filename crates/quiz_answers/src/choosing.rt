@@ -126,7 +126,7 @@ impl Script<'_> {
             if is_plain(self.answer(*at)) == plain
                 && self.fits(alloc, chosen.as_slice(), *at, most)?
             {
-                chosen.push(*at).map_err(AllocError::from)?;
+                chosen.push(*at)?;
                 added = added.saturating_add(1);
             }
         }
@@ -146,7 +146,7 @@ fn shuffled(
         let at = random.index(left.len());
         if at < left.len() {
             let place = left.remove(at);
-            order.push(place).map_err(AllocError::from)?;
+            order.push(place)?;
         }
     }
     Ok(order)

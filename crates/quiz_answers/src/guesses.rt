@@ -29,7 +29,7 @@ fn put_word(
     word: &[u8],
     is_bytes: bool,
 ) -> Result<(), AllocError> {
-    out.push(b' ').map_err(AllocError::from)?;
+    out.push(b' ')?;
     if is_bytes {
         return out.extend_from_slice(word.strip_prefix(b"0x").unwrap_or(word));
     }
@@ -80,7 +80,8 @@ fn add_part(alloc: Global, parts: &mut Vec<Vec<u8>>, part: &[u8]) -> Result<(), 
     if known || part.is_empty() {
         return Ok(());
     }
-    parts.push(part).map_err(AllocError::from)
+    parts.push(part)?;
+    Ok(())
 }
 
 /// Returns the outcomes of an answer, each in the form in which it is compared. What stands in parentheses is left out.
@@ -97,8 +98,8 @@ fn plain_parts(alloc: Global, text: &[u8]) -> Result<Vec<Vec<u8>>, AllocError> {
                 add_part(alloc, &mut parts, part.as_slice())?;
                 part.clear();
             }
-            b'\t' | b'\r' | b'\n' | b',' => part.push(b' ').map_err(AllocError::from)?,
-            other => part.push(other).map_err(AllocError::from)?,
+            b'\t' | b'\r' | b'\n' | b',' => part.push(b' ')?,
+            other => part.push(other)?,
         }
     }
     add_part(alloc, &mut parts, part.as_slice())?;
