@@ -67,7 +67,7 @@ fn filled_word<F: FrameSupply>(
     seat: &mut F::Seat,
     words: &[u64; 512],
     index: usize,
-) -> Result<u64, NoFrame>
+) -> Result<u64, Refusal>
     requires fits { IsSeatOf F.invariant store.old seat.old }
     requires anchored { IsHeld (F.Seat.view seat.old) 0 }
     requires in_page { index < 512 }
@@ -96,13 +96,21 @@ fn word_through_a_new_seat<F: FrameSupply>(
     let mut opened = opened_seat(store, seat)?;
     let word = filled_word(store, &mut opened, words, index);
     store.join(seat, opened);
-    word.map_err(Refusal::from)
+    word
+}
+
+/// 512 words: 7, and 8 at index 511.
+fn sevens() -> [u64; 512]
+    ensures { slice_index result 511 ≡ 8 }
+{
+    let mut words = [7; 512];
+    words[511] = 8;
+    words
 }
 
 #[test]
-fn runs_over_both_stores(rt: HostRuntime) -> Result<(), Fail> {
-    let mut words = [7; 512];
-    words[511] = 8;
+fn runs_over_plain_frames(rt: HostRuntime) -> Result<(), Fail> {
+    let words = sevens();
     let (mut plain, mut seat) = PlainFrames::new(rt.alloc(), 2)?;
     let word = word_through_a_new_seat(&mut plain, &mut seat, &words, 511)?;
     prove!(word == 8);
@@ -112,7 +120,12 @@ fn runs_over_both_stores(rt: HostRuntime) -> Result<(), Fail> {
     // each opened seat left its reference of frame 0 to `seat`: three there, and one of the filled frame
     let report = plain.report();
     assert_eq!(rt; (report.free, report.held, report.references), (0, 2, 4));
+    Ok(())
+}
 
+#[test]
+fn runs_over_shared_frames(rt: HostRuntime) -> Result<(), Fail> {
+    let words = sevens();
     let (frames, mut seat) = SharedFrames::new(rt.alloc(), 2)?;
     let mut supply = frames.supply(&rt);
     let word = word_through_a_new_seat(&mut supply, &mut seat, &words, 511)?;
@@ -161,12 +174,17 @@ fn finds_next_words<F: FrameSupply>(store: &mut F, seat: &mut F::Seat) -> Result
 }
 
 #[test]
-fn finds_next_words_of_both_stores(rt: HostRuntime) -> Result<(), Fail> {
+fn finds_next_words_of_plain_frames(rt: HostRuntime) -> Result<(), Fail> {
     let (mut plain, mut seat) = PlainFrames::new(rt.alloc(), 2)?;
     assert_eq!(rt; finds_next_words(&mut plain, &mut seat), Ok(true));
+    Ok(())
+}
+
+#[test]
+fn finds_next_words_of_shared_frames(rt: HostRuntime) -> Result<(), Fail> {
     let (frames, mut seat) = SharedFrames::new(rt.alloc(), 2)?;
-    let mut supply = frames.supply(&rt);
-    assert_eq!(rt; finds_next_words(&mut supply, &mut seat), Ok(true));
+    let found = finds_next_words(&mut frames.supply(&rt), &mut seat);
+    assert_eq!(rt; found, Ok(true));
     let totals = frames.close(seat);
     assert_eq!(rt; (totals.free, totals.held), (0, 2));
     Ok(())

@@ -1,6 +1,0 @@
-use Rattle.shared_frames.specs.SeatsOfTable.{fits_still}
-use Rattle.tests_of_frames.proofs.clients.finds_next_words_of_both_stores.Goals as goal
-
-pub close-totals-requires : goal.close-totals-requires
-close-totals-requires g c =
-    (fits_still _ _ _ c.in_ok-frames.seat c.finds_next_words-2.new.seat c.supply-supply.ensures c.finds_next_words-2.ensures.keeps c.in_ok-frames.ensures.fits).1
