@@ -1,8 +1,12 @@
+use Rattle.frame_store.specs.Holds.{opening_holds}
 use Rattle.shared_frames.specs.SeatsOfTable.{fits_still, may_step}
 use Rattle.tests_of_frames.proofs.clients.runs_over_shared_frames.Goals as goal
 
 pub word_through_a_new_seat-requires-clause-fits : goal.word_through_a_new_seat-requires-clause-fits
 word_through_a_new_seat-requires-clause-fits g c = may_step _ _ c.in_ok-frames.seat c.supply-supply.ensures c.in_ok-frames.ensures.fits
+
+pub word_through_a_new_seat-requires-clause-anchored : goal.word_through_a_new_seat-requires-clause-anchored
+word_through_a_new_seat-requires-clause-anchored g c = opening_holds _ c.in_ok-frames.ensures.view
 
 pub word_through_a_new_seat-refused-requires-clause-fits : goal.word_through_a_new_seat-refused-requires-clause-fits
 word_through_a_new_seat-refused-requires-clause-fits g c =
