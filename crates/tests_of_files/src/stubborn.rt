@@ -38,9 +38,11 @@ impl<F: Files> Files for RefusingFiles<F> {
         if pages == 0 {
             return self.files.promise(0);
         }
-        let refuses = self.until_refusal == Some(0);
-        self.until_refusal = self.until_refusal.and_then(|left| left.checked_sub(1));
-        if refuses {
+        let Some(left) = self.until_refusal else {
+            return self.files.promise(pages);
+        };
+        self.until_refusal = left.checked_sub(1);
+        if left == 0 {
             return Err(PromiseError::Memory);
         }
         self.files.promise(pages)
