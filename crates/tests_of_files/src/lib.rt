@@ -1,13 +1,8 @@
-//! Tests that `file_cabinet` reads and writes pages of files, keeps their lengths and makes promises (reservations of page
-//! I/O), through its public API. Exports `RefusingFiles`, a struct of files that refuse one promise, which other test crates
-//! use too, and `copy_page`, a function over any `Files`.
+//! What tests of files need: `RefusingFiles`, a struct of files that refuse one promise (a reservation of page I/O), and
+//! `copy_page`, a function over any `Files`. It has no tests: those of `file_cabinet` are in `tests_of_mappings`.
 #![tactic(auto)]
 
-#[cfg(test)]
-mod cabinets;
 mod page_copies;
-#[cfg(test)]
-mod promises;
 mod stubborn;
 
 pub use page_copies::copy_page;

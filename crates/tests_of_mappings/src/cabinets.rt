@@ -1,9 +1,7 @@
 // `three_files`: the files that each story (test case) begins with. `changes_of`: which of their bytes differ in the end,
 // each as a `Change` (file, offset, value).
 
-ghost use Rattle.std.specs.Prelude.{◌≡◌};
-ghost use Rattle.process_model.specs.Files.{fits_file};
-
+use crate::file_pages::cabinet;
 use file_cabinet::Cabinet;
 use process_model::{Bytes, FileText};
 use std::alloc::{AllocError, Global};
@@ -38,13 +36,6 @@ fn declared(
     })
 }
 
-/// Whether a file has at most 65,536 bytes, and declares no more bytes than its length.
-fn fits(text: &FileText) -> bool
-    ensures { result ≡ fits_file text.now }
-{
-    text.length <= 65_536 && text.bytes.as_slice().len() <= text.length
-}
-
 /// A cabinet of the files of `FILES`: 5,000 bytes, writable; 4,096 bytes, read-only; 10,003 bytes, writable.
 ///
 /// # Errors
@@ -54,10 +45,7 @@ pub(crate) fn three_files(alloc: Global) -> Result<Cabinet, Fail> {
     for (file, (length, writable)) in FILES.into_iter().enumerate() {
         texts.push(declared(alloc, file, length, writable)?)?;
     }
-    if texts.len() > 16 || !texts.iter().all(fits) {
-        return Err(Fail::from("too large"));
-    }
-    Ok(Cabinet::new(alloc, &texts)?)
+    cabinet(alloc, &texts)
 }
 
 /// The bytes of the three files that differ from the beginning. A file whose length differs adds a change at its length,

@@ -1,6 +1,6 @@
 // Tests that `Cabinet` (the files of a machine) keeps the lengths and modes of sixteen files, and reads, lends and writes
 // pages at the ends of files, past them, and of files that do not exist: rows of file, offset, place and byte. And builders
-// of files for other tests (`cabinet`, `three_files`).
+// of files for the tests of promises (`cabinet`, `three_files`).
 
 ghost use Rattle.std.specs.Prelude.{◌≡◌};
 ghost use Rattle.process_model.specs.Files.{fits_file};
@@ -69,6 +69,15 @@ pub(crate) fn three_files(alloc: Global) -> Result<Cabinet, Fail> {
     cabinet(alloc, &texts)
 }
 
+/// The length of a file, the number of its bytes, `None` if there is no such file; and whether it is writable.
+fn shape(files: &Cabinet, number: usize) -> (Option<usize>, Option<usize>, bool) {
+    let bytes = match files.bytes(number) {
+        Some(bytes) => Some(bytes.len()),
+        None => None,
+    };
+    (files.length(number), bytes, files.writable(number))
+}
+
 #[test]
 fn keeps_sixteen_files(rt: HostRuntime) -> Result<(), Fail> {
     let lengths = [
@@ -78,17 +87,26 @@ fn keeps_sixteen_files(rt: HostRuntime) -> Result<(), Fail> {
     let texts = filled(rt.alloc(), &lengths)?;
     let files = cabinet(rt.alloc(), &texts)?;
     for (number, length) in lengths.iter().enumerate() {
-        let bytes = files.bytes(number).map(|bytes| bytes.len());
-        let there = (files.length(number), bytes, files.writable(number));
         let wanted = (Some(*length), Some(*length), number % 2 == 0);
-        assert_eq!(rt; there, wanted, "file {number}");
+        assert_eq!(rt; shape(&files, number), wanted, "file {number}");
     }
     for number in [16, usize::MAX] {
-        let bytes = files.bytes(number).map(|bytes| bytes.len());
-        let there = (files.length(number), bytes, files.writable(number));
-        assert_eq!(rt; there, (None, None, false), "file {number}");
+        let wanted = (None, None, false);
+        assert_eq!(rt; shape(&files, number), wanted, "file {number}");
     }
     Ok(())
+}
+
+/// The byte at `place` of a page that is lent, `Some(None)` if the page ends before it; `None` if no page is lent.
+fn lent_byte(files: &Cabinet, file: usize, offset: usize, place: usize) -> Option<Option<u8>> {
+    let bytes = files.lent_page(file, offset)?;
+    Some(bytes.get(place).copied())
+}
+
+/// `byte`, as `lent_byte` must return it at `place` of a page from `offset` on of a file of this length.
+fn as_lent(length: Option<usize>, offset: usize, place: usize, byte: u8) -> Option<Option<u8>> {
+    let rest = length?.saturating_sub(offset);
+    Some(if place < rest { Some(byte) } else { None })
 }
 
 #[test]
@@ -123,16 +141,16 @@ fn reads_pages(rt: HostRuntime) -> Result<(), Fail> {
         files.read_page(file, offset, &mut page);
         let there = page.get(place).copied();
         assert_eq!(rt; there, Some(byte), "file {file} from {offset} at {place}");
-        let lent = files
-            .lent_page(file, offset)
-            .map(|bytes| bytes.get(place).copied());
-        let rest = files
-            .length(file)
-            .map(|length| length.saturating_sub(offset));
-        let wanted = rest.map(|rest| if place < rest { Some(byte) } else { None });
+        let lent = lent_byte(&files, file, offset, place);
+        let wanted = as_lent(files.length(file), offset, place, byte);
         assert_eq!(rt; lent, wanted, "file {file} from {offset} at {place}, lent");
     }
     Ok(())
+}
+
+/// The byte of a file at an offset; `None` if it has none there.
+pub(crate) fn byte_at(files: &Cabinet, file: usize, offset: usize) -> Option<u8> {
+    files.bytes(file)?.get(offset).copied()
 }
 
 #[test]
@@ -167,8 +185,11 @@ fn writes_pages(rt: HostRuntime) -> Result<(), Fail> {
     for (file, offset, seen, at, byte) in rows {
         let mut files = three_files(rt.alloc())?;
         files.write_page(file, offset, &page);
-        let there = files.bytes(seen).and_then(|bytes| bytes.get(at)).copied();
-        assert_eq!(rt; there, byte, "{file} from {offset}, {seen} at {at}");
+        assert_eq!(rt;
+            byte_at(&files, seen, at),
+            byte,
+            "{file} from {offset}, {seen} at {at}"
+        );
         let lengths = (files.length(0), files.length(1), files.length(2));
         assert_eq!(rt; lengths, kept, "file {file} from {offset}");
     }

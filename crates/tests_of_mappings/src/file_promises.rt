@@ -2,12 +2,11 @@
 // copies a page or is refused, by rows of files, offset, outcome and a byte then; and that each `PromiseError` becomes its
 // refusal.
 
-use crate::cabinets::three_files;
-use crate::page_copies::copy_page;
-use crate::stubborn::RefusingFiles;
+use crate::file_pages::{byte_at, three_files};
 use file_cabinet::{Files, PromiseError};
 use process_model::Refusal;
 use std::test::Fail;
+use tests_of_files::{RefusingFiles, copy_page};
 
 #[test]
 fn promises_any_pages(rt: HostRuntime) -> Result<(), Fail> {
@@ -33,11 +32,7 @@ fn copies_over_any_files(rt: HostRuntime) -> Result<(), Fail> {
     for (from, to, offset, outcome, byte) in rows {
         let copied = copy_page(&mut files, from, to, offset);
         assert_eq!(rt; copied, outcome, "from {from} at {offset}");
-        let there = files
-            .files
-            .bytes(0)
-            .and_then(|bytes| bytes.get(4_999))
-            .copied();
+        let there = byte_at(&files.files, 0, 4_999);
         assert_eq!(rt; there, byte, "after {from} at {offset}");
     }
     assert_eq!(rt; (files.length(0), files.writable(0)), (Some(5_000), true));
