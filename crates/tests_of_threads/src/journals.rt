@@ -46,12 +46,10 @@ fn has_reply<R: Threads + Wait + Sync>(
     let (ended, _) = run_pool(rt, alloc, &script, &lists, &starts, harts, &OpenGate)?;
     for finished in &ended {
         if finished.name.as_slice() == name {
-            return Ok(
-                finished
-                    .journal
-                    .get(number)
-                    .map(|entry| is_reply(&entry.reply, reply)),
-            );
+            return Ok(match finished.journal.get(number) {
+                Some(entry) => Some(is_reply(&entry.reply, reply)),
+                None => None,
+            });
         }
     }
     Ok(None)

@@ -4,10 +4,17 @@
 //! depends on it.
 #![tactic(auto)]
 
+#[cfg(test)]
 mod bounded_waits;
+#[cfg(test)]
 mod gates;
+#[cfg(test)]
 mod journals;
+#[cfg(test)]
 mod lost_frames;
+#[cfg(test)]
 mod shelves;
+#[cfg(test)]
 mod turns;
+#[cfg(test)]
 mod two_harts;
