@@ -61,8 +61,14 @@ fn play_script<R: io::Read + Drop>(
 
 /// Whether a line is a `boot` with four fields, which name no scheme.
 fn names_no_scheme(line: &[u8]) -> bool {
-    let words = line.split(|byte| *byte == b' ');
-    line.starts_with(b"boot ") && words.filter(|word| !word.is_empty()).count() == 5
+    let (mut words, mut before) = (0u64, b' ');
+    for byte in line {
+        if before == b' ' && *byte != b' ' {
+            words = words.saturating_add(1);
+        }
+        before = *byte;
+    }
+    line.starts_with(b"boot ") && words == 5
 }
 
 /// Returns the script with a scheme as the last field of its first `boot` that names none. `None`: it has no such line.
@@ -104,8 +110,16 @@ fn play_lists<T: Threads + Wait + Sync>(
 
 /// Returns the number of the first line in which two texts differ, counted from 1.
 fn first_difference(got: &[u8], wanted: &[u8]) -> usize {
-    let same = got.iter().zip(wanted).take_while(|(a, b)| a == b).count();
-    1 + got.iter().take(same).filter(|byte| **byte == b'\n').count()
+    let mut line: usize = 1;
+    for (got, wanted) in got.iter().zip(wanted) {
+        if *got != *wanted {
+            return line;
+        }
+        if *got == b'\n' {
+            line = line.saturating_add(1);
+        }
+    }
+    line
 }
 
 /// Compares the output of the row of this name with the expected one. `None`: they are equal; else the

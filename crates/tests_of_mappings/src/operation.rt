@@ -5,7 +5,7 @@ use process_model::Reply;
 use sv39_entry::Access;
 
 /// One operation of a process, or of the kernel for it. Lengths, counts and widths are in bytes.
-#[derive(Clone, Copy, Debug)]
+#[derive(Clone, Copy)]
 pub(crate) enum Operation {
     /// mmap: the length, the protection, the flags and the number of the file.
     Map(u64, u64, u64, usize),

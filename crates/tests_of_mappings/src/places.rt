@@ -8,11 +8,16 @@ use crate::stores::play;
 use process_model::Refusal::{
     BadArgument, FileNotWritable, HoleInMapping, MappingsFull, NoFrame, NoRoom,
 };
+use process_model::Reply;
 use process_model::Reply::Scalar;
 use process_model::ScalarReply::{Done, MappedAt, Ready, Refused};
 use std::alloc::{AllocError, Global};
 use std::test::Fail;
 use sv39_entry::Access;
+
+const BAD: Reply = Scalar(Refused(BadArgument));
+
+const FULL: Reply = Scalar(Refused(NoRoom));
 
 /// Sixteen mappings of a page each, downwards from TRAPFRAME; mappings that are refused beside them; and one in the room of
 /// the sixteenth.
@@ -44,18 +49,17 @@ fn takes_sixteen_mappings(rt: HostRuntime) -> Result<(), Fail> {
 
 #[test]
 fn refuses_in_order(rt: HostRuntime) -> Result<(), Fail> {
-    let bad = || Scalar(Refused(BadArgument));
     let rows = [
-        (Map(0, 1, 2, 0), bad()),
-        (Map(1_048_577, 1, 2, 0), bad()),
-        (Map(4_096, 0, 2, 0), bad()),
-        (Map(4_096, 8, 2, 0), bad()),
-        (Map(4_096, 1, 0, 0), bad()),
-        (Map(4_096, 1, 3, 0), bad()),
-        (Map(4_096, 1, 2, 3), bad()),
-        (Map(4_096, 3, 1, 3), bad()),
+        (Map(0, 1, 2, 0), BAD),
+        (Map(1_048_577, 1, 2, 0), BAD),
+        (Map(4_096, 0, 2, 0), BAD),
+        (Map(4_096, 8, 2, 0), BAD),
+        (Map(4_096, 1, 0, 0), BAD),
+        (Map(4_096, 1, 3, 0), BAD),
+        (Map(4_096, 1, 2, 3), BAD),
+        (Map(4_096, 3, 1, 3), BAD),
         // file 1 is read-only
-        (Map(0, 3, 1, 1), bad()),
+        (Map(0, 3, 1, 1), BAD),
         (Map(4_096, 3, 1, 1), Scalar(Refused(FileNotWritable))),
         (Map(4_096, 2, 1, 1), Scalar(Refused(FileNotWritable))),
         (Map(4_096, 3, 2, 1), Scalar(MappedAt(0x3fffffd000))),
@@ -68,28 +72,27 @@ fn refuses_in_order(rt: HostRuntime) -> Result<(), Fail> {
 
 #[test]
 fn gives_room_back(rt: HostRuntime) -> Result<(), Fail> {
-    let bad = || Scalar(Refused(BadArgument));
     let rows = [
         (Map(12_288, 1, 2, 0), Scalar(MappedAt(0x3fffffb000))),
         (Unmap(0x3fffffc000, 4_096), Scalar(Refused(HoleInMapping))),
-        (Unmap(0x3fffffb001, 4_096), bad()),
-        (Unmap(0x3fffffb000, 0), bad()),
+        (Unmap(0x3fffffb001, 4_096), BAD),
+        (Unmap(0x3fffffb000, 0), BAD),
         // a fourth page, after its end or before its beginning
-        (Unmap(0x3fffffb000, 12_289), bad()),
-        (Unmap(0x3fffffa000, 16_384), bad()),
-        (Unmap(0x3fffffe000, 4_096), bad()),
-        (Unmap(0, 4_096), bad()),
-        (Unmap(0xfffffffffffff000, u64::MAX), bad()),
+        (Unmap(0x3fffffb000, 12_289), BAD),
+        (Unmap(0x3fffffa000, 16_384), BAD),
+        (Unmap(0x3fffffe000, 4_096), BAD),
+        (Unmap(0, 4_096), BAD),
+        (Unmap(0xfffffffffffff000, u64::MAX), BAD),
         // one byte is rounded up to a page
         (Unmap(0x3fffffb000, 1), Scalar(Done)),
-        (Unmap(0x3fffffb000, 1), bad()),
+        (Unmap(0x3fffffb000, 1), BAD),
         (Unmap(0x3fffffc000, 8_192), Scalar(Done)),
         (Map(12_288, 1, 2, 0), Scalar(MappedAt(0x3fffffb000))),
         // the last page alone
         (Unmap(0x3fffffd000, 4_096), Scalar(Done)),
         (Map(8_192, 1, 2, 0), Scalar(MappedAt(0x3fffff9000))),
         // two pages, of different mappings
-        (Unmap(0x3fffffa000, 8_192), bad()),
+        (Unmap(0x3fffffa000, 8_192), BAD),
         (Map(4_096, 1, 2, 0), Scalar(MappedAt(0x3fffffd000))),
     ];
     play(&rt, rt.alloc(), 8, 0, None, &rows, &[])
@@ -97,13 +100,12 @@ fn gives_room_back(rt: HostRuntime) -> Result<(), Fail> {
 
 #[test]
 fn stays_above_the_heap(rt: HostRuntime) -> Result<(), Fail> {
-    let full = || Scalar(Refused(NoRoom));
     let rows = [
-        (Map(12_289, 1, 2, 0), full()),
+        (Map(12_289, 1, 2, 0), FULL),
         (Map(12_288, 1, 2, 0), Scalar(MappedAt(0x3fffffb000))),
-        (Map(1, 1, 2, 0), full()),
+        (Map(1, 1, 2, 0), FULL),
         (Unmap(0x3fffffb000, 4_096), Scalar(Done)),
-        (Map(8_192, 1, 2, 0), full()),
+        (Map(8_192, 1, 2, 0), FULL),
         (Map(1, 1, 2, 0), Scalar(MappedAt(0x3fffffb000))),
     ];
     // the heap ends at 0x3fffffb000, three pages below the trapframe

@@ -29,10 +29,9 @@ fn after_stores(alloc: Global, more: Vec<Row>) -> Result<Vec<Row>, Fail> {
 
 #[test]
 fn unmaps_all_or_nothing(rt: HostRuntime) -> Result<(), Fail> {
-    let memory = || Scalar(Refused(Memory));
     // the munmap of the whole mapping is refused; then, with one promise more, that of its second page alone
     let first_refused = vec![in rt.alloc();
-        (Unmap(0x3fffffc000, 8_192), memory()),
+        (Unmap(0x3fffffc000, 8_192), Scalar(Refused(Memory))),
         (Look(2, 0), Scalar(Value(0x8080808080808080))),
         (Look(2, 4_096), Scalar(Value(0x9090909090909090))),
         (Load(0x3fffffc000, 1), Scalar(Value(0xc1))),
@@ -43,7 +42,7 @@ fn unmaps_all_or_nothing(rt: HostRuntime) -> Result<(), Fail> {
     ]?;
     let second_refused = vec![in rt.alloc();
         (Unmap(0x3fffffc000, 4_096), Scalar(Done)),
-        (Unmap(0x3fffffd000, 4_096), memory()),
+        (Unmap(0x3fffffd000, 4_096), Scalar(Refused(Memory))),
         (Look(2, 4_096), Scalar(Value(0x9090909090909090))),
         (Load(0x3fffffd000, 1), Scalar(Value(0xd1))),
         (Unmap(0x3fffffd000, 4_096), Scalar(Done)),

@@ -34,7 +34,7 @@ struct Story<'a> {
 
 /// How a story ended. `wrong`: its first wrong reply, `Some(None)` if there is none, `None` if the process could not be
 /// built. `free`: the number of free frames, once the process is destroyed.
-#[derive(Drop, PartialEq, Eq, Debug)]
+#[derive(Drop)]
 struct End {
     wrong: Option<Wrong>,
     free: usize,

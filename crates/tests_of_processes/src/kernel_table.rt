@@ -18,6 +18,15 @@ use table_walk::Walk;
 /// An access to an address, and the outcome of its walk.
 type Row = (Access, u64, Walk);
 
+/// The outcome of a walk that ends at a leaf of level 0.
+fn mapped(word: u64, address: u64) -> Walk {
+    Walk::Leaf {
+        word,
+        level: 0,
+        address,
+    }
+}
+
 /// For 64 frames and four stacks. The last address is not canonical in Sv39. In Sv48 it is, and another than that of frame
 /// 5.
 fn rows(scheme: Scheme) -> [Row; 14] {
@@ -30,11 +39,6 @@ fn rows(scheme: Scheme) -> [Row; 14] {
             0x7fffffffc000,
             0x7fffffff5000,
         ),
-    };
-    let mapped = |word, address| Walk::Leaf {
-        word,
-        level: 0,
-        address,
     };
     [
         (load, 0x80005008, mapped(0x200014c7, 0x80005008)),

@@ -7,6 +7,7 @@ ghost use Rattle.sv39_entry.specs.Schemes.{trapframe_page};
 use crate::SCHEMES;
 use address_space::{Layout, Part, Region, RegionKind, Source};
 use bitflags::Flags;
+use std::process::Abort;
 use sv39_entry::{Access, Rights, Rule, Scheme, Va};
 
 /// An access, its address and its width in bytes, and the first rule that denies it; `None`: it is granted.
@@ -80,14 +81,21 @@ fn rows_at_the_end(scheme: Scheme) -> [Row; 7] {
     }
 }
 
+/// Asserts that each row gets its rule.
+fn judge<R: Abort>(rt: &R, layout: &Layout, rows: &[Row]) {
+    let scheme = layout.scheme();
+    for row in rows {
+        let (access, address, width, rule) = *row;
+        let told = layout.grant(access, Va(address), width.max(1)).err();
+        assert_eq!(rt; told, rule, "{scheme:?} {row:?}");
+    }
+}
+
 #[test]
 fn tells_the_first_rule(rt: HostRuntime) {
     for scheme in SCHEMES {
         let layout = Layout::new(scheme, &parts());
-        for row in rows().into_iter().chain(rows_at_the_end(scheme)) {
-            let (access, address, width, rule) = row;
-            let told = layout.grant(access, Va(address), width.max(1)).err();
-            assert_eq!(rt; told, rule, "{scheme:?} {row:?}");
-        }
+        judge(&rt, &layout, &rows());
+        judge(&rt, &layout, &rows_at_the_end(scheme));
     }
 }

@@ -278,7 +278,8 @@ fn lives_over_both_stores(rt: HostRuntime) {
 type Firsts = (Option<u64>, Option<u64>);
 
 fn first_at<S: FrameSeat>(space: &Space<S>, page: u64) -> Option<u64> {
-    space.layout.region_at(page).map(|region| region.first)
+    let region = space.layout.region_at(page)?;
+    Some(region.first)
 }
 
 fn firsts<S: FrameSeat>(space: &Space<S>) -> Firsts {

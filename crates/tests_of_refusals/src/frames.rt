@@ -30,20 +30,15 @@ fn cases() -> [Case; 6] {
     let written = (CopyOut(0x3f_ffff_d000, [1, 2, 3, 4]), Done, false);
     let mapped = [(Map(0x1000), Done, false), written];
     let grown = [(ACROSS, Done, false), (GROWN, Done, false)];
-    let whole = |operation: Operation, need: u8, back: usize| {
-        (mapped, 1, operation, Done, Refused(NoFrame), need, back)
-    };
-    let page = |address: u64, need: u8| {
-        let (done, dry) = (Served(Ready), Served(Ended(Rule::NoFrame)));
-        (grown, 0, Serve(Access::Store, address), done, dry, need, 0)
-    };
+    let (refused, ready) = (Refused(NoFrame), Served(Ready));
+    let (ended, store) = (Served(Ended(Rule::NoFrame)), Access::Store);
     [
-        whole(Fork, 6, 0),
-        whole(Exec(0), 10, 11),
-        whole(Exec(1), 8, 11),
-        page(0x5000, 1),
-        page(0x20_0000, 2),
-        page(0x4000_0000, 3),
+        (mapped, 1, Fork, Done, refused, 6, 0),
+        (mapped, 1, Exec(0), Done, refused, 10, 11),
+        (mapped, 1, Exec(1), Done, refused, 8, 11),
+        (grown, 0, Serve(store, 0x5000), ready, ended, 1, 0),
+        (grown, 0, Serve(store, 0x20_0000), ready, ended, 2, 0),
+        (grown, 0, Serve(store, 0x4000_0000), ready, ended, 3, 0),
     ]
 }
 
@@ -69,16 +64,34 @@ fn refuses_below_the_need(rt: HostRuntime) -> Result<(), Fail> {
 /// A child shares the pages of the data. With no free frame nothing is copied, with one the two bytes in page 1, with two
 /// all four; then only the pages that got a frame can be written without another one.
 fn copies() -> [[Row; 5]; 3] {
-    let done = |operation: Operation| (operation, Done, false);
-    let short = |count: usize| Short(Denied(Rule::NoFrame), count, 0);
-    let dry = |operation: Operation| (operation, short(0), true);
-    let read = |bytes: u64| (CopyIn(0x1ffe), Copied(bytes), true);
-    let (fork, half, all) = (done(Fork), (ACROSS, short(2), false), done(ACROSS));
+    let (fork, read) = ((Fork, Done, false), CopyIn(0x1ffe));
+    let (none, two) = (
+        Short(Denied(Rule::NoFrame), 0, 0),
+        Short(Denied(Rule::NoFrame), 2, 0),
+    );
     let (first, second) = (CopyOut(0x1000, [5; 4]), CopyOut(0x2000, [6; 4]));
     [
-        [fork, dry(ACROSS), read(0), dry(second), dry(first)],
-        [fork, half, read(0x0201), dry(second), done(first)],
-        [fork, all, read(0x0403_0201), done(second), done(first)],
+        [
+            fork,
+            (ACROSS, none, true),
+            (read, Copied(0), true),
+            (second, none, true),
+            (first, none, true),
+        ],
+        [
+            fork,
+            (ACROSS, two, false),
+            (read, Copied(0x0201), true),
+            (second, none, true),
+            (first, Done, false),
+        ],
+        [
+            fork,
+            (ACROSS, Done, false),
+            (read, Copied(0x0403_0201), true),
+            (second, Done, false),
+            (first, Done, false),
+        ],
     ]
 }
 

@@ -7,7 +7,7 @@ use sv39_entry::Access;
 use user_copy::Stop;
 
 /// A system call of a process, or a copy or service that the kernel does for it. Lengths are in bytes.
-#[derive(Clone, Copy, Debug)]
+#[derive(Clone, Copy)]
 pub(crate) enum Operation {
     /// fork. The process may have one child.
     Fork,

@@ -4,7 +4,7 @@
 
 use crate::operation::Answer::{Copied, Done, Refused, Served, Short};
 use crate::operation::Operation::{CopyIn, CopyOut, Exec, Map, Serve, Unmap};
-use crate::operation::{Operation, Row};
+use crate::operation::Row;
 use crate::stores::play;
 use fault_rules::Served::{Ready, Unserved};
 use process_model::Refusal::{Memory, NoFrame};
@@ -24,32 +24,50 @@ type Case = (usize, usize, [Row; 4], usize);
 /// In the last case exec's promise is refused, and no frame is free either: the promise is asked for first.
 fn cases() -> [Case; 9] {
     let map = (Map(0x2000), Done, false);
-    let served = |answer, same: bool| (Serve(Access::Store, FIRST), Served(answer), same);
-    let (unserved, ready) = (served(Unserved(Memory), true), served(Ready, false));
+    let serve = Serve(Access::Store, FIRST);
+    let unserved = (serve, Served(Unserved(Memory)), true);
+    let (ready, again) = ((serve, Served(Ready), false), (serve, Served(Ready), true));
     let (copy_in, copy_out) = (CopyIn(SECOND - 2), CopyOut(SECOND - 2, [1, 2, 3, 4]));
     let written = (copy_out, Done, false);
-    let read = |bytes: u64, same: bool| (copy_in, Copied(bytes), same);
-    let stopped = |done: usize, bytes: u64| Short(Unpromised(Memory), done, bytes);
-    let (none_out, half_out) = (
-        (copy_out, stopped(0, 0), true),
-        (copy_out, stopped(2, 0), false),
-    );
-    let half_in = (copy_in, stopped(2, 0x0707), false);
-    let refused = |operation: Operation| (operation, Refused(Memory), true);
-    let done = |operation: Operation| (operation, Done, false);
-    let dry = (Exec(0), Refused(NoFrame), true);
+    let none_out = (copy_out, Short(Unpromised(Memory), 0, 0), true);
+    let half_out = (copy_out, Short(Unpromised(Memory), 2, 0), false);
+    let half_in = (copy_in, Short(Unpromised(Memory), 2, 0x0707), false);
+    let all_read = (copy_in, Copied(0x0403_0201), true);
+    let half_read = (copy_in, Copied(0x0201), false);
+    let old_read = (copy_in, Copied(0x0707), false);
     let (front, back) = (Unmap(FIRST, 0x1000), Unmap(SECOND, 0x1000));
-    let all = Unmap(FIRST, 0x2000);
+    let (all, exec, small) = (Unmap(FIRST, 0x2000), Exec(0), Exec(1));
+    let (no, dry) = (Refused(Memory), Refused(NoFrame));
     [
-        (0, 12, [map, unserved, ready, served(Ready, true)], 11),
-        (0, 12, [map, none_out, written, read(0x0403_0201, true)], 10),
-        (1, 12, [map, half_out, read(0x0201, false), written], 10),
-        (1, 12, [map, half_in, read(0x0707, false), written], 10),
-        (2, 12, [map, written, refused(all), done(all)], 12),
-        (3, 12, [map, written, done(front), refused(back)], 11),
-        (2, 12, [map, written, refused(Exec(0)), done(Exec(0))], 12),
-        (2, 12, [map, written, refused(Exec(1)), done(Exec(1))], 14),
-        (2, 2, [map, written, refused(Exec(0)), dry], 0),
+        (0, 12, [map, unserved, ready, again], 11),
+        (0, 12, [map, none_out, written, all_read], 10),
+        (1, 12, [map, half_out, half_read, written], 10),
+        (1, 12, [map, half_in, old_read, written], 10),
+        (
+            2,
+            12,
+            [map, written, (all, no, true), (all, Done, false)],
+            12,
+        ),
+        (
+            3,
+            12,
+            [map, written, (front, Done, false), (back, no, true)],
+            11,
+        ),
+        (
+            2,
+            12,
+            [map, written, (exec, no, true), (exec, Done, false)],
+            12,
+        ),
+        (
+            2,
+            12,
+            [map, written, (small, no, true), (small, Done, false)],
+            14,
+        ),
+        (2, 2, [map, written, (exec, no, true), (exec, dry, true)], 0),
     ]
 }
 

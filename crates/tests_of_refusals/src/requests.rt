@@ -9,8 +9,8 @@ use crate::stores::play;
 use fault_rules::Served::{Ended, Ready};
 use process_model::Refusal::{BadArgument, BadSize, HoleInMapping, NoRoom};
 use std::test::Fail;
+use sv39_entry::Access;
 use sv39_entry::Rule::{GuardPage, NoExec, NoFrame, NoRegion, NoWrite};
-use sv39_entry::{Access, Rule};
 use user_copy::Stop::Denied;
 
 /// How far the heap grows, in bytes.
@@ -29,16 +29,16 @@ const BESIDE: u64 = 1 << 21;
 /// The heap grows, and three of its pages take all seven frames. It shrinks to one byte, which releases the frames of two
 /// pages and no page table, and grows again.
 fn heap() -> [Row; 18] {
-    let served = |address: u64| (Serve(Access::Store, address), Served(Ready), false);
-    let dry = (Serve(Access::Store, BESIDE), Served(Ended(NoFrame)), true);
+    let (store, ready) = (Access::Store, Served(Ready));
+    let dry = (Serve(store, BESIDE), Served(Ended(NoFrame)), true);
     [
         (Grow(-1), Refused(BadSize), true),
         (Grow(i64::MIN), Refused(BadSize), true),
         (Grow(FAR), Done, false),
         (Grow(FAR), Refused(NoRoom), true),
-        served(LOW),
-        served(MIDDLE),
-        served(HIGH),
+        (Serve(store, LOW), ready, false),
+        (Serve(store, MIDDLE), ready, false),
+        (Serve(store, HIGH), ready, false),
         (CopyOut(LOW, [1, 2, 3, 4]), Done, false),
         (CopyOut(HIGH, [5, 6, 7, 8]), Done, false),
         dry,
@@ -46,19 +46,16 @@ fn heap() -> [Row; 18] {
         (CopyIn(LOW), Copied(0x0403_0201), true),
         (CopyIn(HIGH), Short(Denied(NoRegion), 0, 0), true),
         (Grow(FAR - 1), Done, false),
-        served(HIGH),
+        (Serve(store, HIGH), ready, false),
         (CopyIn(HIGH), Copied(0), true),
         dry,
-        served(MIDDLE),
+        (Serve(store, MIDDLE), ready, false),
     ]
 }
 
 /// Mappings and unmappings that are refused, and accesses and copies that a rule denies.
 fn denied() -> [Row; 12] {
     let (refused, first) = (Refused(BadArgument), 0x3f_ffff_b000);
-    let ended = |access: Access, address: u64, rule: Rule| {
-        (Serve(access, address), Served(Ended(rule)), true)
-    };
     [
         (Map(0), refused, true),
         (Map(0x10_0001), refused, true),
@@ -67,9 +64,9 @@ fn denied() -> [Row; 12] {
         (Unmap(first + 1, 0x1000), refused, true),
         (Unmap(first, 0x3001), refused, true),
         (Unmap(first + 0x1000, 0x1000), Refused(HoleInMapping), true),
-        ended(Access::Store, 0x0, NoWrite),
-        ended(Access::Fetch, 0x1000, NoExec),
-        ended(Access::Load, 0x3000, GuardPage),
+        (Serve(Access::Store, 0x0), Served(Ended(NoWrite)), true),
+        (Serve(Access::Fetch, 0x1000), Served(Ended(NoExec)), true),
+        (Serve(Access::Load, 0x3000), Served(Ended(GuardPage)), true),
         (CopyOut(0xffe, [1; 4]), Short(Denied(NoWrite), 0, 0), true),
         (CopyIn(0x2ffe), Short(Denied(GuardPage), 2, 0), true),
     ]

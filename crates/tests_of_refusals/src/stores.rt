@@ -43,7 +43,11 @@ pub(crate) fn play<R: Abort + Wait>(
             over_plain(alloc, &images, &story)?
         };
         let wanted = ((None, free), FRAMES - 1);
-        assert_eq!(rt; told, wanted, "shared: {is_shared}, {left} left: {rows:?}");
+        assert_eq!(rt;
+            told,
+            wanted,
+            "shared: {is_shared}, {left} left, {sharers} sharers, {promises:?} promises"
+        );
     }
     Ok(())
 }

@@ -41,7 +41,13 @@ fn plays_each_front(rt: HostRuntime) -> Result<(), Fail> {
     for (above, (line, letters, reply)) in lines().into_iter().enumerate() {
         assert_eq!(rt; line.len(), letters.len(), "of {line}");
         text.push_str(reply)?;
-        for (byte, letter) in line.bytes().zip(letters.bytes()).chain([(b'\n', b'.')]) {
+        let (bytes, letters) = (line.as_bytes(), letters.as_bytes());
+        for place in 0..=line.len() {
+            // after the last byte comes the line feed
+            let (byte, letter) = match (bytes.get(place), letters.get(place)) {
+                (Some(byte), Some(letter)) => (*byte, *letter),
+                _ => (b'\n', b'.'),
+            };
             front.push(byte)?;
             let want = outcome(letter, above, !text.is_empty());
             let written = if want.is_ok() { text.as_bytes() } else { &[] };

@@ -59,25 +59,29 @@ fn tables(alloc: Global, frames: usize, word: u64) -> Result<Vec<u64>, AllocErro
     Ok(words)
 }
 
+/// The outcome of a walk that ends at a leaf of level 1.
+fn megapage(word: u64, address: u64) -> Walk {
+    Walk::Leaf {
+        word,
+        level: 1,
+        address,
+    }
+}
+
 #[test]
 fn translates_accesses(rt: HostRuntime) -> Result<(), Fail> {
     let (user, kernel) = (Mode::User, Mode::Supervisor);
     let (fetch, load, store) = (Access::Fetch, Access::Load, Access::Store);
-    let mapped = |word, address| Walk::Leaf {
-        word,
-        level: 1,
-        address,
-    };
     let rows: [Row; 16] = [
-        (DATA, load, 0x234567, user, mapped(DATA, 0x80234567)),
+        (DATA, load, 0x234567, user, megapage(DATA, 0x80234567)),
         (0x200804d7, load, 0x234567, user, Walk::PageFault(13)),
         (RESERVED, load, 0x234567, user, Walk::PageFault(13)),
         (DATA, fetch, 0x200000, user, Walk::PageFault(12)),
         (CLEAN, store, 0x200000, user, Walk::PageFault(15)),
-        (CLEAN, load, 0x200000, user, mapped(CLEAN, 0x80200000)),
+        (CLEAN, load, 0x200000, user, megapage(CLEAN, 0x80200000)),
         (0x20080097, load, 0x200000, user, Walk::PageFault(13)),
         (KERNEL, load, 0x200000, user, Walk::PageFault(13)),
-        (KERNEL, load, 0x200000, kernel, mapped(KERNEL, 0x80200000)),
+        (KERNEL, load, 0x200000, kernel, megapage(KERNEL, 0x80200000)),
         (0x200800d5, load, 0x200000, user, Walk::PageFault(13)),
         (ACCESSED_POINTER, load, 0x200000, user, Walk::PageFault(13)),
         (0x000000d7, load, 0x200000, user, Walk::AccessFault(5)),
