@@ -15,7 +15,7 @@ use sv39_entry::{Access, Entry, FrameNo, Rights};
 
 /// The kind of a region: a segment of the image, the guard page below the stack, the stack or the heap (the xv6 book,
 /// "Process address space"), or a mapping of a file, shared or private (MIT 6.1810, mmap lab).
-#[derive(Clone, Copy, PartialEq, Eq, Debug)]
+#[derive(Clone, Copy, PartialEq, Eq)]
 pub enum RegionKind {
     Segment,
     Guard,
@@ -26,7 +26,7 @@ pub enum RegionKind {
 }
 
 /// The source of the bytes that a page of a region has when it is settled.
-#[derive(Clone, Copy, PartialEq, Eq, Debug)]
+#[derive(Clone, Copy, PartialEq, Eq)]
 pub enum Source {
     Zeros,
     /// The image of the process's start or exec.
@@ -37,7 +37,7 @@ pub enum Source {
 
 /// A run of `pages` pages, the first with the number `first` (its address divided by 4,096), with the rights that it grants
 /// to the user, its kind, and the source of its pages' first bytes.
-#[derive(Clone, Copy, PartialEq, Eq, Debug)]
+#[derive(Clone, Copy, PartialEq, Eq)]
 pub struct Region {
     pub first: u64,
     pub pages: u64,

@@ -33,7 +33,7 @@ pub struct CallList {
 
 /// A process to start as a file for threads declares it: it names its image by its number, from 0, and its list of calls by
 /// the list's own number.
-#[derive(Clone, Copy, PartialEq, Eq, Debug)]
+#[derive(Clone, Copy)]
 pub struct ListedStart {
     pub image: usize,
     pub list: usize,
@@ -41,7 +41,7 @@ pub struct ListedStart {
 
 /// The sizes of a pool: how many frames (of 4,096 bytes) the threads share, the kernel's included, and how many slots, the
 /// most processes at a time.
-#[derive(Clone, Copy, PartialEq, Eq, Debug)]
+#[derive(Clone, Copy)]
 pub struct Pool {
     pub frames: usize,
     pub slots: usize,

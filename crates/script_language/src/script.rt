@@ -32,7 +32,7 @@ pub enum Cause {
 }
 
 /// The word of a line, its first field. Unless said otherwise the line is a declaration or the step or call of that name.
-#[derive(Clone, Copy, PartialEq, Eq, Debug)]
+#[derive(Clone, Copy, PartialEq, Eq)]
 pub enum Keyword {
     File,
     Image,
@@ -84,7 +84,7 @@ pub enum Keyword {
 }
 
 /// The form in which a field after the word is written.
-#[derive(Clone, Copy, PartialEq, Eq, Debug)]
+#[derive(Clone, Copy)]
 pub enum FieldKind {
     /// An unsigned number, from 0 to 2^64 - 1.
     Number,
@@ -107,7 +107,7 @@ pub enum FieldKind {
 }
 
 /// Which fields may follow those that a line must have.
-#[derive(Clone, Copy, PartialEq, Eq, Debug)]
+#[derive(Clone, Copy)]
 pub enum Tail {
     Nothing,
     /// At most one field of this kind.

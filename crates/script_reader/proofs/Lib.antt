@@ -9,6 +9,7 @@ pub mod FieldValues
 pub mod PrefixNumbers
 pub mod Kept
 pub mod OpenList
+pub mod OwningWords
 pub mod Pairs
 pub mod Playable
 pub mod FastLineSteps

@@ -4,6 +4,7 @@ pub mod Digits
 pub mod NumberPrefixes
 pub mod ReadResults
 pub mod ValueLists
+pub mod OwningWords
 pub mod PackedLines
 pub mod Pieces
 pub mod Playable

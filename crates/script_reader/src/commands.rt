@@ -103,7 +103,20 @@ impl Model for Commands {
 fn small(number: usize) -> Option<u16>
     ensures { IfSome result (λ it. it ≡ number) }
 {
-    u16::try_from(number).ok()
+    if number > 0xffff {
+        return None;
+    }
+    Some(number as u16)
+}
+
+/// A width in one byte, if it fits.
+fn small_width(width: u64) -> Option<u8>
+    ensures { IfSome result (λ it. it ≡ width) }
+{
+    if width > 0xff {
+        return None;
+    }
+    Some(width as u8)
 }
 
 /// A slot or an entry, or none, in two bytes, if it fits.
@@ -122,7 +135,58 @@ fn wide_or_none(number: Option<u16>) -> Option<usize>
 {
     match number {
         None => None,
-        Some(number) => Some(usize::from(number)),
+        Some(number) => Some(number as usize),
+    }
+}
+
+/// A hart in two bytes, and a slot or an entry, or none, in two bytes, if they fit.
+fn small_both(hart: usize, number: Option<usize>) -> Option<(u16, Option<u16>)>
+    ensures { IfSome result (λ it. (it.0 ≡ hart) × (it.1 ≡ number)) }
+{
+    Some((small(hart)?, small_or_none(number)?))
+}
+
+/// Packs an access to memory, if its numbers fit.
+#[inline(always)]
+fn pack_access(step: &Step<'static>) -> Option<PackedCommand>
+    ensures { IfSome result (λ packed. model.Says packed (command.One step.now)) }
+{
+    match *step {
+        Step::Fetch { hart, address, via } => {
+            let (hart, via) = small_both(hart, via)?;
+            Some(PackedCommand::Fetch { hart, via, address })
+        }
+        Step::Load {
+            hart,
+            address,
+            width,
+            via,
+        } => {
+            let (hart, via) = small_both(hart, via)?;
+            Some(PackedCommand::Load {
+                width: small_width(width)?,
+                hart,
+                via,
+                address,
+            })
+        }
+        Step::Store {
+            hart,
+            address,
+            width,
+            value,
+            via,
+        } => {
+            let (hart, via) = small_both(hart, via)?;
+            Some(PackedCommand::Store {
+                width: small_width(width)?,
+                hart,
+                via,
+                address,
+                value,
+            })
+        }
+        _ => None,
     }
 }
 
@@ -132,42 +196,13 @@ fn pack_step(step: &Step<'static>) -> Option<PackedCommand>
     ensures { IfSome result (λ packed. model.Says packed (command.One step.now)) }
 {
     match *step {
-        Step::Switch { hart, slot } => Some(PackedCommand::Switch {
-            hart: small(hart)?,
-            slot: small_or_none(slot)?,
-        }),
+        Step::Switch { hart, slot } => {
+            let (hart, slot) = small_both(hart, slot)?;
+            Some(PackedCommand::Switch { hart, slot })
+        }
         Step::Fill { hart, address } => Some(PackedCommand::Fill {
             hart: small(hart)?,
             address,
-        }),
-        Step::Fetch { hart, address, via } => Some(PackedCommand::Fetch {
-            hart: small(hart)?,
-            via: small_or_none(via)?,
-            address,
-        }),
-        Step::Load {
-            hart,
-            address,
-            width,
-            via,
-        } => Some(PackedCommand::Load {
-            width: u8::try_from(width).ok()?,
-            hart: small(hart)?,
-            via: small_or_none(via)?,
-            address,
-        }),
-        Step::Store {
-            hart,
-            address,
-            width,
-            value,
-            via,
-        } => Some(PackedCommand::Store {
-            width: u8::try_from(width).ok()?,
-            hart: small(hart)?,
-            via: small_or_none(via)?,
-            address,
-            value,
         }),
         Step::CopyIn {
             hart,
@@ -178,7 +213,7 @@ fn pack_step(step: &Step<'static>) -> Option<PackedCommand>
             count: small(count)?,
             address,
         }),
-        _ => None,
+        _ => pack_access(step),
     }
 }
 
@@ -219,15 +254,15 @@ fn unpack(packed: PackedCommand, whole: &[Command]) -> CommandView<'_>
 {
     match packed {
         PackedCommand::Switch { hart, slot } => CommandView::Step(Step::Switch {
-            hart: usize::from(hart),
+            hart: hart as usize,
             slot: wide_or_none(slot),
         }),
         PackedCommand::Fill { hart, address } => CommandView::Step(Step::Fill {
-            hart: usize::from(hart),
+            hart: hart as usize,
             address,
         }),
         PackedCommand::Fetch { hart, via, address } => CommandView::Step(Step::Fetch {
-            hart: usize::from(hart),
+            hart: hart as usize,
             address,
             via: wide_or_none(via),
         }),
@@ -237,9 +272,9 @@ fn unpack(packed: PackedCommand, whole: &[Command]) -> CommandView<'_>
             via,
             address,
         } => CommandView::Step(Step::Load {
-            hart: usize::from(hart),
+            hart: hart as usize,
             address,
-            width: u64::from(width),
+            width: width as u64,
             via: wide_or_none(via),
         }),
         PackedCommand::Store {
@@ -249,9 +284,9 @@ fn unpack(packed: PackedCommand, whole: &[Command]) -> CommandView<'_>
             address,
             value,
         } => CommandView::Step(Step::Store {
-            hart: usize::from(hart),
+            hart: hart as usize,
             address,
-            width: u64::from(width),
+            width: width as u64,
             value,
             via: wide_or_none(via),
         }),
@@ -260,26 +295,26 @@ fn unpack(packed: PackedCommand, whole: &[Command]) -> CommandView<'_>
             count,
             address,
         } => CommandView::Step(Step::CopyIn {
-            hart: usize::from(hart),
+            hart: hart as usize,
             address,
-            count: usize::from(count),
+            count: count as usize,
         }),
         PackedCommand::Exec { hart, image } => CommandView::Made(Command::Exec {
-            hart: usize::from(hart),
-            image: usize::from(image),
+            hart: hart as usize,
+            image: image as usize,
         }),
         PackedCommand::On { hart, slot } => CommandView::Made(Command::On {
-            hart: usize::from(hart),
-            slot: usize::from(slot),
+            hart: hart as usize,
+            slot: slot as usize,
         }),
         PackedCommand::Enter { hart } => CommandView::Made(Command::Enter {
-            hart: usize::from(hart),
+            hart: hart as usize,
         }),
         PackedCommand::Leave { hart } => CommandView::Made(Command::Leave {
-            hart: usize::from(hart),
+            hart: hart as usize,
         }),
         PackedCommand::Fix { hart } => CommandView::Made(Command::Fix {
-            hart: usize::from(hart),
+            hart: hart as usize,
         }),
         PackedCommand::Whole(place) => CommandView::Kept(&whole[place]),
     }

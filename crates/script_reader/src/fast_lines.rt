@@ -66,6 +66,53 @@ fn exit_item(fields: &[u8]) -> Option<Result<Item, Cause>>
     Some(exit(hart as usize, signed))
 }
 
+/// `fast_item` of a word that one number follows.
+#[inline(always)]
+fn hart_item(word: FastWord, fields: &[u8]) -> Option<Result<Item, Cause>>
+    ensures { IfSome result (λ made. SaysItem (letters word) fields.now made) }
+{
+    let hart = one_number(fields)?;
+    match word {
+        FastWord::Fix => Some(Ok(fix(hart as usize))),
+        FastWord::Enter => Some(Ok(enter(hart as usize))),
+        FastWord::Leave => Some(Ok(leave(hart as usize))),
+        FastWord::Next => Some(Ok(next(hart as usize))),
+        FastWord::Trap => Some(Ok(trap(hart as usize))),
+        FastWord::Fork => Some(Ok(fork(hart as usize))),
+        _ => None,
+    }
+}
+
+/// `fast_item` of a word that two numbers follow, or three or five.
+#[inline(always)]
+fn numbers_item(word: FastWord, fields: &[u8]) -> Option<Result<Item, Cause>>
+    ensures { IfSome result (λ made. SaysItem (letters word) fields.now made) }
+{
+    match word {
+        FastWord::On => {
+            let (hart, slot) = two_numbers(fields)?;
+            Some(Ok(on(hart as usize, slot as usize)))
+        }
+        FastWord::Fill => {
+            let (hart, address) = two_numbers(fields)?;
+            Some(Ok(fill(hart as usize, address)))
+        }
+        FastWord::CopyIn => {
+            let (hart, address, count) = three_numbers(fields)?;
+            Some(copy_in(hart as usize, address, count as usize))
+        }
+        FastWord::Mmap => {
+            let (hart, length, protection, flags, file) = five_numbers(fields)?;
+            Some(Ok(mmap(hart as usize, length, protection, flags, file as usize)))
+        }
+        FastWord::Munmap => {
+            let (hart, address, length) = three_numbers(fields)?;
+            Some(Ok(munmap(hart as usize, address, length)))
+        }
+        _ => None,
+    }
+}
+
 /// Returns what a word and the fields after it make. `None`: to be read field by field.
 fn fast_item(word: FastWord, fields: &[u8]) -> Option<Result<Item, Cause>>
     ensures { IfSome result (λ made. SaysItem (letters word) fields.now made) }
@@ -81,51 +128,10 @@ fn fast_item(word: FastWord, fields: &[u8]) -> Option<Result<Item, Cause>>
             let (hart, address, via) = two_via(fields)?;
             Some(Ok(fetch(hart as usize, address, via)))
         }
-        FastWord::Fix => {
-            let hart = one_number(fields)?;
-            Some(Ok(fix(hart as usize)))
-        }
-        FastWord::Enter => {
-            let hart = one_number(fields)?;
-            Some(Ok(enter(hart as usize)))
-        }
         FastWord::Exit => exit_item(fields),
-        FastWord::Leave => {
-            let hart = one_number(fields)?;
-            Some(Ok(leave(hart as usize)))
-        }
-        FastWord::On => {
-            let (hart, slot) = two_numbers(fields)?;
-            Some(Ok(on(hart as usize, slot as usize)))
-        }
-        FastWord::Fill => {
-            let (hart, address) = two_numbers(fields)?;
-            Some(Ok(fill(hart as usize, address)))
-        }
-        FastWord::Next => {
-            let hart = one_number(fields)?;
-            Some(Ok(next(hart as usize)))
-        }
-        FastWord::Trap => {
-            let hart = one_number(fields)?;
-            Some(Ok(trap(hart as usize)))
-        }
-        FastWord::Fork => {
-            let hart = one_number(fields)?;
-            Some(Ok(fork(hart as usize)))
-        }
-        FastWord::CopyIn => {
-            let (hart, address, count) = three_numbers(fields)?;
-            Some(copy_in(hart as usize, address, count as usize))
-        }
-        FastWord::Mmap => {
-            let (hart, length, protection, flags, file) = five_numbers(fields)?;
-            Some(Ok(mmap(hart as usize, length, protection, flags, file as usize)))
-        }
-        FastWord::Munmap => {
-            let (hart, address, length) = three_numbers(fields)?;
-            Some(Ok(munmap(hart as usize, address, length)))
-        }
+        FastWord::On | FastWord::Fill | FastWord::CopyIn | FastWord::Mmap | FastWord::Munmap =>
+            numbers_item(word, fields),
+        _ => hart_item(word, fields),
     }
 }
 

@@ -173,29 +173,83 @@ pub enum FastWord {
     Munmap,
 }
 
+/// `word_prefix` of a line that begins with `l`.
+#[inline(always)]
+fn l_word(line: &[u8]) -> Option<(FastWord, &[u8])>
+    ensures { IfSome result (λ found. line.now ≡ letters found.0 ++ found.1.now) }
+{
+    match line {
+        [b'l', b'o', b'a', b'd', rest @ ..] => Some((FastWord::Load, rest)),
+        [b'l', b'e', b'a', b'v', b'e', rest @ ..] => Some((FastWord::Leave, rest)),
+        _ => None,
+    }
+}
+
+/// `word_prefix` of a line that begins with `s`.
+#[inline(always)]
+fn s_word(line: &[u8]) -> Option<(FastWord, &[u8])>
+    ensures { IfSome result (λ found. line.now ≡ letters found.0 ++ found.1.now) }
+{
+    match line {
+        [b's', b't', b'o', b'r', b'e', rest @ ..] => Some((FastWord::Store, rest)),
+        [b's', b'w', b'i', b't', b'c', b'h', rest @ ..] => Some((FastWord::Switch, rest)),
+        _ => None,
+    }
+}
+
+/// `word_prefix` of a line that begins with `f`.
+#[inline(always)]
+fn f_word(line: &[u8]) -> Option<(FastWord, &[u8])>
+    ensures { IfSome result (λ found. line.now ≡ letters found.0 ++ found.1.now) }
+{
+    match line {
+        [b'f', b'e', b't', b'c', b'h', rest @ ..] => Some((FastWord::Fetch, rest)),
+        [b'f', b'i', b'x', rest @ ..] => Some((FastWord::Fix, rest)),
+        [b'f', b'i', b'l', b'l', rest @ ..] => Some((FastWord::Fill, rest)),
+        [b'f', b'o', b'r', b'k', rest @ ..] => Some((FastWord::Fork, rest)),
+        _ => None,
+    }
+}
+
+/// `word_prefix` of a line that begins with `e` or `o`.
+#[inline(always)]
+fn e_or_o_word(line: &[u8]) -> Option<(FastWord, &[u8])>
+    ensures { IfSome result (λ found. line.now ≡ letters found.0 ++ found.1.now) }
+{
+    match line {
+        [b'e', b'n', b't', b'e', b'r', rest @ ..] => Some((FastWord::Enter, rest)),
+        [b'e', b'x', b'i', b't', rest @ ..] => Some((FastWord::Exit, rest)),
+        [b'o', b'n', rest @ ..] => Some((FastWord::On, rest)),
+        _ => None,
+    }
+}
+
+/// `word_prefix` of a line that begins with none of `l`, `s`, `f`, `e` and `o`.
+#[inline(always)]
+fn other_word(line: &[u8]) -> Option<(FastWord, &[u8])>
+    ensures { IfSome result (λ found. line.now ≡ letters found.0 ++ found.1.now) }
+{
+    match line {
+        [b'n', b'e', b'x', b't', rest @ ..] => Some((FastWord::Next, rest)),
+        [b't', b'r', b'a', b'p', rest @ ..] => Some((FastWord::Trap, rest)),
+        [b'c', b'o', b'p', b'y', b'i', b'n', rest @ ..] => Some((FastWord::CopyIn, rest)),
+        [b'm', b'm', b'a', b'p', rest @ ..] => Some((FastWord::Mmap, rest)),
+        [b'm', b'u', b'n', b'm', b'a', b'p', rest @ ..] => Some((FastWord::Munmap, rest)),
+        _ => None,
+    }
+}
+
 /// Returns the word of the fast path with whose letters the line begins, and what follows them. `None`:
 /// to be read field by field. Inlined, so that the result need not go through memory.
 #[inline(always)]
 pub fn word_prefix(line: &[u8]) -> Option<(FastWord, &[u8])>
     ensures { IfSome result (λ found. line.now ≡ letters found.0 ++ found.1.now) }
 {
-    match line {
-        [b'l', b'o', b'a', b'd', rest @ ..] => Some((FastWord::Load, rest)),
-        [b's', b't', b'o', b'r', b'e', rest @ ..] => Some((FastWord::Store, rest)),
-        [b's', b'w', b'i', b't', b'c', b'h', rest @ ..] => Some((FastWord::Switch, rest)),
-        [b'f', b'e', b't', b'c', b'h', rest @ ..] => Some((FastWord::Fetch, rest)),
-        [b'f', b'i', b'x', rest @ ..] => Some((FastWord::Fix, rest)),
-        [b'e', b'n', b't', b'e', b'r', rest @ ..] => Some((FastWord::Enter, rest)),
-        [b'e', b'x', b'i', b't', rest @ ..] => Some((FastWord::Exit, rest)),
-        [b'l', b'e', b'a', b'v', b'e', rest @ ..] => Some((FastWord::Leave, rest)),
-        [b'o', b'n', rest @ ..] => Some((FastWord::On, rest)),
-        [b'f', b'i', b'l', b'l', rest @ ..] => Some((FastWord::Fill, rest)),
-        [b'n', b'e', b'x', b't', rest @ ..] => Some((FastWord::Next, rest)),
-        [b't', b'r', b'a', b'p', rest @ ..] => Some((FastWord::Trap, rest)),
-        [b'f', b'o', b'r', b'k', rest @ ..] => Some((FastWord::Fork, rest)),
-        [b'c', b'o', b'p', b'y', b'i', b'n', rest @ ..] => Some((FastWord::CopyIn, rest)),
-        [b'm', b'm', b'a', b'p', rest @ ..] => Some((FastWord::Mmap, rest)),
-        [b'm', b'u', b'n', b'm', b'a', b'p', rest @ ..] => Some((FastWord::Munmap, rest)),
-        _ => None,
+    match line.first()? {
+        b'l' => l_word(line),
+        b's' => s_word(line),
+        b'f' => f_word(line),
+        b'e' | b'o' => e_or_o_word(line),
+        _ => other_word(line),
     }
 }

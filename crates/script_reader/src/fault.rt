@@ -6,7 +6,7 @@ use script_language::Cause;
 use std::alloc::AllocError;
 
 /// Why a line was not read.
-#[derive(Debug, Drop)]
+#[derive(Drop)]
 pub enum LineFault {
     /// Host memory was refused.
     Memory,

@@ -26,13 +26,23 @@ fn skip_blanks(line: &[u8]) -> &[u8]
     rest
 }
 
+/// What follows the space that a text begins with.
+fn behind_space(text: &[u8]) -> Option<&[u8]>
+    ensures { IfSome result (λ rest. text.now ≡ 32 ∷ rest.now) }
+{
+    match text {
+        [b' ', rest @ ..] => Some(rest),
+        _ => None,
+    }
+}
+
 /// Skips one space, if the line begins with a space.
 fn behind_blank(line: &[u8]) -> &[u8]
     ensures { fields_of result.now ≡ fields_of line.now }
 {
-    match line {
-        [b' ', rest @ ..] => rest,
-        _ => line,
+    match behind_space(line) {
+        Some(rest) => rest,
+        None => line,
     }
 }
 

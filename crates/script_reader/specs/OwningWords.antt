@@ -1,0 +1,11 @@
+-- `owns_values`: the words of scripts whose item takes over the values after the word, as bytes or segments.
+use Rattle.std.specs.Prelude.{Bool, true, false}
+use Rattle.script_language.specs.declared.script.Keyword.{Keyword}
+use Rattle.script_language.specs.declared.script.Keyword.TheVariants as word
+
+abbrev pub owns_values : Keyword → Bool
+owns_values word.File = true
+owns_values word.Image = true
+owns_values word.Elf = true
+owns_values word.CopyOut = true
+owns_values _ = false
