@@ -8,8 +8,6 @@ mod extensions;
 mod memory_type;
 mod pmp;
 mod status;
-#[cfg(test)]
-mod tests;
 
 pub use addresses::{is_canonical, leads_to, reach, top_level};
 pub use extensions::{AdScheme, Extensions};

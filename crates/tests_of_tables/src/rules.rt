@@ -1,8 +1,13 @@
-// Tables of values worked by hand from the standard, and that each function returns them: one loop a function.
+// Tests that each function of `walk_rules` (kinds of PTEs, rights, A and D, addresses, physical memory protection) returns the
+// values that were worked by hand from the standard: a table and a loop for each.
 
-use super::*;
 use std::test::Fail;
 use sv39_entry::{Access, Entry, Kind, Mode, Satp, Va};
+use walk_rules::{
+    AdScheme, Extensions, Matching, MemoryType, PmpEntry, Privilege, Region, Status, has_ad,
+    is_canonical, leads_to, pmp_permits, pmp_permits_read, pmp_permits_update, reach, top_level,
+    with_ad,
+};
 
 const FETCH: Access = Access::Fetch;
 
