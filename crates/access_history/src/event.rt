@@ -4,7 +4,7 @@ use sv39_entry::{Satp, Va};
 use walk_rules::PmpEntry;
 
 /// An event of a hart's history. That a hart caches a page table entry, or drops it, is none.
-#[derive(Clone, Copy, PartialEq, Eq, Debug)]
+#[derive(Clone, Copy)]
 pub enum Event {
     /// A word of memory changes: by a store of this hart, of another one or of a device, or by an update of A and D.
     Store {

@@ -4,7 +4,7 @@ use sv39_entry::{Access, Va};
 use walk_rules::{MemoryType, Privilege, Status};
 
 /// An access of a hart.
-#[derive(Clone, Copy, PartialEq, Eq, Debug)]
+#[derive(Clone, Copy)]
 pub struct Request {
     pub kind: Access,
     pub va: Va,
@@ -16,7 +16,7 @@ pub struct Request {
 }
 
 /// A page table entry that a hart writes to set A and D (RISC-V Privileged Architecture 20211203, 4.3.2, step 7).
-#[derive(Clone, Copy, PartialEq, Eq, Debug)]
+#[derive(Clone, Copy, PartialEq, Eq)]
 pub struct Update {
     /// The physical page number of its table.
     pub table: u64,
@@ -25,7 +25,7 @@ pub struct Update {
 }
 
 /// What comes of an access.
-#[derive(Clone, Copy, PartialEq, Eq, Debug)]
+#[derive(Clone, Copy, PartialEq, Eq)]
 pub enum Outcome {
     Granted {
         /// The physical address.

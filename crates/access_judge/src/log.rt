@@ -9,7 +9,7 @@ use sv39_entry::{Access, Satp, Va};
 use walk_rules::Privilege;
 
 /// A word that a place in memory had.
-#[derive(Clone, Copy, PartialEq, Eq, Debug)]
+#[derive(Clone, Copy)]
 pub struct PastWord {
     pub word: u64,
     /// The moment since which the place had it: right after the store of that number. 0: from the first.
@@ -17,7 +17,7 @@ pub struct PastWord {
 }
 
 /// A word that satp had.
-#[derive(Clone, Copy, PartialEq, Eq, Debug)]
+#[derive(Clone, Copy)]
 pub struct PastSatp {
     pub satp: Satp,
     /// The number of the last fence of its ASID, with rs1 = x0, at that time. 0: there was none.

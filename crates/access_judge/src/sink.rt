@@ -8,7 +8,7 @@ use access_history::Outcome;
 use sv39_entry::Entry;
 
 /// A page table entry (PTE) on the way of a walk.
-#[derive(Clone, Copy, PartialEq, Eq, Debug)]
+#[derive(Clone, Copy)]
 pub struct Step {
     /// The level of its table, 0 for the last ones.
     pub level: u32,

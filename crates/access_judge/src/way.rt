@@ -5,7 +5,7 @@ use crate::sink::Step;
 use access_history::Outcome;
 
 /// How an outcome comes about: by a walk from the root of a word that satp had, through page table entries.
-#[derive(Clone, Copy, PartialEq, Eq, Debug)]
+#[derive(Clone, Copy)]
 pub struct Way {
     /// The word of satp; `None`: no walk.
     pub root: Option<PastSatp>,
@@ -14,7 +14,7 @@ pub struct Way {
 }
 
 /// An outcome, and how it comes about.
-#[derive(Clone, Copy, PartialEq, Eq, Debug)]
+#[derive(Clone, Copy)]
 pub struct Told {
     pub outcome: Outcome,
     pub way: Way,

@@ -144,7 +144,7 @@ pub fn add(found: &mut Vec<Finding>, next: Finding) -> Result<(), AllocError> {
             last.pages = last.pages.saturating_add(next.pages);
             Ok(())
         }
-        _ => found.push(next).map_err(AllocError::from),
+        _ => Ok(found.push(next)?),
     }
 }
 

@@ -90,7 +90,7 @@ fn tables_of(
                 pte: Hex(entry.word),
                 place: Hex(entry.place()),
             };
-            tables.push(table).map_err(AllocError::from)?;
+            tables.push(table)?;
         }
     }
     Ok(tables)
@@ -107,7 +107,7 @@ impl SpaceObject {
         let mut mappings = Vec::new(alloc);
         for mapping in &space.mappings {
             let mapping = MappingObject::of(*mapping, space.top);
-            mappings.push(mapping).map_err(AllocError::from)?;
+            mappings.push(mapping)?;
         }
         Ok(SpaceObject {
             space: number,

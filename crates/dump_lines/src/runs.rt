@@ -53,7 +53,7 @@ pub fn runs_of(alloc: Global, space: &Space) -> Result<Vec<Run>, AllocError> {
         let next = Run::of(*mapping, space.top);
         match runs.last_mut() {
             Some(run) if run.goes_on(&next, space.top) => run.extend(&next),
-            _ => runs.push(next).map_err(AllocError::from)?,
+            _ => runs.push(next)?,
         }
     }
     Ok(runs)

@@ -50,8 +50,7 @@ fn hold(
     for mapping in &space.mappings {
         let is_user = Entry::from_word(mapping.word).has(EntryFlags::USER);
         if is_user && (!writable || is_writable(*mapping)) {
-            held.push(Holding::of(subject, *mapping))
-                .map_err(AllocError::from)?;
+            held.push(Holding::of(subject, *mapping))?;
         }
     }
     Ok(())
@@ -134,9 +133,7 @@ fn lower_pairs(held: &[Holding], pairs: &mut Vec<Pair>) -> Result<(), AllocError
     for one in held {
         match passed.of_another(one.subject.space) {
             Some(other) if one.is_open() && other.end > one.start => {
-                pairs
-                    .push(Pair { one: *one, other })
-                    .map_err(AllocError::from)?;
+                pairs.push(Pair { one: *one, other })?;
             }
             _ => {}
         }
@@ -151,9 +148,7 @@ fn upper_pairs(held: &[Holding], pairs: &mut Vec<Pair>) -> Result<(), AllocError
     for one in held.iter().rev() {
         match passed.of_another(one.subject.space) {
             Some(other) if one.is_open() && other.start < one.end => {
-                pairs
-                    .push(Pair { one: *one, other })
-                    .map_err(AllocError::from)?;
+                pairs.push(Pair { one: *one, other })?;
             }
             _ => {}
         }

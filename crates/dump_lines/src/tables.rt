@@ -34,7 +34,7 @@ fn hold_tables(
         page: 0,
         subject,
     };
-    tables.push(root).map_err(AllocError::from)?;
+    tables.push(root)?;
     for entry in &space.entries {
         let pte = Entry::from_word(entry.word);
         if extensions.kind(pte, entry.level) == Kind::Pointer {
@@ -44,7 +44,7 @@ fn hold_tables(
                 page: entry.page,
                 subject: subject.at(*entry),
             };
-            tables.push(table).map_err(AllocError::from)?;
+            tables.push(table)?;
         }
     }
     Ok(())

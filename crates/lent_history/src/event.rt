@@ -24,7 +24,7 @@ pub const FENCE_SPACE: u64 = 4;
 
 /// An event in a caller's memory.
 #[repr(C)]
-#[derive(Clone, Copy, PartialEq, Eq, Debug)]
+#[derive(Clone, Copy)]
 pub struct LentEvent {
     /// One of the constants; any other number is `FENCE_SPACE`.
     pub kind: u64,

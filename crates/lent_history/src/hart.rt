@@ -11,7 +11,7 @@ pub(crate) const MOST: usize = 64;
 
 /// A PMP entry in a caller's memory.
 #[repr(C)]
-#[derive(Clone, Copy, PartialEq, Eq, Debug)]
+#[derive(Clone, Copy)]
 pub struct LentPmp {
     /// The entry's byte of pmpcfg; only the low 8 bits count.
     pub config: u64,
@@ -43,7 +43,7 @@ impl LentPmp {
 
 /// What is known of a hart beside its events. Any numbers are allowed.
 #[repr(C)]
-#[derive(Clone, Copy, Debug)]
+#[derive(Clone, Copy)]
 pub struct LentHart {
     /// Bit 0: Svnapot; 1: Svpbmt; 2: Svade; 3: Svadu (both or none: either); 8, 9, 10: Sv39, Sv48, Sv57.
     pub profile: u32,

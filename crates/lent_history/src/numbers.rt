@@ -10,7 +10,7 @@ use walk_rules::{MemoryType, Privilege};
 
 /// An access in a caller's memory.
 #[repr(C)]
-#[derive(Clone, Copy, PartialEq, Eq, Debug)]
+#[derive(Clone, Copy)]
 pub struct LentAccess {
     pub address: u64,
     /// The number of bytes: 1, 2, 4 or 8.
@@ -23,7 +23,7 @@ pub struct LentAccess {
 
 /// What comes of an access, in a caller's memory. What does not belong to its status does not count.
 #[repr(C)]
-#[derive(Clone, Copy, PartialEq, Eq, Debug)]
+#[derive(Clone, Copy, PartialEq, Eq)]
 pub struct LentOutcome {
     /// 0: the access is made; 1: an exception.
     pub status: u32,

@@ -14,7 +14,7 @@ use sv39_entry::Access;
 use walk_rules::{PmpEntry, Privilege, pmp_permits};
 
 /// The PMP entries of a hart.
-#[derive(Clone, Copy, Debug)]
+#[derive(Clone, Copy)]
 pub(crate) struct PmpEntries {
     pub count: usize,
     pub entries: [PmpEntry; MOST],

@@ -13,7 +13,7 @@ use sv39_entry::{Satp, Va};
 use walk_rules::PmpEntry;
 
 /// Why an event was not added: each place of the array has one. A fence of everything empties them all.
-#[derive(Clone, Copy, PartialEq, Eq, Debug)]
+#[derive(Clone, Copy)]
 pub struct Full;
 
 fn add(hart: &mut LentHart, events: &mut [LentEvent], event: LentEvent) -> Result<(), Full>

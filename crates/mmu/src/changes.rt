@@ -7,7 +7,7 @@ use std::alloc::{AllocError, Global};
 use std::collections::HashMap;
 
 /// A change of a word.
-#[derive(Clone, Copy, PartialEq, Eq, Debug)]
+#[derive(Clone, Copy)]
 pub(crate) struct Change {
     /// The number of the store.
     pub number: usize,
@@ -70,7 +70,7 @@ impl Changes {
         let pushed = list.push(change);
         // there is room for it
         let _ = self.lists.insert(place, list);
-        pushed.map_err(AllocError::from)
+        Ok(pushed?)
     }
 
     /// Returns the number of the last change of a word up to a moment, 0 if there is none, and the first change after it.

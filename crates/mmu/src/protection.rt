@@ -14,7 +14,7 @@ use walk_rules::{PmpEntry, Privilege, pmp_permits};
 const MOST: usize = 64;
 
 /// The PMP entries of a hart.
-#[derive(Clone, Copy, Debug)]
+#[derive(Clone, Copy)]
 pub(crate) struct PmpEntries {
     pub count: usize,
     pub entries: [PmpEntry; MOST],
@@ -60,7 +60,7 @@ impl PmpEntries {
 }
 
 /// The entries after a write of one.
-#[derive(Clone, Copy, Debug)]
+#[derive(Clone, Copy)]
 pub(crate) struct PmpWrite {
     /// The number of the write.
     pub number: usize,

@@ -4,7 +4,7 @@ ghost use Rattle.std.specs.Prelude.{◌≡◌, max, min};
 ghost use Rattle.mmu.specs.Words.{is_in};
 
 /// The numbers from `first` on that are below `end`. A word's number is its physical address / 8.
-#[derive(Clone, Copy, PartialEq, Eq, Debug)]
+#[derive(Clone, Copy)]
 pub(crate) struct Run {
     pub first: u64,
     pub end: u64,

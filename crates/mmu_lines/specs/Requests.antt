@@ -18,28 +18,18 @@ use Rattle.walk_rules.specs.declared.pmp.PmpEntry.{PmpEntry}
 use Rattle.mmu_lines.specs.Claims.{Tells}
 use Rattle.mmu_lines.specs.States.{State, asked, begun, with_past, with_status}
 use Rattle.mmu_lines.specs.Writes.{cut_asid, lock_of, satp_written}
-use Rattle.mmu_lines.specs.declared.answers.Answer.{Answer}
-use Rattle.mmu_lines.specs.declared.answers.Answer.TheVariants as answer
-use Rattle.mmu_lines.specs.declared.answers.Lock.{Lock}
-use Rattle.mmu_lines.specs.declared.answers.Lock.TheVariants as lock
-use Rattle.mmu_lines.specs.declared.outcomes.OutcomeLine.{OutcomeLine}
+use Rattle.mmu_answers.specs.Answers.{IsError}
+use Rattle.mmu_answers.specs.declared.answers.Answer.{Answer}
+use Rattle.mmu_answers.specs.declared.answers.Answer.TheVariants as answer
+use Rattle.mmu_answers.specs.declared.answers.Lock.{Lock}
+use Rattle.mmu_answers.specs.declared.answers.Lock.TheVariants as lock
+use Rattle.mmu_answers.specs.declared.outcomes.OutcomeLine.{OutcomeLine}
 
 abbrev pub hex : ℕ → Hex
 hex n = record { 0 = n }
 
 abbrev pub outcome_in : OutcomeLine → Outcome
 outcome_in line = line.outcome
-
-abbrev pub IsError : Answer → Type 0
-IsError (answer.Error column text) = ⊤
-IsError answer.Ok = ⊥
-IsError answer.Version = ⊥
-IsError (answer.Satp word) = ⊥
-IsError (answer.Locked l) = ⊥
-IsError (answer.NoEffect va) = ⊥
-IsError (answer.Outcomes found) = ⊥
-IsError (answer.Permitted line) = ⊥
-IsError (answer.NotPermitted reason permitted) = ⊥
 
 -- the lines show exactly the outcomes that the standard permits for an access
 abbrev pub ShowPermitted : State → Request → List OutcomeLine → Type 0

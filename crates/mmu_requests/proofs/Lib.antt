@@ -1,3 +1,4 @@
 pub mod NoClaims
 pub mod NoProfiles
 pub mod NoRequests
+pub mod Words

@@ -1,5 +1,5 @@
 -- Which request the fields of a line make (`IsRequest`), and which fields make none (`IsNothing`, `MakesNone`).
-use Rattle.std.specs.Prelude.{◌≡◌, ◌⊎◌, ⊤, ℕ, Bool, true, false, ◌+◌, ◌/◌, ◌<◌, ◌≤◌, ◌%◌, ◌^◌, codes, Option, None, Some, List, ◌++◌, length, slice_get}
+use Rattle.std.specs.Prelude.{◌≡◌, ◌⊎◌, ⊤, ℕ, Bool, true, false, ◌+◌, ◌/◌, ◌<◌, ◌≤◌, ◌%◌, ◌^◌, codes, Option, None, Some, List, ◌++◌, length, slice_get, [], ◌∷◌, bytes_eq, if◌then◌else◌}
 use Rattle.access_history.specs.declared.outcome.Update.{Update}
 use Rattle.script_language.specs.Numbers.{number_of}
 use Rattle.sv39_entry.specs.Satp.{mode}
@@ -32,6 +32,11 @@ word_text word.Fetch = codes "fetch"
 word_text word.Load = codes "load"
 word_text word.Store = codes "store"
 word_text word.Sfence = codes "sfence"
+
+-- the first of these words that has a text
+abbrev pub word_among : List Word → List ℕ → Option Word
+word_among [] text = None
+word_among (w ∷ words) text = if bytes_eq (word_text w) text then Some w else word_among words text
 
 -- the fewest fields that follow a word, and the most
 abbrev pub counts : Word → ℕ × ℕ

@@ -47,15 +47,13 @@ impl From<AllocError> for Refusal {
 pub(crate) struct Fields<'a> {
     pub alloc: Global,
     pub line: &'a [u8],
-    /// The text of the word.
-    pub text: &'a [u8],
     pub word: Word,
 }
 
 impl<'a> Fields<'a> {
     /// The mistake that there are too few fields, or too many.
     pub fn wrong_count(&self) -> Refusal {
-        let Ok(quote) = quoted(self.alloc, self.text) else {
+        let Ok(quote) = quoted(self.alloc, self.word.text()) else {
             return Refusal::Memory;
         };
         let (fields, count) = (self.word.fields(), field_count(self.line).saturating_sub(1));

@@ -1,7 +1,7 @@
 // `Word`: an enum, the first field of a line, with its text, how many fields may follow it, and their names.
 
 ghost use Rattle.std.specs.Prelude.{◌≡◌, IfNone, IfSome};
-ghost use Rattle.mmu_requests.specs.Lines.{counts, word_text};
+ghost use Rattle.mmu_requests.specs.Lines.{counts, word_among, word_text};
 ghost use Rattle.mmu_requests.specs.declared.line_word.Word.{Word};
 
 /// The first field of a line.
@@ -25,27 +25,61 @@ pub enum Word {
 pub const ALL: &str =
     "ram, mem, satp, fetch, load, store, sfence, status, pmp, profile, reset, version";
 
+/// The words of lines.
+const WORDS: [Word; 12] = [
+    Word::Load,
+    Word::Store,
+    Word::Fetch,
+    Word::Mem,
+    Word::Satp,
+    Word::Sfence,
+    Word::Status,
+    Word::Pmp,
+    Word::Ram,
+    Word::Reset,
+    Word::Profile,
+    Word::Version,
+];
+
+/// Returns the first of these words that has a text; `None` if there is none.
+fn word_among(words: &[Word], text: &[u8]) -> Option<Word>
+    ensures { result ≡ word_among words.now text.now }
+{
+    for word in words {
+        if word.text() == text {
+            return Some(*word);
+        }
+    }
+    None
+}
+
 impl Word {
+    /// Returns the text of the word.
+    pub fn text(self) -> &'static [u8]
+        ensures { result.now ≡ word_text self }
+    {
+        match self {
+            Word::Version => b"version",
+            Word::Profile => b"profile",
+            Word::Reset => b"reset",
+            Word::Status => b"status",
+            Word::Pmp => b"pmp",
+            Word::Ram => b"ram",
+            Word::Mem => b"mem",
+            Word::Satp => b"satp",
+            Word::Fetch => b"fetch",
+            Word::Load => b"load",
+            Word::Store => b"store",
+            Word::Sfence => b"sfence",
+        }
+    }
+
     /// Returns the word with a text; `None` if there is none.
     pub fn of(text: &[u8]) -> Option<Word>
         ensures text { IfSome result (λ w. word_text w ≡ text.now) }
         ensures none { IfNone result ((w : Word) → word_text w ≡ text.now → ⊥) }
     {
-        match text {
-            b"load" => Some(Word::Load),
-            b"store" => Some(Word::Store),
-            b"fetch" => Some(Word::Fetch),
-            b"mem" => Some(Word::Mem),
-            b"satp" => Some(Word::Satp),
-            b"sfence" => Some(Word::Sfence),
-            b"status" => Some(Word::Status),
-            b"pmp" => Some(Word::Pmp),
-            b"ram" => Some(Word::Ram),
-            b"reset" => Some(Word::Reset),
-            b"profile" => Some(Word::Profile),
-            b"version" => Some(Word::Version),
-            _ => None,
-        }
+        word_among(&WORDS, text)
     }
 
     /// Returns the fewest fields that follow the word, and the most.

@@ -18,9 +18,11 @@ const NO_FILL: &str =
 /// The mistake of a first field that is no word.
 fn unknown_word(alloc: Global, place: Place<'_>) -> Result<Mistake, AllocError> {
     let quote = quoted(alloc, place.bytes)?;
-    let text = match place.bytes {
-        b"fill" | b"lookup" => format!(in alloc; "{quote} is gone: {NO_FILL}")?,
-        _ => format!(in alloc; "no line begins with {quote}: the words are {ALL}")?,
+    let is_gone = place.bytes == b"fill".as_slice() || place.bytes == b"lookup".as_slice();
+    let text = if is_gone {
+        format!(in alloc; "{quote} is gone: {NO_FILL}")?
+    } else {
+        format!(in alloc; "no line begins with {quote}: the words are {ALL}")?
     };
     Ok(Mistake::at(place.column, text))
 }
@@ -43,13 +45,7 @@ pub fn read_line(alloc: Global, line: &[u8]) -> Result<Option<Request>, Refusal>
     let Some(word) = Word::of(place.bytes) else {
         return Err(Refusal::Mistake(unknown_word(alloc, place)?));
     };
-    let text = place.bytes;
-    let fields = Fields {
-        alloc,
-        line,
-        text,
-        word,
-    };
+    let fields = Fields { alloc, line, word };
     let count = field_count(line);
     let (least, most) = word.counts();
     if count < least + 1 || count > most + 1 {

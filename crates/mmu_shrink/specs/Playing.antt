@@ -2,8 +2,8 @@
 use Rattle.std.specs.Prelude.{◌≡◌, ⊤, ℕ, zero, suc, Bool, List, None, Option, Some, false, true, length, slice_get}
 use Rattle.mmu_lines.specs.Requests.{IsAnswer}
 use Rattle.mmu_lines.specs.States.{State, begun}
-use Rattle.mmu_lines.specs.declared.answers.Answer.{Answer}
-use Rattle.mmu_lines.specs.declared.answers.Answer.TheVariants as answer
+use Rattle.mmu_answers.specs.declared.answers.Answer.{Answer}
+use Rattle.mmu_answers.specs.declared.answers.Answer.TheVariants as answer
 use Rattle.mmu_requests.specs.Profiles.{plain_with}
 use Rattle.mmu_shrink.specs.declared.line.Line.{Line}
 use Rattle.script_language.specs.Lines.{fields_of}

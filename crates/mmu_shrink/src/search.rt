@@ -42,17 +42,29 @@ struct Search {
     played: usize,
 }
 
+/// Gives a player a line, and returns whether its answer is fine; `None` if it is `NOT permitted`.
+fn keep_of(player: &mut MmuPlayer, line: &Line) -> Result<Option<bool>, AllocError> {
+    match player.line(line.text.as_slice())? {
+        Some(answer) => {
+            if denies(&answer) {
+                Ok(None)
+            } else {
+                Ok(Some(is_fine(answer)))
+            }
+        }
+        None => Ok(Some(false)),
+    }
+}
+
 /// Whether each line before the first that is not permitted is one that is answered without an error; `None` if none is not permitted.
 fn fine_lines(alloc: Global, lines: &[Line]) -> Result<Option<Vec<bool>>, AllocError> {
     let mut player = MmuPlayer::new(alloc);
     let mut keeps = Vec::new(alloc);
     'lines: for line in lines {
-        let keep = match player.line(line.text.as_slice())? {
-            Some(answer) if denies(&answer) => return Ok(Some(keeps)),
-            Some(answer) => is_fine(answer),
-            None => false,
-        };
-        keeps.push(keep)?;
+        match keep_of(&mut player, line)? {
+            Some(keep) => keeps.push(keep)?,
+            None => return Ok(Some(keeps)),
+        }
     }
     Ok(None)
 }

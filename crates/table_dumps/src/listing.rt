@@ -10,8 +10,8 @@ ghost use Rattle.table_dumps.specs.declared.listing.SpaceError.TheVariants.{NoTa
 
 use crate::dump::Dump;
 use std::alloc::AllocError;
+use std::fmt;
 use sv39_entry::{Entry, Kind, PAGE_SIZE, Va};
-use thiserror::Error;
 use walk_rules::Extensions;
 
 /// The most valid PTEs of one address space that are listed. Tables may point to one another in a circle of levels, so that a dump of a few pages
@@ -19,17 +19,24 @@ use walk_rules::Extensions;
 pub const MOST_PTES: usize = 1 << 22;
 
 /// Why an address space is not listed.
-#[derive(Clone, Copy, PartialEq, Eq, Debug, Drop, Error)]
+#[derive(Clone, Copy)]
 pub enum SpaceError {
     /// MODE of satp is Bare, or reserved: there are no tables.
-    #[error("MODE of satp is neither Sv39, Sv48 nor Sv57")]
     NoTables,
     /// There are more than `MOST_PTES` valid PTEs.
-    #[error("its tables have more than 4194304 valid entries")]
     TooMany,
     /// The host is out of memory.
-    #[error("out of memory")]
     Memory,
+}
+
+impl fmt::Display for SpaceError {
+    fn fmt<W: fmt::Write>(&self, f: &mut fmt::Formatter<W>) -> fmt::Result {
+        match self {
+            SpaceError::NoTables => write!(f, "MODE of satp is neither Sv39, Sv48 nor Sv57"),
+            SpaceError::TooMany => write!(f, "its tables have more than 4194304 valid entries"),
+            SpaceError::Memory => write!(f, "out of memory"),
+        }
+    }
 }
 
 impl From<AllocError> for SpaceError {
@@ -44,7 +51,7 @@ impl From<AllocError> for SpaceError {
 }
 
 /// A valid page table entry (PTE), and where it is.
-#[derive(Clone, Copy, PartialEq, Eq, Debug)]
+#[derive(Clone, Copy)]
 pub struct ValidEntry {
     /// The level of the table: 4 to 0, that of the root being 2 under Sv39, 3 under Sv48 and 4 under Sv57.
     pub level: u32,
@@ -171,8 +178,10 @@ fn push(entries: &mut Vec<ValidEntry>, valid: ValidEntry) -> Result<(), SpaceErr
     if entries.len() >= MOST_PTES {
         return Err(SpaceError::TooMany);
     }
-    entries.push(valid).map_err(AllocError::from)?;
-    Ok(())
+    match entries.push(valid) {
+        Ok(()) => Ok(()),
+        Err(e) => Err(AllocError::from(e).into()),
+    }
 }
 
 /// Returns how many pages of 4,096 bytes a PTE of this level maps or leads to: 512^level.

@@ -73,7 +73,7 @@ fn push_leaf(
     ensures { OnOk result (leaves.new.items ≡ leaves.old.items ++ filter (is_leaf extensions) (entry ∷ [])) }
 {
     match extensions.kind(Entry::from_word(entry.word), entry.level) {
-        Kind::Leaf => leaves.push(entry).map_err(AllocError::from),
+        Kind::Leaf => Ok(leaves.push(entry)?),
         Kind::Invalid | Kind::Pointer => Ok(()),
     }
 }

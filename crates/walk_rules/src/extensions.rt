@@ -8,7 +8,7 @@ use sv39_entry::{Entry, EntryFlags, Kind};
 
 /// How a hart manages A and D: what becomes of an access by a leaf with A clear, or D clear at a store (RISC-V Privileged Architecture
 /// 20211203, 4.3.1 and 4.3.2, step 7).
-#[derive(Clone, Copy, PartialEq, Eq, Debug)]
+#[derive(Clone, Copy)]
 pub enum AdScheme {
     /// A page fault.
     Svade,
@@ -19,7 +19,7 @@ pub enum AdScheme {
 }
 
 /// The extensions of a hart that change what a page table entry means.
-#[derive(Clone, Copy, PartialEq, Eq, Debug)]
+#[derive(Clone, Copy)]
 pub struct Extensions {
     /// Leaves of 64 KiB by bit 63, N (the standard, chapter 5).
     pub svnapot: bool,

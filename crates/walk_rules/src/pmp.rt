@@ -25,7 +25,7 @@ pub enum Matching {
 }
 
 /// The registers of a PMP entry (the standard, 3.7.1).
-#[derive(Clone, Copy, PartialEq, Eq, Debug)]
+#[derive(Clone, Copy)]
 pub struct PmpEntry {
     /// The entry's byte of pmpcfg: L 7, A 4-3, X 2, W 1, R 0.
     pub config: u8,

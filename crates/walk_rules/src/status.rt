@@ -30,7 +30,7 @@ impl Privilege {
 }
 
 /// The fields of mstatus that change what an access may do (the standard, 3.1.6.3). They count as they are at the access.
-#[derive(Clone, Copy, PartialEq, Eq, Debug)]
+#[derive(Clone, Copy)]
 pub struct Status {
     /// S-mode may load and store by leaves with U.
     pub sum: bool,

@@ -9,7 +9,7 @@ use table_walk::{Walk, physical_address};
 
 /// The outcome of the translation of an access. What does not belong to its status is 0.
 #[repr(C)]
-#[derive(Clone, Copy, PartialEq, Eq, Debug)]
+#[derive(Clone, Copy, PartialEq, Eq)]
 pub struct Outcome {
     /// 0: a leaf permits the access; 1: a page fault; 2: an access fault; 3: no translation, `address` is the physical address;
     /// 5: no such entry; 6: an argument has no meaning, and `cause` says which (1 the access, 2 the mode, 3 the MODE of satp).
@@ -26,7 +26,7 @@ pub struct Outcome {
 
 /// What a walk finds for an address, whatever the rights. What does not belong to its status is 0.
 #[repr(C)]
-#[derive(Clone, Copy, PartialEq, Eq, Debug)]
+#[derive(Clone, Copy)]
 pub struct Leaf {
     /// 0: a leaf; 2: a word on the way is outside the memory; 3: no translation; 4: no leaf; 6: satp has another MODE.
     pub status: u32,

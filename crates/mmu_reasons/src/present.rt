@@ -14,21 +14,21 @@ use walk_rules::{
 
 impl Telling<'_> {
     /// The effective privilege mode of the access.
-    pub fn privilege(&self) -> Privilege {
+    pub(crate) fn privilege(&self) -> Privilege {
         self.request
             .status
             .effective(self.request.privilege, self.request.kind)
     }
 
     /// The index of the address's PTE in a table of a level.
-    pub fn index(&self, level: u32) -> usize
+    pub(crate) fn index(&self, level: u32) -> usize
         ensures { result < 512 }
     {
         self.request.va.page().index(level)
     }
 
     /// Whether the byte at a physical address is in memory.
-    pub fn has_byte(&self, pa: u64) -> bool {
+    pub(crate) fn has_byte(&self, pa: u64) -> bool {
         self.recorded
             .unit
             .word(pa / 4096, (pa % 4096 / 8) as usize)
@@ -47,13 +47,13 @@ impl Telling<'_> {
     }
 
     /// Whether PMP permits to set A and D in a PTE.
-    pub fn may_set(&self, step: &Step) -> bool {
+    pub(crate) fn may_set(&self, step: &Step) -> bool {
         let place = place_at(step.ppn, self.index(step.level));
         pmp_permits_update(self.recorded.unit.pmp(), place)
     }
 
     /// Whether PMP permits to read each PTE of a way.
-    pub fn may_read(&self, way: &Way) -> bool {
+    pub(crate) fn may_read(&self, way: &Way) -> bool {
         'levels: for level in 0..LEVELS {
             if let Some(step) = step_at(way, level) {
                 let place = place_at(step.ppn, self.index(level));
@@ -86,7 +86,7 @@ impl Telling<'_> {
     }
 
     /// Whether the access comes to an outcome at a physical address.
-    pub fn ends_so(
+    pub(crate) fn ends_so(
         &self,
         pa: u64,
         memory_type: MemoryType,
@@ -152,7 +152,7 @@ impl Telling<'_> {
     }
 
     /// Whether a walk that goes this way comes to an outcome.
-    pub fn comes_to(&self, way: &Way, outcome: Outcome) -> bool {
+    pub(crate) fn comes_to(&self, way: &Way, outcome: Outcome) -> bool {
         match stop_of(self.extensions, way) {
             Some(Stop::At(step)) => self.says_so(&step, outcome),
             Some(Stop::Unread { level, table }) => {

@@ -1,7 +1,7 @@
 -- What a sink that looks for one outcome says of those that it was told: nothing.
 use Rattle.std.specs.Prelude.{⊤, List, [], ◌++◌}
 use Rattle.access_history.specs.declared.outcome.Outcome.{Outcome}
-use Rattle.mmu_lines.specs.declared.seeking.Seeking.{Seeking}
+use Rattle.mmu_reasons.specs.declared.seeking.Seeking.{Seeking}
 
 abbrev pub Sought : Seeking → List Outcome → Seeking → Type 0
 Sought a os b = ⊤

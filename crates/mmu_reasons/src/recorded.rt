@@ -23,7 +23,7 @@ struct Writing {
 
 /// A reference MMU with the number of the line of each event since the last fence of everything.
 #[derive(Drop)]
-pub(crate) struct Recorded {
+pub struct Recorded {
     pub unit: Mmu,
     lines: Vec<u64>,
     writings: Vec<Writing>,
@@ -112,7 +112,7 @@ impl Recorded {
     }
 
     /// How many events there were since the last fence of everything.
-    pub fn count(&self) -> usize {
+    pub(crate) fn count(&self) -> usize {
         self.lines.len()
     }
 
@@ -125,12 +125,12 @@ impl Recorded {
     }
 
     /// The line of the last write of a PMP entry.
-    pub fn pmp_line(&self) -> u64 {
+    pub(crate) fn pmp_line(&self) -> u64 {
         self.pmp_line
     }
 
     /// The ASID that satp was given by its last write up to a moment, and the last moment at which it had it.
-    pub fn space_at(&self, moment: usize) -> (u16, usize) {
+    pub(crate) fn space_at(&self, moment: usize) -> (u16, usize) {
         let mut asid = self.first_asid;
         'writings: for writing in self.writings.as_slice() {
             if writing.event > moment && writing.asid != asid {
@@ -142,12 +142,12 @@ impl Recorded {
     }
 
     /// Whether the place of a PTE has another word now than it had on the way of a walk.
-    pub fn is_old(&self, va: Va, step: &Step) -> bool {
+    pub(crate) fn is_old(&self, va: Va, step: &Step) -> bool {
         self.unit.word(step.ppn, va.page().index(step.level)) != Some(step.entry.to_word())
     }
 
     /// Appends which PTE a walk went by that is not in memory now.
-    pub fn put_step(
+    pub(crate) fn put_step(
         &self,
         out: &mut String,
         extensions: Extensions,
@@ -171,7 +171,12 @@ impl Recorded {
     }
 
     /// Appends that a walk went by a word that satp had, if it has another one now. `lead` comes first.
-    pub fn put_root(&self, out: &mut String, told: &Told, lead: &str) -> Result<(), AllocError> {
+    pub(crate) fn put_root(
+        &self,
+        out: &mut String,
+        told: &Told,
+        lead: &str,
+    ) -> Result<(), AllocError> {
         let Some(root) = told.way.root else {
             return Ok(());
         };
@@ -188,7 +193,7 @@ impl Recorded {
     }
 
     /// Appends which PTEs and which satp a walk went by that are not there now.
-    pub fn put_whence(
+    pub(crate) fn put_whence(
         &self,
         out: &mut String,
         extensions: Extensions,

@@ -1,6 +1,6 @@
 // `Answer`: an enum, what is answered to a line; and `put_answer`: an answer as a line of text.
 
-ghost use Rattle.mmu_lines.specs.Requests.{IsError};
+ghost use Rattle.mmu_answers.specs.Answers.{IsError};
 
 use crate::outcomes::{OutcomeLine, put_outcome};
 use line_fields::Mistake;
@@ -79,15 +79,17 @@ fn put_list(out: &mut String, lines: &[OutcomeLine]) -> Result<(), AllocError> {
 
 /// Appends why an outcome is permitted.
 fn put_permitted(out: &mut String, line: &OutcomeLine) -> Result<(), AllocError> {
-    out.push_str("permitted (")?;
-    match &line.as_of {
-        Some(as_of) => out.push_str(as_of.as_str())?,
-        None => {
-            out.push_str(line.by.text())?;
-            out.push_str(line.by.now())?;
-        }
-    }
-    out.push_str(")")
+    let (text, now) = match &line.as_of {
+        Some(as_of) => (as_of.as_str(), ""),
+        None => (line.by.text(), line.by.now()),
+    };
+    write!(out, "permitted ({text}{now})")
+}
+
+/// Appends why an outcome is not permitted, and those that are.
+fn put_denied(out: &mut String, reason: &str, permitted: &[OutcomeLine]) -> Result<(), AllocError> {
+    write!(out, "NOT permitted: {reason}. Permitted: ")?;
+    put_list(out, permitted)
 }
 
 fn put_error(out: &mut String, column: &Option<usize>, text: &str) -> Result<(), AllocError> {
@@ -99,30 +101,29 @@ fn put_error(out: &mut String, column: &Option<usize>, text: &str) -> Result<(),
     out.push_str(text)
 }
 
+/// Appends an answer as text.
+fn put_text(out: &mut String, answer: &Answer) -> Result<(), AllocError> {
+    match answer {
+        Answer::Ok | Answer::Locked(Lock::Nothing) => out.push_str("ok"),
+        Answer::Version => out.push_str("mmu protocol 2"),
+        Answer::Satp(word) => write!(out, "satp {word}"),
+        Answer::Locked(Lock::All) => out.push_str("locked"),
+        Answer::Locked(Lock::Address) => out.push_str("address locked"),
+        Answer::NoEffect(va) => write!(out, "no effect: {va} is no address under the present MODE"),
+        Answer::Outcomes(outcomes) => put_list(out, outcomes.as_slice()),
+        Answer::Permitted(line) => put_permitted(out, line),
+        Answer::NotPermitted { reason, permitted } => {
+            put_denied(out, reason.as_str(), permitted.as_slice())
+        }
+        Answer::Error { column, text } => put_error(out, column, text.as_str()),
+    }
+}
+
 /// Appends an answer as a line of text.
 ///
 /// # Errors
 /// `AllocError`: the host is out of memory.
 pub fn put_answer(out: &mut String, answer: &Answer) -> Result<(), AllocError> {
-    match answer {
-        Answer::Ok | Answer::Locked(Lock::Nothing) => out.push_str("ok")?,
-        Answer::Version => out.push_str("mmu protocol 2")?,
-        Answer::Satp(word) => write!(out, "satp {word}")?,
-        Answer::Locked(Lock::All) => out.push_str("locked")?,
-        Answer::Locked(Lock::Address) => out.push_str("address locked")?,
-        Answer::NoEffect(va) => write!(
-            out,
-            "no effect: {va} is no address under the present MODE"
-        )?,
-        Answer::Outcomes(outcomes) => put_list(out, outcomes.as_slice())?,
-        Answer::Permitted(line) => put_permitted(out, line)?,
-        Answer::NotPermitted { reason, permitted } => {
-            out.push_str("NOT permitted: ")?;
-            out.push_str(reason.as_str())?;
-            out.push_str(". Permitted: ")?;
-            put_list(out, permitted.as_slice())?;
-        }
-        Answer::Error { column, text } => put_error(out, column, text.as_str())?,
-    }
+    put_text(out, answer)?;
     out.push('\n')
 }

@@ -34,7 +34,7 @@ struct Fence {
 
 /// A history without fences.
 #[derive(Drop)]
-pub(crate) struct Witness {
+pub struct Witness {
     alloc: Global,
     unfenced: Recorded,
     /// The history in which each satp has ASID 0, too.

@@ -30,7 +30,7 @@ struct Seeking {
 }
 
 impl Sink for Seeking {
-    ghost use Rattle.mmu_lines.specs.Seeking.{Has, Sought, has_still, has_told, sought_again, sought_nothing, sought_on};
+    ghost use Rattle.mmu_reasons.specs.Seeking.{Has, Sought, has_still, has_told, sought_again, sought_nothing, sought_on};
 
     ghost gains = { Sought };
 
@@ -131,19 +131,14 @@ fn seek_aim<L: Log>(log: &L, extensions: Extensions, request: Request, aim: Aim)
 }
 
 /// Returns the outcome that a client tells with the way on which the oldest is newest; `None` if the search comes by none.
-pub(crate) fn seek<L: Log>(
-    log: &L,
-    extensions: Extensions,
-    request: Request,
-    claim: Claim,
-) -> Option<Told>
+pub fn seek<L: Log>(log: &L, extensions: Extensions, request: Request, claim: Claim) -> Option<Told>
     requires { 1 ≤ request.width }
 {
     seek_aim(log, extensions, request, Aim::Claimed(claim))
 }
 
 /// Returns a refusal by a leaf that leads to a physical address, also one by A or D alone; `None` if there is none.
-pub(crate) fn seek_refusal<L: Log>(
+pub fn seek_refusal<L: Log>(
     log: &L,
     extensions: Extensions,
     request: Request,

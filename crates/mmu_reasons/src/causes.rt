@@ -105,7 +105,11 @@ impl Telling<'_> {
     }
 
     /// Returns why an outcome is a refusal; `None` if it is none.
-    pub fn reason(&self, way: &Way, outcome: &Outcome) -> Result<Option<String>, AllocError> {
+    pub(crate) fn reason(
+        &self,
+        way: &Way,
+        outcome: &Outcome,
+    ) -> Result<Option<String>, AllocError> {
         match outcome {
             Outcome::Granted { .. } => Ok(None),
             Outcome::Refused { cause, update }

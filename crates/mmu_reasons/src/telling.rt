@@ -2,12 +2,12 @@
 
 ghost use Rattle.std.specs.Prelude.{◌≡◌, IfOk, IfSome};
 
-use crate::outcomes::{By, OutcomeLine};
 use crate::recorded::Recorded;
 use crate::walking::walk_among;
 use crate::ways::end_of;
 use access_history::{Outcome, Request};
 use access_judge::{Log, Told, Way};
+use mmu_answers::{By, OutcomeLine};
 use std::alloc::{AllocError, Global};
 use sv39_entry::Mode;
 use walk_lines::Hex;
@@ -15,11 +15,11 @@ use walk_rules::{Extensions, MemoryType, is_canonical, top_level};
 
 /// An access, and the history by which it is judged.
 #[derive(Clone, Copy)]
-pub(crate) struct Telling<'a> {
-    pub alloc: Global,
-    pub recorded: &'a Recorded,
-    pub extensions: Extensions,
-    pub request: Request,
+pub struct Telling<'a> {
+    pub(crate) alloc: Global,
+    pub(crate) recorded: &'a Recorded,
+    pub(crate) extensions: Extensions,
+    pub(crate) request: Request,
     /// The walk over memory, satp and PMP as they are; `None`: the address is not translated.
     walk: Option<Way>,
 }
@@ -52,7 +52,7 @@ impl<'a> Telling<'a> {
 
 impl Telling<'_> {
     /// The mode by which leaves are judged, if the address is translated.
-    pub fn mode(&self) -> Option<Mode> {
+    pub(crate) fn mode(&self) -> Option<Mode> {
         top_level(self.recorded.unit.satp())?;
         self.privilege().translation_mode()
     }
