@@ -1,9 +1,9 @@
-// `Answer`: how a line was answered, as far as that is to be explained; read from the text of its answer.
+// `Answer`: how a line was answered otherwise than by plain success; read from the text of its answer.
 
 use script_reader::{first_field, number};
 
-/// How a line was answered. Numbers are those of the answer's text.
-#[derive(Clone, Copy, PartialEq, Eq)]
+/// How a line was answered otherwise than by plain success. Numbers are those of the answer's text.
+#[derive(Clone, Copy)]
 pub enum Answer {
     /// A step was refused, by the refusal of this number.
     Refused(u64),
@@ -13,8 +13,33 @@ pub enum Answer {
     Ended(u64),
     /// A kernel copy stopped, by the rule of this number, after so many bytes.
     Short(u64, u64),
-    /// Plain success.
-    Plain,
+}
+
+/// The word with which an answer begins that is no plain success.
+#[derive(Clone, Copy)]
+enum Word {
+    Refused,
+    Fault,
+    Ended,
+    Short,
+}
+
+/// These words.
+static WORDS: [(&[u8], Word); 4] = [
+    (b"refused", Word::Refused),
+    (b"fault", Word::Fault),
+    (b"ended", Word::Ended),
+    (b"short", Word::Short),
+];
+
+/// Returns the word that a text is; `None` if it is none of them.
+fn word_of(text: &[u8]) -> Option<Word> {
+    for (word, it) in WORDS.as_slice() {
+        if *word == text {
+            return Some(*it);
+        }
+    }
+    None
 }
 
 /// Splits off the first field of a text, a number. `None`: it is none.
@@ -33,18 +58,14 @@ fn short(text: &[u8]) -> Option<Answer> {
 }
 
 impl Answer {
-    /// Returns how a line was answered whose answer is this text.
-    pub fn of(text: &[u8]) -> Answer {
-        let Some((word, rest)) = first_field(text) else {
-            return Answer::Plain;
-        };
-        let told = match word {
-            b"refused" => first_number(rest).map(|told| Answer::Refused(told.0)),
-            b"fault" => first_number(rest).map(|told| Answer::Fault(told.0)),
-            b"ended" => first_number(rest).map(|told| Answer::Ended(told.0)),
-            b"short" => short(rest),
-            _ => None,
-        };
-        told.unwrap_or(Answer::Plain)
+    /// Returns how a line was answered whose answer is this text; `None` if that is plain success.
+    pub fn of(text: &[u8]) -> Option<Answer> {
+        let (field, rest) = first_field(text)?;
+        match word_of(field)? {
+            Word::Refused => Some(Answer::Refused(first_number(rest)?.0)),
+            Word::Fault => Some(Answer::Fault(first_number(rest)?.0)),
+            Word::Ended => Some(Answer::Ended(first_number(rest)?.0)),
+            Word::Short => short(rest),
+        }
     }
 }

@@ -36,22 +36,24 @@ impl Before {
         free: 0,
     };
 
+    /// Returns the slot of the process on the hart that a command names, and the access of that process that faulted.
+    fn faulted(machine: &Machine, command: &Command) -> Option<(usize, Pending)> {
+        let slot = machine.slot(CommandWord::of(command).hart?)?;
+        Some((slot, machine.pending(slot)?))
+    }
+
     /// Returns what is seen of a machine before a command.
     fn of_command(machine: &Machine, command: &Command) -> Before
         requires world { (w : World) × IsInWorld machine.now w }
     {
-        let slot = CommandWord::of(command)
-            .hart
-            .and_then(|hart| machine.slot(hart));
-        let pending = slot.and_then(|slot| machine.pending(slot));
-        let (Some(slot), Some(access)) = (slot, pending) else {
+        let Some((slot, access)) = Before::faulted(machine, command) else {
             return Before {
                 free: machine.report().free,
                 ..Before::NOTHING
             };
         };
         Before {
-            pending,
+            pending: Some(access),
             region: machine.region(slot, access.va),
             needed: service_need(machine, slot, access.va),
             free: machine.report().free,

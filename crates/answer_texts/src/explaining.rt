@@ -224,10 +224,9 @@ pub fn explain_answer(
 ) -> Result<Option<String>, AllocError>
     requires played { (s : Played) × HasPlayed player.now s }
 {
-    let answer = Answer::of(player.answer());
-    if answer == Answer::Plain {
+    let Some(answer) = Answer::of(player.answer()) else {
         return Ok(None);
-    }
+    };
     let (Some(machine), Ok(Some(Item::Command(command)))) = (
         player.machine(),
         line_item(alloc, player.draft(), trim_return(line)),
@@ -245,6 +244,5 @@ pub fn explain_answer(
         Answer::Fault(_) => explain_fault(alloc, machine, &command),
         Answer::Ended(number) => explain_end(alloc, machine, before, number),
         Answer::Short(number, done) => explain_short(alloc, machine, &command, number, done),
-        Answer::Plain => Ok(None),
     }
 }

@@ -32,13 +32,22 @@ fn is_denied(machine: &Machine, slot: Option<usize>, access: Option<Pending>) ->
         )
 }
 
+/// Returns the access that faulted and was not served, of the process in a slot.
+fn waiting(machine: &Machine, slot: Option<usize>) -> Option<Pending> {
+    let access = machine.pending(slot?)?;
+    if access.served {
+        return None;
+    }
+    Some(access)
+}
+
 impl Stand {
-    /// Returns where a hart of the machine is; `None` if there is no such hart.
-    fn of(machine: &Machine, hart: usize) -> Option<Stand> {
+    /// Returns where the hart that a line names is; `None` if it names none, or there is no such hart.
+    fn of(machine: &Machine, hart: Option<usize>) -> Option<Stand> {
+        let hart = hart?;
         let phase = machine.phase(hart)?;
         let slot = machine.slot(hart);
-        let pending = slot.and_then(|slot| machine.pending(slot));
-        let waits = pending.filter(|access| !access.served);
+        let waits = waiting(machine, slot);
         Some(Stand {
             hart,
             phase,
@@ -254,7 +263,7 @@ pub fn explain_phase(
     command: CommandWord,
     slot: Option<usize>,
 ) -> Result<Option<String>, AllocError> {
-    let Some(stand) = command.hart.and_then(|hart| Stand::of(machine, hart)) else {
+    let Some(stand) = Stand::of(machine, command.hart) else {
         return Ok(None);
     };
     let mut text = String::new(alloc);

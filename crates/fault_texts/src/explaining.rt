@@ -51,6 +51,21 @@ fn not_ascii(alloc: Global, line: &[u8]) -> Result<Option<Mistake>, AllocError>
     Ok(None)
 }
 
+/// What is said of a word that may not stand here.
+fn order_text(alloc: Global, draft: &Draft, row: &Row) -> Result<String, AllocError> {
+    if draft.in_order(Keyword::Boot) {
+        let quote = quoted(alloc, row.text)?;
+        return format!(in alloc;
+            "{quote} needs a machine: a line such as \"boot 1 64 4 full\" must stand before it"
+        );
+    }
+    if row.word == Keyword::Boot {
+        return String::from_str(alloc, "this is a second \"boot\", and a script has one");
+    }
+    let quote = quoted(alloc, row.text)?;
+    format!(in alloc; "{quote} must stand before \"boot\"")
+}
+
 /// What is wrong with a line whose word may not stand here.
 fn out_of_order(
     alloc: Global,
@@ -64,18 +79,7 @@ fn out_of_order(
     if draft.in_order(row.word) {
         return Ok(None);
     }
-    let text = if draft.in_order(Keyword::Boot) {
-        let quote = quoted(alloc, row.text)?;
-        format!(in alloc;
-            "{quote} needs a machine: a line such as \"boot 1 64 4 full\" must stand before it"
-        )?
-    } else if row.word == Keyword::Boot {
-        String::from_str(alloc, "this is a second \"boot\", and a script has one")?
-    } else {
-        let quote = quoted(alloc, row.text)?;
-        format!(in alloc; "{quote} must stand before \"boot\"")?
-    };
-    Ok(Some(Mistake::at(word.column, text)))
+    Ok(Some(Mistake::at(word.column, order_text(alloc, draft, row)?)))
 }
 
 /// What is wrong with a line whose first field is a word, for one of the causes from `Order` on.

@@ -59,12 +59,25 @@ fn nearest_word(alloc: Global, field: &[u8]) -> Result<Option<&'static [u8]>, Al
     Ok(nearest)
 }
 
+/// The words that ask about the machine between the lines of a script.
+static QUESTIONS: [&[u8]; 4] = [b"regions", b"vmprint", b"tlb", b"frames"];
+
+/// Whether a first field asks about the machine.
+fn is_question(field: &[u8]) -> bool {
+    for question in QUESTIONS.as_slice() {
+        if *question == field {
+            return true;
+        }
+    }
+    false
+}
+
 /// What would be right in place of a first field that is no word of scripts.
 fn advice(alloc: Global, field: &[u8]) -> Result<String, AllocError> {
     if Row::find_for_threads(field).is_some() {
         return String::from_str(alloc, "it is a word of files for \"xv6vm threads\"");
     }
-    if matches!(field, b"regions" | b"vmprint" | b"tlb" | b"frames") {
+    if is_question(field) {
         let text = "it asks about the machine, which \"xv6lab show\" and \"xv6lab repl\" answer";
         return String::from_str(alloc, text);
     }

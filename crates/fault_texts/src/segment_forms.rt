@@ -14,11 +14,13 @@ const FLAGS: &str = "FLAGS are letters of r, w and x, each at most once, or - fo
 
 /// The number of parts of a field, which colons separate.
 fn part_count(field: &[u8]) -> usize {
-    field
-        .iter()
-        .filter(|byte| **byte == b':')
-        .count()
-        .saturating_add(1)
+    let mut parts = 1usize;
+    'bytes: for byte in field {
+        if *byte == b':' {
+            parts = parts.saturating_add(1);
+        }
+    }
+    parts
 }
 
 /// The first part of a field.

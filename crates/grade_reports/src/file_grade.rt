@@ -3,7 +3,8 @@
 ghost use Rattle.std.specs.Prelude.{◌≡◌, ◌+◌, ◌≤◌, ◌==◌, IfOk, length, vec_len};
 ghost use Rattle.handouts.specs.Marks.{blanks_of, rights_of};
 
-use handouts::{Asked, Grade, Line, Mark, grade_lines, put_reason, reason_of, word_of};
+use crate::reasons::{put_reason, reason_of, word_of};
+use handouts::{Asked, Grade, Line, Mark, grade_lines};
 use std::alloc::{AllocError, Global};
 
 /// Whether a student's file could be read, and as what.

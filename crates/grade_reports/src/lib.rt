@@ -1,13 +1,19 @@
 //! What graded files have of a handout, as a table for people (`put_table`), as CSV, as JSON objects, and as the results that Gradescope
-//! takes (`ResultsObject`). `FileGrade` is what is known of one file.
+//! takes (`ResultsObject`). `FileGrade` is what is known of one file; `reason_of` says why an answer is wrong without the right one; `Head` is
+//! the comment by which a variant of a handout names its student.
 #![tactic(auto)]
 
 mod csv_rows;
 mod file_grade;
+mod forms;
+mod heads;
 mod objects;
+mod reasons;
 mod table;
 
 pub use csv_rows::{csv_head, csv_row};
 pub use file_grade::{BlankText, FileGrade, Standing};
+pub use heads::Head;
 pub use objects::{FileObject, MarkObject, ResultsObject, TestObject};
+pub use reasons::{Reason, put_reason, reason_of, word_of};
 pub use table::{notes_of, put_summary, put_table};

@@ -6,7 +6,7 @@ ghost use Rattle.handouts.specs.Expected.{IsComment, IsWhole, IsApart};
 use memchr::memmem;
 
 /// A line without the answer that it expects, and that answer. Blanks around both are dropped.
-#[derive(Clone, Copy, PartialEq, Eq, Debug)]
+#[derive(Clone, Copy)]
 pub struct Expected<'a> {
     pub line: &'a [u8],
     /// `None` if the line has no `=>`.

@@ -14,7 +14,7 @@ use handouts::split;
 use line_player::{LinePlayer, LineReply};
 use line_traces::trace_line;
 use pictures::{Page, PageHead, put_picture};
-use std::alloc::{AllocError, Global};
+use std::alloc::Global;
 use std::io::Write;
 
 /// Draws the machine after the last line.
@@ -108,7 +108,7 @@ impl Listener for KeptLines<'_> {
             chosen.pass(number);
         }
         self.text.extend_from_slice(bare)?;
-        self.text.push(b'\n').map_err(AllocError::from)?;
+        self.text.push(b'\n')?;
         Ok(())
     }
 

@@ -30,7 +30,9 @@ impl Reading for ElfLine<'_> {
         let read = reader
             .take(LONGEST_IMAGE as u64 + 1)
             .read_to_end(&mut bytes);
-        read.map_err(Fault::of_reading)?;
+        if let Err(error) = read {
+            return Err(Fault::of_reading(error));
+        }
         if bytes.len() > LONGEST_IMAGE {
             let file = self.file;
             screen.err(format!(in alloc;

@@ -4,7 +4,7 @@ ghost use Rattle.std.specs.Prelude.{◌≤◌, IfOk};
 
 use crate::screen::Screen;
 use clap::error::ErrorKind;
-use std::alloc::{AllocError, Global};
+use std::alloc::{AllocError, AllocFailed, Global};
 use std::{fmt, io};
 
 /// Why the program ends before its end.
@@ -106,6 +106,13 @@ impl fmt::Display for Fault {
 
 impl From<AllocError> for Fault {
     fn from(_e: AllocError) -> Fault {
+        Fault::Memory
+    }
+}
+
+/// A value that found no place in a list.
+impl<T: Drop> From<AllocFailed<T>> for Fault {
+    fn from(_e: AllocFailed<T>) -> Fault {
         Fault::Memory
     }
 }

@@ -11,7 +11,7 @@ use crate::play::played;
 use crate::screen::Screen;
 use handouts::{Answer, Asked, Line, blank_count, lines_of};
 use line_player::{LinePlayer, LineReply};
-use std::alloc::{AllocError, Global};
+use std::alloc::Global;
 
 /// The most lines that a handout may have that are neither empty nor comments.
 pub const LONGEST_HANDOUT: usize = 1000;
@@ -104,7 +104,7 @@ fn play_lines<S: Screen>(
         last = line.number as u64;
         let right = right_answer(alloc, screen, file, &mut player, &line)?;
         let asked = Asked { line, right };
-        handout.push(asked).map_err(AllocError::from)?;
+        handout.push(asked)?;
     }
     tell_end(alloc, screen, file, &player, last)?;
     Ok(handout)

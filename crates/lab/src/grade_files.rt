@@ -9,9 +9,9 @@ use crate::lab::{Host, Reading};
 use crate::screen::Screen;
 use class_lists::{ListFault, Student, students_of};
 use grade_reports::{
-    FileGrade, FileObject, ResultsObject, Standing, csv_head, csv_row, put_summary, put_table,
+    FileGrade, FileObject, Head, ResultsObject, Standing, csv_head, csv_row, put_summary, put_table,
 };
-use handouts::{Asked, Head, Line, lines_of};
+use handouts::{Asked, Line, lines_of};
 use lab_variants::Lab;
 use memchr::memchr;
 use std::alloc::{AllocError, Global};
@@ -149,13 +149,13 @@ fn add_target<F: Files>(
             file: String::from_str(alloc, path)?,
             id: None,
         };
-        return Ok(targets.push(target).map_err(AllocError::from)?);
+        return Ok(targets.push(target)?);
     }
     match files_in(files, alloc, path) {
         Ok(paths) => {
             for file in paths {
                 let target = Target { file, id: None };
-                targets.push(target).map_err(AllocError::from)?;
+                targets.push(target)?;
             }
             Ok(())
         }

@@ -54,7 +54,7 @@ impl InspectDump<'_> {
         'satps: for word in &self.words.satps {
             let satp = Satp::from_word(*word);
             match Space::read(alloc, dump, self.words.extensions, satp) {
-                Ok(space) => spaces.push(space).map_err(AllocError::from)?,
+                Ok(space) => spaces.push(space)?,
                 Err(error) => {
                     let file = self.words.file.as_str();
                     screen.err(format!(in alloc; "{file}: satp 0x{word:x}: {error}\n")?.as_str())?;
@@ -207,7 +207,9 @@ impl Reading for InspectDump<'_> {
         screen: &mut S,
     ) -> Result<(), Fault> {
         let mut bytes = Vec::new(alloc);
-        reader.read_to_end(&mut bytes).map_err(Fault::of_reading)?;
+        if let Err(error) = reader.read_to_end(&mut bytes) {
+            return Err(Fault::of_reading(error));
+        }
         let dump = Dump::new(self.words.base, bytes.as_slice());
         let spaces = self.spaces(alloc, screen, &dump)?;
         let found = self.findings(alloc, &dump, spaces.as_slice())?;

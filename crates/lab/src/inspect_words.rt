@@ -84,7 +84,7 @@ fn satps_of(alloc: Global, given: &ArgMatches<'_>) -> Result<Vec<u64>, Fault> {
     if let Some(words) = given.get_strs("satp") {
         for word in words {
             let satp = number_of(alloc, "--satp", word)?;
-            satps.push(satp).map_err(AllocError::from)?;
+            satps.push(satp)?;
         }
     }
     Ok(satps)

@@ -55,7 +55,10 @@ pub fn labs<'a>(alloc: Global) -> Result<Command<'a>, AllocError> {
 impl LabWords {
     /// Returns what the word is told. The name of the lab was checked.
     pub fn of(alloc: Global, given: &ArgMatches<'_>) -> Result<LabWords, AllocError> {
-        let lab = given.get_str("NAME").and_then(Lab::of_name);
+        let lab = match given.get_str("NAME") {
+            Some(name) => Lab::of_name(name),
+            None => None,
+        };
         let seed = match given.get_str("TEXT") {
             Some(text) => Some(String::from_str(alloc, text)?),
             None => None,

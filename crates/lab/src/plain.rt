@@ -7,14 +7,23 @@ use script_language::FieldKind;
 use script_reader::{Row, first_field};
 use std::alloc::{AllocError, Global};
 
+/// The names in POSIX of the flags of mmap, with their numbers here.
+static FLAGS: [(&[u8], u8); 5] = [
+    (b"PROT_READ", 1),
+    (b"PROT_WRITE", 2),
+    (b"PROT_EXEC", 4),
+    (b"MAP_SHARED", 1),
+    (b"MAP_PRIVATE", 2),
+];
+
 /// Returns the number of a flag of mmap, by its name in POSIX.
 fn flag_of(name: &[u8]) -> Option<u8> {
-    match name {
-        b"PROT_READ" | b"MAP_SHARED" => Some(1),
-        b"PROT_WRITE" | b"MAP_PRIVATE" => Some(2),
-        b"PROT_EXEC" => Some(4),
-        _ => None,
+    for (flag, number) in FLAGS.as_slice() {
+        if *flag == name {
+            return Some(*number);
+        }
     }
+    None
 }
 
 /// Returns the number that names of flags stand for, with `|` between them; `None` if it is another field.
@@ -40,21 +49,38 @@ fn put_bytes(out: &mut Vec<u8>, field: &[u8]) -> Result<(), AllocError> {
     }
 }
 
+/// Returns how many colons a field has.
+fn colons_in(field: &[u8]) -> usize {
+    let mut count = 0usize;
+    'bytes: for byte in field {
+        if *byte == b':' {
+            count = count.saturating_add(1);
+        }
+    }
+    count
+}
+
+/// Appends a segment without the `0x` before its bytes, which come after its last colon.
+fn put_segment(out: &mut Vec<u8>, field: &[u8]) -> Result<(), AllocError> {
+    let end = match memrchr(b':', field) {
+        Some(at) => at.saturating_add(1),
+        None => 0,
+    };
+    let (front, bytes) = field.split_at(end.min(field.len()));
+    out.extend_from_slice(front)?;
+    put_bytes(out, bytes)
+}
+
 /// Appends a field of this kind as `xv6vm` takes it.
 fn put_field(out: &mut Vec<u8>, kind: Option<FieldKind>, field: &[u8]) -> Result<(), AllocError> {
     match kind {
         Some(FieldKind::Number) => match flags_of(field) {
             // at most 7, the sum of all three
-            Some(flags) => out.push(b'0'.wrapping_add(flags)).map_err(AllocError::from),
+            Some(flags) => Ok(out.push(b'0'.wrapping_add(flags))?),
             None => out.extend_from_slice(field),
         },
         Some(FieldKind::Hex) => put_bytes(out, field),
-        Some(FieldKind::Segment) if field.iter().filter(|byte| **byte == b':').count() == 3 => {
-            let end = memrchr(b':', field).map_or(0, |at| at.saturating_add(1));
-            let (front, bytes) = field.split_at(end.min(field.len()));
-            out.extend_from_slice(front)?;
-            put_bytes(out, bytes)
-        }
+        Some(FieldKind::Segment) if colons_in(field) == 3 => { put_segment(out, field) }
         _ => out.extend_from_slice(field),
     }
 }

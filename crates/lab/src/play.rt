@@ -65,6 +65,16 @@ pub fn played<S: Screen>(
     Ok(reply)
 }
 
+/// Whether a word is one of some words.
+pub fn is_among(words: &[&[u8]], word: &[u8]) -> bool {
+    'words: for one in words {
+        if *one == word {
+            return true;
+        }
+    }
+    false
+}
+
 /// Returns a line without its line feed.
 pub fn without_feed(line: &[u8]) -> &[u8] {
     match line {
@@ -86,7 +96,10 @@ pub fn read_line<R: Read + Drop>(
     line: &mut Vec<u8>,
 ) -> Result<usize, Fault> {
     let mut front = reader.by_ref().take(LONGEST_READ);
-    front.read_until(b'\n', line).map_err(Fault::of_reading)
+    match front.read_until(b'\n', line) {
+        Ok(count) => Ok(count),
+        Err(error) => Err(Fault::of_reading(error)),
+    }
 }
 
 /// Reads a script to its end and gives each of its lines to the listener, with a player that has taken no line at first.

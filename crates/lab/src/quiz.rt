@@ -5,7 +5,7 @@ ghost use Rattle.line_player.specs.Answers.{HasPlayed};
 ghost use Rattle.line_player.specs.PlayedLines.{Played};
 
 use crate::fault::Fault;
-use crate::play::{Listener, each_line};
+use crate::play::{Listener, each_line, is_among};
 use crate::screen::Screen;
 use line_player::LinePlayer;
 use line_traces::{put_trace, trace_line};
@@ -55,8 +55,8 @@ impl Listener for Seen {
         let mut text = String::new(self.alloc);
         put_trace(&mut text, &trace)?;
         let picture = self.drawing(player)?;
-        self.traces.push(text).map_err(AllocError::from)?;
-        self.pictures.push(picture).map_err(AllocError::from)?;
+        self.traces.push(text)?;
+        self.pictures.push(picture)?;
         Ok(())
     }
 
@@ -110,7 +110,10 @@ fn mmu_answers(alloc: Global, lines: &[Line]) -> Result<Vec<Vec<u8>>, PlayFault>
     let mut answers = Vec::new(alloc);
     'lines: for line in lines {
         let answer = mmu_answer(alloc, &mut player, line)?;
-        answers.push(answer).map_err(AllocError::from)?;
+        match answers.push(answer) {
+            Ok(()) => {}
+            Err(_) => return Err(PlayFault::Memory),
+        }
     }
     compare(alloc, lines, answers.as_slice())?;
     Ok(answers)
@@ -124,6 +127,19 @@ fn indices(alloc: Global, address: u64) -> Result<String, AllocError> {
     format!(in alloc; "VPN[2] {first}, VPN[1] {middle}, VPN[0] {last}, offset 0x{offset:x}")
 }
 
+/// The words of lines that access an address.
+static ACCESSES: [&[u8]; 3] = [b"load", b"store", b"fetch"];
+
+/// Returns the address that a line accesses; `None` if it accesses none.
+fn accessed(line: &[u8]) -> Option<u64> {
+    let (word, rest) = first_field(line)?;
+    if !is_among(ACCESSES.as_slice(), word) {
+        return None;
+    }
+    let (field, _) = first_field(rest)?;
+    number(field)
+}
+
 /// Returns what happens on a line for the reference MMU: the indices of its address, if it accesses one, and the whole answer.
 fn mmu_trace(
     alloc: Global,
@@ -132,10 +148,7 @@ fn mmu_trace(
     answer: &str,
 ) -> Result<String, AllocError> {
     let mut text = format!(in alloc; "{number_of_line:>4}  {line}\n")?;
-    if let Some((b"load" | b"store" | b"fetch", rest)) = first_field(line.as_bytes())
-        && let Some((field, _)) = first_field(rest)
-        && let Some(address) = number(field)
-    {
+    if let Some(address) = accessed(line.as_bytes()) {
         let indices = indices(alloc, address)?;
         let indices = indices.as_str();
         writeln!(&mut text, "        {indices}")?;
@@ -272,7 +285,7 @@ impl Game {
                 self.line(at),
                 self.answer(at),
             )?;
-            self.traces.push(trace).map_err(AllocError::from)?;
+            self.traces.push(trace)?;
         }
         Ok(())
     }

@@ -87,6 +87,14 @@ pub fn quiz<'a>(alloc: Global) -> Result<Command<'a>, AllocError> {
         .arg(answers)
 }
 
+/// Returns the subject, whose name was checked.
+fn subject_of(given: &ArgMatches<'_>) -> Subject {
+    match given.get_str("SUBJECT") {
+        Some(name) => Subject::of_name(name).unwrap_or(Subject::Cow),
+        None => Subject::Cow,
+    }
+}
+
 /// Returns what is done with the quiz.
 fn form_of(given: &ArgMatches<'_>) -> Form {
     if given.get_flag("page") {
@@ -106,10 +114,7 @@ impl QuizWords {
         let out = given.get_str("OUT").unwrap_or("-");
         let count = given.get_one::<u64>("Q").unwrap_or(5);
         Ok(QuizWords {
-            subject: given
-                .get_str("SUBJECT")
-                .and_then(Subject::of_name)
-                .unwrap_or(Subject::Cow),
+            subject: subject_of(given),
             seed: given.get_one::<u64>("N").unwrap_or(0),
             count: usize::try_from(count).unwrap_or(12),
             form: form_of(given),

@@ -30,6 +30,35 @@ const BANNER: &str =
 const OWN_LINES: &str =
     "  regions SLOT\n  vmprint SLOT\n  tlb HART\n  frames\n  undo\n  save FILE\n  help, ?\n  quit\n";
 
+/// What a line asks for that is neither a line of a script nor a question about the machine.
+#[derive(Clone, Copy)]
+enum Wish {
+    Help,
+    Undo,
+    Quit,
+    /// `exit` alone, which is `quit` in other programs.
+    Exit,
+}
+
+/// The lines that ask for that.
+static WISHES: [(&[u8], Wish); 5] = [
+    (b"?", Wish::Help),
+    (b"help", Wish::Help),
+    (b"undo", Wish::Undo),
+    (b"quit", Wish::Quit),
+    (b"exit", Wish::Exit),
+];
+
+/// Returns what a line asks for, without blanks around it; `None` if it is another line.
+fn wish_of(line: &[u8]) -> Option<Wish> {
+    'wishes: for (text, wish) in WISHES.as_slice() {
+        if *text == line {
+            return Some(*wish);
+        }
+    }
+    None
+}
+
 /// Answers each line at once.
 #[derive(Drop)]
 pub struct ReplLines<'a, F: Files> {
@@ -93,7 +122,7 @@ impl<'a, F: Files> ReplLines<'a, F> {
         let mut text = Vec::new(self.alloc);
         'lines: for line in self.taken.as_slice() {
             text.extend_from_slice(line.as_slice())?;
-            text.push(b'\n').map_err(AllocError::from)?;
+            text.push(b'\n')?;
         }
         let count = self.taken.len();
         match fs::write(self.files, name, text.as_slice()) {
@@ -172,7 +201,7 @@ impl<'a, F: Files> ReplLines<'a, F> {
     /// Keeps a line that was taken.
     fn keep(&mut self, line: &[u8]) -> Result<(), AllocError> {
         let line = Vec::from_slice(self.alloc, line)?;
-        self.taken.push(line).map_err(AllocError::from)
+        Ok(self.taken.push(line)?)
     }
 
     /// Plays a line of a script, and prints its answer.
@@ -205,6 +234,26 @@ impl<'a, F: Files> ReplLines<'a, F> {
         }
     }
 
+    /// Plays a line of a script, or answers a question about the machine.
+    fn play_or_look<S: Screen>(
+        &mut self,
+        screen: &mut S,
+        player: &mut LinePlayer,
+        line: &[u8],
+    ) -> Result<(), Fault>
+        requires played { (s : Played) × HasPlayed player.old s }
+        ensures played { IfOk result (λ _. (s : Played) × HasPlayed player.new s) }
+        ensures whole { IfOk result (λ _. S.whole screen.old → S.whole screen.new) }
+    {
+        match look_of(line) {
+            Asked::No => self.play(screen, player, line),
+            Asked::Yes(look) => self.look(screen, player, look),
+            Asked::Wrong(text) => {
+                screen.out(format!(in self.alloc; "column 1: {text}\n")?.as_str())
+            }
+        }
+    }
+
     /// Does what a line asks for.
     fn answer<S: Screen>(
         &mut self,
@@ -220,23 +269,17 @@ impl<'a, F: Files> ReplLines<'a, F> {
             let name = std::str::from_utf8(name.trim_ascii()).unwrap_or("");
             return self.save(screen, name);
         }
-        match line.trim_ascii() {
-            b"?" | b"help" => self.tell_lines(screen),
-            b"undo" => self.undo(screen, player),
-            b"quit" => {
+        match wish_of(line.trim_ascii()) {
+            Some(Wish::Help) => self.tell_lines(screen),
+            Some(Wish::Undo) => self.undo(screen, player),
+            Some(Wish::Quit) => {
                 self.over = true;
                 Ok(())
             }
-            b"exit" => screen.out(
+            Some(Wish::Exit) => screen.out(
                 "`exit HART STATUS` ends a process; `quit` or Ctrl-D ends `repl`\n",
             ),
-            _ => match look_of(line) {
-                Asked::No => self.play(screen, player, line),
-                Asked::Yes(look) => self.look(screen, player, look),
-                Asked::Wrong(text) => {
-                    screen.out(format!(in self.alloc; "column 1: {text}\n")?.as_str())
-                }
-            },
+            None => self.play_or_look(screen, player, line),
         }
     }
 }

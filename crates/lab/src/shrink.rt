@@ -7,7 +7,7 @@ use crate::screen::Screen;
 use mmu_lines::put_answer;
 use mmu_shrink::{Line, Shrunk, shrink};
 use script_reader::trim_return;
-use std::alloc::{AllocError, Global};
+use std::alloc::Global;
 use std::io::{BufReader, Read};
 
 /// Prints the fewest lines by which one stays not permitted.
@@ -24,7 +24,7 @@ fn read_lines<R: Read + Drop>(alloc: Global, reader: R) -> Result<Vec<Line>, Fau
             break;
         }
         let text = Vec::from_slice(alloc, trim_return(without_feed(line.as_slice())))?;
-        lines.push(Line { text }).map_err(AllocError::from)?;
+        lines.push(Line { text })?;
     }
     Ok(lines)
 }

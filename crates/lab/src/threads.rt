@@ -5,7 +5,7 @@ ghost use Rattle.std.specs.Prelude.{IfOk};
 
 use crate::fault::Fault;
 use crate::mistakes::Place;
-use crate::play::{read_line, without_feed};
+use crate::play::{is_among, read_line, without_feed};
 use crate::screen::Screen;
 use fork_cycles::{Warning, warn_of_forks};
 use script_language::{Cause, LONGEST_SCRIPT};
@@ -22,10 +22,13 @@ fn word_of(line: &[u8]) -> Option<&[u8]> {
     Some(word)
 }
 
+/// The words of lines that declare a file or an image.
+static DECLARATIONS: [&[u8]; 3] = [b"file", b"image", b"elf"];
+
 /// Whether the lines before a line with this word can be the same in a script and in a file for threads: it declares a file or an
 /// image.
 fn declares(word: &[u8]) -> bool {
-    matches!(word, b"file" | b"image" | b"elf")
+    is_among(DECLARATIONS.as_slice(), word)
 }
 
 /// Reads the lines before the first that is neither skipped nor a declaration, and that line. They are added to `front`. Returns whether
@@ -59,9 +62,10 @@ pub fn begins_for_threads<R: Read + Drop>(
 /// # Errors
 /// `Read`: the reader failed. `Memory`: the host is out of memory.
 pub fn read_rest<R: Read + Drop>(reader: BufReader<R>, front: &mut Vec<u8>) -> Result<(), Fault> {
-    let read = reader.take(LONGEST_SCRIPT as u64 + 1).read_to_end(front);
-    read.map_err(Fault::of_reading)?;
-    Ok(())
+    match reader.take(LONGEST_SCRIPT as u64 + 1).read_to_end(front) {
+        Ok(_) => Ok(()),
+        Err(error) => Err(Fault::of_reading(error)),
+    }
 }
 
 /// Tells the first fault of a file for threads, and returns `Told`.

@@ -71,13 +71,18 @@ pub fn usertest<'a>(alloc: Global) -> Result<Command<'a>, AllocError> {
         .arg(program(alloc))
 }
 
+/// Returns what the tests ask, whose name was checked.
+fn kind_of(given: &ArgMatches<'_>) -> Kind {
+    match given.get_str("KIND") {
+        Some(name) => Kind::of_name(name).unwrap_or(Kind::Cow),
+        None => Kind::Cow,
+    }
+}
+
 /// Returns the tests that are asked for. Their numbers were checked.
 fn tests_of(given: &ArgMatches<'_>) -> Tests {
     Tests {
-        kind: given
-            .get_str("KIND")
-            .and_then(Kind::of_name)
-            .unwrap_or(Kind::Cow),
+        kind: kind_of(given),
         seed: given.get_one::<u64>("N").unwrap_or(0),
         count: given.get_one::<u64>("C").unwrap_or(1),
         steps: given.get_one::<u32>("K").unwrap_or(40),

@@ -57,14 +57,10 @@ fn names(rt: &HostRuntime) -> io::Result<Vec<String>> {
 /// Returns the words of a command line, the program's name first.
 fn words_of(alloc: Global, line: &str) -> Result<Vec<String>, AllocError> {
     let mut words = Vec::new(alloc);
-    words
-        .push(String::from_str(alloc, "xv6lab")?)
-        .map_err(AllocError::from)?;
+    words.push(String::from_str(alloc, "xv6lab")?)?;
     for word in line.split(' ') {
         if !word.is_empty() {
-            words
-                .push(String::from_str(alloc, word)?)
-                .map_err(AllocError::from)?;
+            words.push(String::from_str(alloc, word)?)?;
         }
     }
     Ok(words)
@@ -89,10 +85,22 @@ fn input_of(alloc: Global, input: &[u8]) -> Result<Vec<u8>, AllocError> {
     Ok(whole)
 }
 
+/// Returns how many bytes there are before the first line feed.
+fn line_length(bytes: &[u8]) -> usize {
+    let mut length = 0usize;
+    'bytes: for byte in bytes {
+        if *byte == b'\n' {
+            break;
+        }
+        length = length.saturating_add(1);
+    }
+    length
+}
+
 /// Does what a run says, and returns what it printed and its exit status.
 fn printed(rt: &HostRuntime, run: &[u8]) -> Result<String, AllocError> {
     let alloc = rt.alloc();
-    let length = run.iter().take_while(|byte| **byte != b'\n').count();
+    let length = line_length(run);
     let (line, input) = (
         run.get(..length).unwrap_or(&[]),
         run.get(length.saturating_add(1)..).unwrap_or(&[]),
@@ -117,9 +125,16 @@ fn printed(rt: &HostRuntime, run: &[u8]) -> Result<String, AllocError> {
 
 /// Returns the number of the first line in which two texts differ, counted from 1.
 fn first_difference(got: &[u8], wanted: &[u8]) -> usize {
-    let same = got.iter().zip(wanted).take_while(|(a, b)| a == b).count();
-    let lines = got.iter().take(same).filter(|byte| **byte == b'\n').count();
-    lines.saturating_add(1)
+    let mut line = 1usize;
+    'bytes: for (byte, other) in got.iter().zip(wanted) {
+        if *byte != *other {
+            break;
+        }
+        if *byte == b'\n' {
+            line = line.saturating_add(1);
+        }
+    }
+    line
 }
 
 /// Does what the run of this name says, and prints whether it printed what it should.

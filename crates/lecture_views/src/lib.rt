@@ -1,22 +1,14 @@
-//! What a page for a lecture shows of a machine, as data that becomes JSON: harts with their TLBs, processes with their regions and
-//! page tables, frames with the names of their pages, files, and the bytes that a line touches (`ShownParts`, a part each, put when it
-//! changed).
+//! What a page for a lecture says of memory: the valid entries of page tables (`entries_of`, `EntryView`), the names of the pages that are in
+//! a frame (`names_in`, `names_of`), and eight bytes of a frame (`bytes_at`); and text within a page, with what HTML reads otherwise escaped
+//! (`put_escaped`, `put_script_text`).
 #![tactic(auto)]
 
-mod cells;
+mod bytes;
 mod entries;
-mod files;
-mod frames;
-mod harts;
+mod escape;
 mod names;
-mod parts;
-mod slots;
 
-pub use cells::{CellRow, CellView};
+pub use bytes::bytes_at;
 pub use entries::{EntryView, entries_of};
-pub use files::{FilePlace, FileView, files_of};
-pub use frames::{FrameView, FramesView, TablesView};
-pub use harts::{HartView, harts_of};
-pub use names::{LeafName, PageName};
-pub use parts::{ShownParts, json_of};
-pub use slots::{RegionView, SlotView};
+pub use escape::{put_escaped, put_script_text};
+pub use names::{LeafName, PageName, names_in, names_of};

@@ -1,7 +1,7 @@
 // `Mistake`, a struct: what is wrong with a line of a script, as text, and the column of the field at fault.
 
 /// What is wrong with a line of a script, and what would be right.
-#[derive(PartialEq, Eq, Debug, Drop)]
+#[derive(Drop)]
 pub struct Mistake {
     /// The column of the field at fault, or of the byte, counted from 1; `None`: the line as a whole is at fault.
     pub column: Option<usize>,

@@ -1,16 +1,24 @@
 // `is_number_form`, `is_negative_form`: which fields look like numbers; `wrong_number`: what is wrong with one that is none.
 
 use crate::quoting::quoted;
-use script_reader::{decimal_value, hexadecimal_value};
+use script_reader::hexadecimal_value;
 use std::alloc::{AllocError, Global};
+
+/// Returns whether a text is digits of this base, 10 or 16, and at least one.
+fn are_digits(text: &[u8], base: u8) -> bool {
+    'digits: for digit in text {
+        if hexadecimal_value(*digit) >= base {
+            return false;
+        }
+    }
+    !text.is_empty()
+}
 
 /// Returns whether a field has the form of a number of any size: decimal digits, or `0x` and hexadecimal digits.
 pub fn is_number_form(field: &[u8]) -> bool {
     match field {
-        [b'0', b'x', digits @ ..] => {
-            !digits.is_empty() && digits.iter().all(|digit| hexadecimal_value(*digit) < 16)
-        }
-        _ => !field.is_empty() && field.iter().all(|digit| decimal_value(*digit) < 10),
+        [b'0', b'x', digits @ ..] => are_digits(digits, 16),
+        _ => are_digits(field, 10),
     }
 }
 

@@ -18,7 +18,7 @@ use script_reader::{Draft, LineFault, line_item, lines_fit, trim_return};
 use std::alloc::{AllocError, Global};
 
 /// How a line was answered.
-#[derive(Clone, Copy, PartialEq, Eq, Debug)]
+#[derive(Clone, Copy, PartialEq, Eq)]
 pub enum LineReply {
     /// It is empty, a comment or a declaration.
     Nothing,

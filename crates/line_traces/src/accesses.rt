@@ -57,11 +57,15 @@ impl AccessLine {
                 name: rule.name(),
             }),
         };
+        let region = match machine.region(slot, va) {
+            Some(region) => Some(RegionLine::of(region)),
+            None => None,
+        };
         Some(AccessLine {
             access: access_name(access),
             address: Hex(va.0),
             width,
-            region: machine.region(slot, va).map(RegionLine::of),
+            region,
             rule,
         })
     }

@@ -42,6 +42,11 @@ pub struct Changes {
     pub buffer: Option<Vec<BufferLine>>,
 }
 
+/// Returns the slot of the process on a hart; `None` if there is no process.
+pub fn slot_at(place: Option<HartPlace>) -> Option<usize> {
+    place?.slot
+}
+
 /// Returns the leaves of the process on a hart; none if there is no process.
 fn leaves_at(
     alloc: Global,
@@ -50,7 +55,7 @@ fn leaves_at(
 ) -> Result<Vec<TableEntry>, AllocError>
     requires world { (w : World) × IsInWorld machine.now w }
 {
-    match place.and_then(|place| place.slot) {
+    match slot_at(place) {
         Some(slot) => leaves_of(alloc, machine, slot),
         None => Ok(Vec::new(alloc)),
     }
@@ -118,7 +123,7 @@ impl Snapshot {
     ) -> Result<Vec<LeafChange>, AllocError>
         requires world { (w : World) × IsInWorld machine.now w }
     {
-        if self.place.map(|place| place.slot) != now.map(|place| place.slot) {
+        if slot_at(self.place) != slot_at(now) {
             return Ok(Vec::new(alloc));
         }
         let leaves = leaves_at(alloc, machine, now)?;

@@ -5,6 +5,7 @@ ghost use Rattle.hart_machine.specs.BufferEntries.{IsInWorld};
 ghost use Rattle.process_model.specs.World.{World};
 
 use crate::accesses::{AccessLine, leaf_of, reason};
+use crate::changes::slot_at;
 use crate::requests::Request;
 use crate::walks::{WalkLine, reference_count, walk_of};
 use hart_machine::Machine;
@@ -53,6 +54,11 @@ fn walk_from(
 fn entry_of(machine: &Machine, hart: usize, number: usize) -> Option<BufferLine> {
     let entry = machine.buffer(hart)?.entry(number)?;
     Some(BufferLine::of(number, entry))
+}
+
+/// Returns the word of an entry's leaf; `None` if it has none.
+fn word_of(entry: BufferLine) -> Option<u64> {
+    Some(entry.leaf?.word.0)
 }
 
 impl Request {
@@ -116,7 +122,7 @@ impl RequestTrace {
         let entry = request.entry(machine);
         let walk = request.walk(alloc, machine)?;
         let leaf = match entry {
-            Some(entry) => entry.leaf.map(|leaf| leaf.word.0),
+            Some(entry) => word_of(entry),
             None => leaf_of(walk.as_slice()),
         };
         Ok(RequestTrace {
@@ -179,7 +185,7 @@ fn served_walk(
 ) -> Result<Vec<WalkLine>, AllocError>
     requires world { (w : World) × IsInWorld machine.now w }
 {
-    let (Some(slot), Some(access)) = (place.and_then(|place| place.slot), access) else {
+    let (Some(slot), Some(access)) = (slot_at(place), access) else {
         return Ok(Vec::new(alloc));
     };
     match machine.root(slot) {

@@ -106,6 +106,18 @@ fn put_request(out: &mut String, request: &RequestTrace) -> Result<(), AllocErro
     Ok(())
 }
 
+/// Returns the hart of a line, 0 if it names none; and whether it served an access.
+fn hart_and_service(trace: &LineTrace) -> (usize, bool) {
+    let hart = match trace.before {
+        Some(before) => before.hart,
+        None => 0,
+    };
+    match &trace.request {
+        Some(request) => (hart, request.serves),
+        None => (hart, false),
+    }
+}
+
 /// Puts what is other after a line; `serves` says that the line served an access.
 fn put_changes(
     out: &mut String,
@@ -146,8 +158,7 @@ pub fn put_trace(out: &mut String, trace: &LineTrace) -> Result<(), AllocError> 
         writeln!(out, "        {note}")?;
     }
     if let Some(changes) = &trace.changes {
-        let hart = trace.before.map_or(0, |before| before.hart);
-        let serves = trace.request.as_ref().is_some_and(|request| request.serves);
+        let (hart, serves) = hart_and_service(trace);
         put_changes(out, changes, hart, serves)?;
     }
     Ok(())

@@ -55,6 +55,10 @@ impl Described for WalkLine {}
 impl Serialize for WalkLine {
     fn serialize<S: Serializer>(&self, out: &mut S) -> Result<(), S::Error> {
         let entry = self.entry;
+        let (word, flags) = match entry.word {
+            Some(word) => (Some(Hex(word)), Some(Flags(word))),
+            None => (None, None),
+        };
         let (kind, ppn) = match entry.word {
             Some(word) => meaning(word),
             None => ("outside the memory", None),
@@ -63,8 +67,8 @@ impl Serialize for WalkLine {
             level: entry.level,
             table: Hex(entry.table),
             index: entry.index,
-            word: entry.word.map(Hex),
-            flags: entry.word.map(Flags),
+            word,
+            flags,
             kind,
             ppn,
             references: self.references,

@@ -4,7 +4,6 @@
 #![tactic(auto)]
 
 mod cells;
-mod escape;
 mod frames;
 mod harts;
 mod legend;
@@ -16,6 +15,7 @@ mod picture;
 mod processes;
 mod quiz_page;
 mod uses;
+mod views;
 
 pub use page::{Page, PageHead};
 pub use picture::put_picture;

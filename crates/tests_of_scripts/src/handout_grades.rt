@@ -1,6 +1,7 @@
 // Tests that lines are found in order, as many as can be, also if some are alike; and what is said of each wrong answer.
 
-use handouts::{Asked, Head, Mark, grade_lines, lines_of, put_reason, reason_of, word_of};
+use grade_reports::{Head, put_reason, reason_of, word_of};
+use handouts::{Asked, Mark, grade_lines, lines_of};
 use std::alloc::{AllocError, Global};
 use std::test::Fail;
 

@@ -19,15 +19,24 @@ impl Screen for Console<'_> {
     ghost whole = { λ console. ⊤ };
 
     fn out(&mut self, text: &str) -> Result<(), Fault> {
-        print!(self.rt; "{text}").map_err(Fault::Io)
+        match print!(self.rt; "{text}") {
+            Ok(()) => Ok(()),
+            Err(error) => Err(Fault::Io(error)),
+        }
     }
 
     fn out_bytes(&mut self, bytes: &[u8]) -> Result<(), Fault> {
-        io::writer(self.rt).write_all(bytes).map_err(Fault::Io)
+        match io::writer(self.rt).write_all(bytes) {
+            Ok(()) => Ok(()),
+            Err(error) => Err(Fault::Io(error)),
+        }
     }
 
     fn err(&mut self, text: &str) -> Result<(), Fault> {
-        eprint!(self.rt; "{text}").map_err(Fault::Io)
+        match eprint!(self.rt; "{text}") {
+            Ok(()) => Ok(()),
+            Err(error) => Err(Fault::Io(error)),
+        }
     }
 }
 

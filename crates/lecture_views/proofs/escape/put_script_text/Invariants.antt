@@ -1,7 +1,7 @@
 use Rattle.std.proofs.Common.{◌≡◌, ◌++◌, flat_map}
 use Rattle.std.specs.String.{string_bytes}
-use Rattle.pictures.specs.Escaped.{script_escape}
-use Rattle.pictures.proofs.escape.put_script_text.Given as goal
+use Rattle.lecture_views.specs.Escaped.{script_escape}
+use Rattle.lecture_views.proofs.escape.put_script_text.Given as goal
 
 -- the characters so far were put, each as in a script
 abbrev pub invariant-characters : goal.invariant-characters

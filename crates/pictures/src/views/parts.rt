@@ -3,11 +3,11 @@
 ghost use Rattle.hart_machine.specs.BufferEntries.{IsInWorld};
 ghost use Rattle.process_model.specs.World.{World};
 
-use crate::cells::CellView;
-use crate::files::{FilePlace, file_place, files_of};
-use crate::frames::FramesView;
-use crate::harts::harts_of;
-use crate::slots::SlotView;
+use crate::views::cells::CellView;
+use crate::views::files::{FilePlace, file_place, files_of};
+use crate::views::frames::FramesView;
+use crate::views::harts::harts_of;
+use crate::views::slots::SlotView;
 use hart_machine::Machine;
 use line_traces::Touched;
 use serde::Serialize;

@@ -21,110 +21,110 @@ pub enum Part {
 #[derive(Clone, Copy)]
 struct Row {
     word: &'static str,
-    answers: &'static str,
+    answers: &'static [&'static str],
 }
 
 /// The words of the answers to each line, as docs/SCRIPTS.md has them.
 static ROWS: [Row; 25] = [
     Row {
         word: "boot",
-        answers: "ok",
+        answers: &["ok"],
     },
     Row {
         word: "start",
-        answers: "slot refused",
+        answers: &["slot", "refused"],
     },
     Row {
         word: "on",
-        answers: "ok refused",
+        answers: &["ok", "refused"],
     },
     Row {
         word: "switch",
-        answers: "ok refused",
+        answers: &["ok", "refused"],
     },
     Row {
         word: "enter",
-        answers: "ok refused",
+        answers: &["ok", "refused"],
     },
     Row {
         word: "leave",
-        answers: "ok refused",
+        answers: &["ok", "refused"],
     },
     Row {
         word: "fix",
-        answers: "ready ended refused",
+        answers: &["ready", "ended", "refused"],
     },
     Row {
         word: "trap",
-        answers: "ok refused",
+        answers: &["ok", "refused"],
     },
     Row {
         word: "next",
-        answers: "ok refused",
+        answers: &["ok", "refused"],
     },
     Row {
         word: "serve",
-        answers: "ready ended refused",
+        answers: &["ready", "ended", "refused"],
     },
     Row {
         word: "fetch",
-        answers: "value fault refused",
+        answers: &["value", "fault", "refused"],
     },
     Row {
         word: "load",
-        answers: "value fault refused",
+        answers: &["value", "fault", "refused"],
     },
     Row {
         word: "store",
-        answers: "stored fault refused",
+        answers: &["stored", "fault", "refused"],
     },
     Row {
         word: "fill",
-        answers: "entry nothing refused",
+        answers: &["entry", "nothing", "refused"],
     },
     Row {
         word: "evict",
-        answers: "ok refused",
+        answers: &["ok", "refused"],
     },
     Row {
         word: "tramp",
-        answers: "frame fault refused",
+        answers: &["frame", "fault", "refused"],
     },
     Row {
         word: "fork",
-        answers: "slot refused",
+        answers: &["slot", "refused"],
     },
     Row {
         word: "exec",
-        answers: "ok refused",
+        answers: &["ok", "refused"],
     },
     Row {
         word: "sbrk",
-        answers: "old refused",
+        answers: &["old", "refused"],
     },
     Row {
         word: "mmap",
-        answers: "at refused",
+        answers: &["at", "refused"],
     },
     Row {
         word: "munmap",
-        answers: "ok refused",
+        answers: &["ok", "refused"],
     },
     Row {
         word: "copyin",
-        answers: "copied short refused",
+        answers: &["copied", "short", "refused"],
     },
     Row {
         word: "copyout",
-        answers: "copied short refused",
+        answers: &["copied", "short", "refused"],
     },
     Row {
         word: "exit",
-        answers: "exited refused",
+        answers: &["exited", "refused"],
     },
     Row {
         word: "show",
-        answers: "file",
+        answers: &["file"],
     },
 ];
 
@@ -183,10 +183,10 @@ static COUNTS: [Part; 7] = [
     Part::Decimal("references"),
 ];
 
-/// Whether a word is one of some words with a blank between each two.
-fn has_word(words: &str, word: &str) -> bool {
-    'words: for one in words.split(' ') {
-        if one == word {
+/// Whether a word is one of some words.
+fn has_word(words: &[&str], word: &str) -> bool {
+    'words: for one in words {
+        if *one == word {
             return true;
         }
     }
@@ -257,11 +257,21 @@ pub fn form_of(line: &str, word: &str, count: usize) -> Option<&'static [Part]> 
     }
 }
 
+/// Whether all of some bytes are decimal digits.
+fn are_decimal(bytes: &[u8]) -> bool {
+    'bytes: for byte in bytes {
+        if !byte.is_ascii_digit() {
+            return false;
+        }
+    }
+    true
+}
+
 /// Whether a text is a number in decimal digits, without zeros before it.
 fn is_decimal(text: &str) -> bool {
     match text.as_bytes() {
         [b'0'] => true,
-        [b'1'..=b'9', rest @ ..] => rest.iter().all(|digit| digit.is_ascii_digit()),
+        [b'1'..=b'9', rest @ ..] => are_decimal(rest),
         _ => false,
     }
 }
@@ -271,23 +281,40 @@ fn is_hex(digit: u8) -> bool {
     matches!(digit, b'0'..=b'9' | b'a'..=b'f')
 }
 
+/// Whether all of some bytes are hexadecimal digits in lower case.
+fn are_hex(bytes: &[u8]) -> bool {
+    'bytes: for byte in bytes {
+        if !is_hex(*byte) {
+            return false;
+        }
+    }
+    true
+}
+
 /// Whether a text is `0x` and a number in hexadecimal digits, without zeros before it.
 fn is_hexadecimal(text: &str) -> bool {
     match text.as_bytes() {
         [b'0', b'x', b'0'] => true,
         [b'0', b'x', b'0', ..] => false,
-        [b'0', b'x', first, rest @ ..] => is_hex(*first) && rest.iter().all(|digit| is_hex(*digit)),
+        [b'0', b'x', digits @ ..] => !digits.is_empty() && are_hex(digits),
         _ => false,
     }
+}
+
+/// Whether a text is letters and digits.
+fn is_name(text: &str) -> bool {
+    'bytes: for byte in text.as_bytes() {
+        if !byte.is_ascii_alphanumeric() {
+            return false;
+        }
+    }
+    !text.is_empty()
 }
 
 /// Whether a text is bytes in hexadecimal digits, or `-`.
 fn is_bytes(text: &str) -> bool {
     let digits = text.as_bytes();
-    text == "-"
-        || (!digits.is_empty()
-            && digits.len() % 2 == 0
-            && digits.iter().all(|digit| is_hex(*digit)))
+    text == "-" || (!digits.is_empty() && digits.len() % 2 == 0 && are_hex(digits))
 }
 
 impl Part {
@@ -301,13 +328,7 @@ impl Part {
                 Some(digits) => digits != "0" && is_decimal(digits),
                 None => is_decimal(text),
             },
-            Part::Name(_) => {
-                !text.is_empty()
-                    && text
-                        .as_bytes()
-                        .iter()
-                        .all(|byte| byte.is_ascii_alphanumeric())
-            }
+            Part::Name(_) => is_name(text),
             Part::Bytes(_) => is_bytes(text),
         }
     }

@@ -2,7 +2,7 @@
 
 ghost use Rattle.std.specs.Prelude.{◌≡◌, ◌++◌, OnOk};
 ghost use Rattle.std.specs.String.{string_bytes};
-ghost use Rattle.pictures.specs.Escaped.{escape, escaped, script_escape, script_escaped};
+ghost use Rattle.lecture_views.specs.Escaped.{escape, escaped, script_escape, script_escaped};
 
 use std::alloc::AllocError;
 

@@ -1,19 +1,15 @@
 // `CellView`: eight bytes around those that a line touches, in each process that maps their page or their frame.
 
-ghost use Rattle.std.specs.Prelude.{◌≡◌, ◌/◌, ◌%◌, option_map};
-ghost use Rattle.std.specs.Int.{to_le_bytes, w64};
 ghost use Rattle.hart_machine.specs.BufferEntries.{IsInWorld};
 ghost use Rattle.process_model.specs.World.{World};
-ghost use Rattle.table_walk.specs.Memory.{plain_memory};
 
-use crate::files::FilePlace;
-use crate::names::{LeafName, names_in};
+use crate::views::files::FilePlace;
 use hart_machine::Machine;
+use lecture_views::{LeafName, bytes_at, names_in};
 use line_traces::Touched;
 use serde::Serialize;
 use std::alloc::{AllocError, Global};
 use sv39_entry::PAGE_SIZE;
-use table_walk::Words;
 use walk_lines::Hex;
 
 /// The most rows of a cell.
@@ -42,18 +38,6 @@ pub struct CellView {
     pub file: Option<u64>,
     /// These bytes in each process that has the page, or another in its frame.
     pub rows: Vec<CellRow>,
-}
-
-/// Returns the eight bytes of a frame, by its physical page number, among which there is that of an address; `None` if the frame is
-/// outside the memory. Their order is that of their addresses, as the memory is little-endian.
-pub fn bytes_at(machine: &Machine, ppn: u64, address: u64) -> Option<[u8; 8]>
-    ensures { result ≡ option_map (to_le_bytes w64) (plain_memory machine.now.frames.words ppn (address % 4096 / 8)) }
-{
-    let mut words = machine.words();
-    match words.word(ppn, (address % PAGE_SIZE / 8) as usize) {
-        Some(word) => Some(word.to_le_bytes()),
-        None => None,
-    }
 }
 
 /// Returns the frames that processes have for a page.
@@ -104,10 +88,14 @@ impl CellView {
                 }
             }
         }
+        let file = match place {
+            Some(place) => Some(place.file),
+            None => None,
+        };
         Ok(CellView {
             at,
             width: touched.width,
-            file: place.map(|place| place.file),
+            file,
             rows,
         })
     }

@@ -4,9 +4,8 @@
 ghost use Rattle.hart_machine.specs.BufferEntries.{IsInWorld};
 ghost use Rattle.process_model.specs.World.{World};
 
-use crate::entries::entries_of;
-use crate::names::{LeafName, PageName, names_in, names_of};
 use hart_machine::Machine;
+use lecture_views::{LeafName, PageName, entries_of, names_in, names_of};
 use line_traces::frame_page;
 use serde::Serialize;
 use std::alloc::{AllocError, Global};
@@ -117,7 +116,13 @@ fn put_frames(
 
 /// Returns how many flags are set.
 fn count_set(flags: &[bool]) -> usize {
-    flags.iter().filter(|flag| **flag).count()
+    let mut count = 0usize;
+    for flag in flags {
+        if *flag {
+            count = count.saturating_add(1);
+        }
+    }
+    count
 }
 
 /// Returns how many page tables all processes have.

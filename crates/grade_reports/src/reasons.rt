@@ -1,9 +1,7 @@
 // `reason_of`: why an answer is wrong, without the right one (`Reason`, an enum); `put_reason`: that in words.
 
-use crate::alignment::Found;
 use crate::forms::{Part, form_of};
-use crate::lines::{Answer, Line};
-use crate::marks::{Asked, BlankMark, Mark};
+use handouts::{Answer, Asked, BlankMark, Found, Line, Mark};
 use script_reader::first_field;
 use std::alloc::{AllocError, Global};
 
@@ -44,8 +42,13 @@ fn cut(answer: &str) -> (&str, Option<&str>) {
 fn part_count(rest: Option<&str>) -> usize {
     match rest {
         Some(rest) => {
-            let blanks = rest.as_bytes().iter().filter(|byte| **byte == b' ').count();
-            blanks.saturating_add(1)
+            let mut parts = 1usize;
+            'bytes: for byte in rest.as_bytes() {
+                if *byte == b' ' {
+                    parts = parts.saturating_add(1);
+                }
+            }
+            parts
         }
         None => 0,
     }
@@ -67,6 +70,24 @@ fn fits(parts: &[Part], rest: Option<&str>) -> bool {
     true
 }
 
+/// Whether there is a part, and it is this text.
+fn is_text(part: Option<&str>, text: &str) -> bool {
+    match part {
+        Some(part) => part == text,
+        None => false,
+    }
+}
+
+/// Appends a name, unless it is the last already.
+fn put_name(names: &mut Vec<&'static str>, name: &'static str) -> Result<(), AllocError> {
+    if let Some(last) = names.last()
+        && *last == name
+    {
+        return Ok(());
+    }
+    Ok(names.push(name)?)
+}
+
 /// Returns the names of the parts in which two answers with one word differ.
 fn wrong_parts(
     alloc: Global,
@@ -77,17 +98,8 @@ fn wrong_parts(
     let mut names: Vec<&'static str> = Vec::new(alloc);
     let mut rights = right.split(' ');
     'parts: for (part, text) in parts.iter().zip(given.split(' ')) {
-        let is_same = match rights.next() {
-            Some(right) => right == text,
-            None => false,
-        };
-        let name = part.name();
-        let is_told = match names.last() {
-            Some(last) => *last == name,
-            None => false,
-        };
-        if !is_same && !is_told {
-            names.push(name)?;
+        if !is_text(rights.next(), text) {
+            put_name(&mut names, part.name())?;
         }
     }
     if names.is_empty() {
