@@ -1,6 +1,6 @@
 """Blocks of documents that show what the programs print.
 
-What the gate plays already is compared with that: stored runs of `lab_player` with their texts, and the answers that lines of examples
+What the gate plays already is compared with that: stored runs of `xv6lab` with their texts, and the answers that lines of examples
 expect. The programs are asked the rest.
 """
 import itertools
@@ -22,7 +22,7 @@ class Player:
     def __init__(self, root, programs):
         self.root, self.programs = root, programs
         self.stored, self.printed, self.answers = {}, set(), {}
-        data = root / "crates" / "lab_player" / "data"
+        data = root / "crates" / "xv6lab" / "data"
         for path in sorted(data.glob("*.run")):
             words, _, given = path.read_text(errors="replace").partition("\n")
             text = path.with_suffix(".expect").read_text(errors="replace")

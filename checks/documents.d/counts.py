@@ -6,7 +6,7 @@ from planted import PLANTED
 
 WORDS = "no one two three four five six seven eight nine ten eleven twelve thirteen fourteen fifteen sixteen seventeen eighteen".split()
 N = r"\b(?P<n>\d[\d,]*\d|\d|" + "|".join(WORDS) + r")\b"
-MOST_LINES, MOST_WORDS = 200, 78_600
+MOST_LINES, MOST_WORDS = 200, 78_500
 
 
 def number(text):
@@ -153,7 +153,7 @@ def check_counts(check, document):
 # A document, and the names that it must have.
 LISTS = [
     ("docs/ARCHITECTURE.md", lambda sources: {it for it in sources.crates if not it.startswith("tests_of_")}),
-    ("README.md", lambda sources: {it for it in sources.crates if not it.startswith("tests_of_")} - {"row_player", "lab_player", "walk_bench"}),
+    ("README.md", lambda sources: {it for it in sources.crates if not it.startswith("tests_of_")} - {"row_player", "walk_bench"}),
     ("docs/C_LIBRARY.md", lambda sources: set(re.findall(r"^(?!static|typedef)\w[\w ]* \**(xv6vm_\w+)\(", sources.text(HEADER), re.M))),
     ("docs/SCRIPTS.md", lambda sources: set(re.findall(r'make_row\(b"(\w+)"', sources.text(TABLE)))),
     ("docs/XV6.md", lambda sources: {it.name for it in sources.root.glob("examples/*.*")} - {"refused.script", "sv48.script"}),

@@ -1,4 +1,4 @@
-"""Dumps in crates/lab_player/data: ram.bin, which docs/KERNELS.md shows, a parent and its child after a fork by a kernel that leaves W set in the parent;
+"""Dumps in crates/xv6lab/data: ram.bin, which docs/KERNELS.md shows, a parent and its child after a fork by a kernel that leaves W set in the parent;
 and middle.bin, leaves on both sides of the middle of the addresses, where no run goes on."""
 import struct
 

@@ -7,8 +7,8 @@ import re
 
 # Where folders and files of the repository are in a release.
 PLACES = [
-    ("crates/lab_player/data/examples", "examples"),
-    ("crates/lab_player/data/labs", "labs"),
+    ("crates/xv6lab/data/examples", "examples"),
+    ("crates/xv6lab/data/labs", "labs"),
     ("crates/xv6vm_c/include/xv6vm.h", "../../include/xv6vm.h"),
     ("examples", "examples"),
     ("labs", "labs"),

@@ -7,9 +7,9 @@ use crate::grade::play_handout;
 use crate::grade_words::{Form, GradeWords, Source};
 use crate::lab::{Host, Reading};
 use crate::screen::Screen;
-use class_lists::{ListFault, Student, students_of};
 use grade_reports::{
-    FileGrade, FileObject, Head, ResultsObject, Standing, csv_head, csv_row, put_summary, put_table,
+    FileGrade, FileObject, Head, ListFault, ResultsObject, Standing, Student, csv_head, csv_row,
+    put_summary, put_table, students_of,
 };
 use handouts::{Asked, Line, lines_of};
 use lab_variants::Lab;

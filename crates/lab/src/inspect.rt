@@ -6,15 +6,14 @@ use crate::fault::Fault;
 use crate::inspect_words::InspectWords;
 use crate::lab::Reading;
 use crate::screen::Screen;
-use dump_lines::{
-    EntryLine, Finding, FindingLine, FindingObject, Leaves, RunLine, SpaceLine, SpaceObject,
-    TablesLine, leaf_findings, outside_findings, reserved_findings, runs_of, shared_findings,
-    table_findings,
-};
 use std::alloc::{AllocError, Global};
 use std::io::Read;
 use sv39_entry::Satp;
-use table_dumps::{Dump, Space};
+use table_dumps::{
+    Dump, EntryLine, Finding, FindingLine, FindingObject, Leaves, RunLine, Space, SpaceLine,
+    SpaceObject, TablesLine, leaf_findings, outside_findings, reserved_findings, runs_of,
+    shared_findings, table_findings,
+};
 use walk_rules::Extensions;
 
 /// Prints what a dump says.

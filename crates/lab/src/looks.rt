@@ -4,8 +4,7 @@ ghost use Rattle.hart_machine.specs.BufferEntries.{IsInWorld};
 ghost use Rattle.process_model.specs.World.{World};
 
 use hart_machine::Machine;
-use line_traces::{buffer_of, frame_page};
-use machine_views::RegionLine;
+use line_traces::{RegionLine, buffer_of, frame_page};
 use script_reader::{first_field, number};
 use std::alloc::AllocError;
 use walk_lines::{TableLine, TableTitle, table_entries};

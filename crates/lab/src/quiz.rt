@@ -15,8 +15,8 @@ use quiz_answers::{Script, choose};
 use quizzes::{Quiz, Subject, Teller, make};
 use script_reader::{first_field, number};
 use std::alloc::{AllocError, Global};
-use usertest_player::{PlayFault, compare, predicted_answers};
 use usertest_rows::Line;
+use usertest_text::{PlayFault, compare, predicted_answers};
 
 /// Keeps what happens on each line of a script and, if it is to be drawn, a picture of the machine after it.
 #[derive(Drop)]

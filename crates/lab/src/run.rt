@@ -8,9 +8,9 @@ use crate::fault::Fault;
 use crate::mistakes::{Place, tell_end, tell_refused};
 use crate::play::Listener;
 use crate::screen::Screen;
-use answer_texts::{Before, explain_answer};
 use handouts::{Expected, split};
 use line_player::{LinePlayer, LineReply};
+use line_traces::{Before, explain_answer};
 use script_reader::trim_return;
 use std::alloc::Global;
 

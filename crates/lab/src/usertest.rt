@@ -5,9 +5,8 @@ ghost use Rattle.std.specs.Prelude.{IfOk};
 use crate::fault::Fault;
 use crate::screen::Screen;
 use std::alloc::{AllocError, Global};
-use usertest_player::{PlayFault, put_test};
 use usertest_rows::Kind;
-use usertest_text::{Names, put_head, put_main};
+use usertest_text::{Names, PlayFault, put_head, put_main, put_test};
 use usertests::{Test, make};
 
 /// The names of the kinds of tests.

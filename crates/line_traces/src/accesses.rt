@@ -5,9 +5,10 @@ ghost use Rattle.std.specs.Prelude.{◌≡◌, ℕ, Some, is_none};
 ghost use Rattle.sv39_entry.specs.Word.{access_allowed};
 ghost use Rattle.line_traces.specs.Reasons.{IsGrantedLeaf, is_served};
 
+use crate::access_names::access_name;
+use crate::regions::RegionLine;
 use crate::walks::WalkLine;
 use hart_machine::Machine;
-use machine_views::{RegionLine, access_name};
 use serde::Serialize;
 use std::fmt;
 use sv39_entry::{Access, Entry, EntryFlags, Kind, Rule, Va};

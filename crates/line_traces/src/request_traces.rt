@@ -6,10 +6,10 @@ ghost use Rattle.process_model.specs.World.{World};
 
 use crate::accesses::{AccessLine, leaf_of, reason};
 use crate::changes::slot_at;
+use crate::places::HartPlace;
 use crate::requests::Request;
 use crate::walks::{WalkLine, reference_count, walk_of};
 use hart_machine::Machine;
-use machine_views::HartPlace;
 use serde::Serialize;
 use std::alloc::{AllocError, Global};
 use sv39_entry::{Mode, Va};

@@ -6,13 +6,14 @@ ghost use Rattle.line_player.specs.Answers.{Answers, HasPlayed};
 ghost use Rattle.line_player.specs.PlayedLines.{next_answer, Played};
 ghost use Rattle.process_model.specs.World.{World};
 
+use crate::before::Before as SeenBefore;
 use crate::changes::{Changes, Snapshot};
+use crate::explaining::explain_answer;
+use crate::places::HartPlace;
 use crate::request_traces::RequestTrace;
 use crate::requests::{Touched, hart_of, request_of, touched_by};
-use answer_texts::{Before as SeenBefore, explain_answer};
 use hart_machine::Machine;
 use line_player::{LinePlayer, LineReply};
-use machine_views::HartPlace;
 use script_language::{Command, Item};
 use script_reader::{LineFault, line_item, trim_return};
 use serde::Serialize;

@@ -1,4 +1,5 @@
 pub mod Claims
+pub mod Playing
 pub mod Requests
 pub mod States
 pub mod Writes

@@ -18,12 +18,12 @@ use Rattle.walk_rules.specs.declared.pmp.PmpEntry.{PmpEntry}
 use Rattle.mmu_lines.specs.Claims.{Tells}
 use Rattle.mmu_lines.specs.States.{State, asked, begun, with_past, with_status}
 use Rattle.mmu_lines.specs.Writes.{cut_asid, lock_of, satp_written}
-use Rattle.mmu_answers.specs.Answers.{IsError}
-use Rattle.mmu_answers.specs.declared.answers.Answer.{Answer}
-use Rattle.mmu_answers.specs.declared.answers.Answer.TheVariants as answer
-use Rattle.mmu_answers.specs.declared.answers.Lock.{Lock}
-use Rattle.mmu_answers.specs.declared.answers.Lock.TheVariants as lock
-use Rattle.mmu_answers.specs.declared.outcomes.OutcomeLine.{OutcomeLine}
+use Rattle.mmu_reasons.specs.Answers.{IsError}
+use Rattle.mmu_reasons.specs.declared.answers.Answer.{Answer}
+use Rattle.mmu_reasons.specs.declared.answers.Answer.TheVariants as answer
+use Rattle.mmu_reasons.specs.declared.answers.Lock.{Lock}
+use Rattle.mmu_reasons.specs.declared.answers.Lock.TheVariants as lock
+use Rattle.mmu_reasons.specs.declared.outcomes.OutcomeLine.{OutcomeLine}
 
 abbrev pub hex : ℕ → Hex
 hex n = record { 0 = n }

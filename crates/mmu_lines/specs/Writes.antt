@@ -3,8 +3,8 @@ use Rattle.std.specs.Prelude.{ℕ, Bool, true, false, ◌+◌, ◌*◌, ◌/◌,
 use Rattle.sv39_entry.specs.Satp.{asid, mode, root_ppn}
 use Rattle.walk_rules.specs.declared.pmp.PmpEntry.{PmpEntry}
 use Rattle.mmu_requests.specs.declared.profile.Profile.{Profile}
-use Rattle.mmu_answers.specs.declared.answers.Lock.{Lock}
-use Rattle.mmu_answers.specs.declared.answers.Lock.TheVariants as lock
+use Rattle.mmu_reasons.specs.declared.answers.Lock.{Lock}
+use Rattle.mmu_reasons.specs.declared.answers.Lock.TheVariants as lock
 
 -- a hart has a MODE (the standard, 4.1.11)
 abbrev pub has_mode : Profile → ℕ → Bool

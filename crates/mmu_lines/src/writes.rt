@@ -4,7 +4,7 @@ ghost use Rattle.std.specs.Prelude.{◌≡◌, ◌<◌, length};
 ghost use Rattle.mmu_lines.specs.Writes as writes;
 ghost use Rattle.sv39_entry.specs.Satp as satps;
 
-use mmu_answers::Lock;
+use mmu_reasons::Lock;
 use mmu_requests::Profile;
 use sv39_entry::Satp;
 use walk_rules::PmpEntry;

@@ -1,8 +1,12 @@
-//! What a reference MMU says of an outcome: what it is by (`Telling`), with the lines of the events (`Recorded`), and why it is not
-//! permitted (`Witness`, `seek_refusal`).
+//! The answers of a reference MMU, protocol 2 (`Answer`), with the outcomes in them (`OutcomeLine`), as text and as JSON
+//! (`put_answer`, `AnswerObject`). What it says of an outcome: what it is by (`Telling`), with the lines of the events
+//! (`Recorded`), and why it is not permitted (`Witness`, `seek_refusal`).
 #![tactic(auto)]
 
+mod answers;
 mod causes;
+mod objects;
+mod outcomes;
 mod present;
 mod reasons;
 mod recorded;
@@ -12,6 +16,9 @@ mod walking;
 mod ways;
 mod witness;
 
+pub use answers::{Answer, Lock, put_answer};
+pub use objects::{AnswerObject, ErrorObject, OutcomeObject, SetObject};
+pub use outcomes::{By, OutcomeLine};
 pub use recorded::Recorded;
 pub use seeking::{seek, seek_refusal};
 pub use telling::Telling;

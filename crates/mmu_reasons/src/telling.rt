@@ -2,12 +2,12 @@
 
 ghost use Rattle.std.specs.Prelude.{◌≡◌, IfOk, IfSome};
 
+use crate::outcomes::{By, OutcomeLine};
 use crate::recorded::Recorded;
 use crate::walking::walk_among;
 use crate::ways::end_of;
 use access_history::{Outcome, Request};
 use access_judge::{Log, Told, Way};
-use mmu_answers::{By, OutcomeLine};
 use std::alloc::{AllocError, Global};
 use sv39_entry::Mode;
 use walk_lines::Hex;

@@ -5,8 +5,7 @@ ghost use Rattle.process_model.specs.World.{World};
 
 use crate::cells::{SPACE, put_row};
 use hart_machine::Machine;
-use line_traces::buffer_of;
-use machine_views::HartPlace;
+use line_traces::{HartPlace, buffer_of};
 use std::alloc::AllocError;
 
 /// Puts where a hart is, and its buffer, and returns the height below them.

@@ -4,12 +4,12 @@ ghost use Rattle.std.specs.Prelude.{IfSome};
 ghost use Rattle.hart_machine.specs.BufferEntries.{IsInWorld};
 ghost use Rattle.process_model.specs.World.{World};
 
+use crate::escape::{put_escaped, put_script_text};
 use crate::page_body::BODY;
 use crate::page_script::SCRIPT;
 use crate::page_style::STYLE;
 use crate::views::{ShownParts, json_of};
 use hart_machine::Machine;
-use lecture_views::{put_escaped, put_script_text};
 use line_traces::{LineTrace, put_trace};
 use std::alloc::{AllocError, Global};
 

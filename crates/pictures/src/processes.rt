@@ -4,11 +4,10 @@ ghost use Rattle.hart_machine.specs.BufferEntries.{IsInWorld};
 ghost use Rattle.process_model.specs.World.{World};
 
 use crate::cells::{Grid, SPACE, put_cell, put_label, put_row};
+use crate::entries::entries_of;
 use address_space::{Region, RegionKind};
 use hart_machine::Machine;
-use lecture_views::entries_of;
-use line_traces::reference_count;
-use machine_views::RegionLine;
+use line_traces::{RegionLine, reference_count};
 use std::alloc::{AllocError, Global};
 use std::fmt;
 use sv39_entry::{Entry, EntryFlags, Kind};

@@ -1,6 +1,6 @@
 // A page of HTML that asks about lines of a script: `put_quiz_start`, for each question `put_question`, `put_quiz_end`.
 
-use lecture_views::put_escaped;
+use crate::escape::put_escaped;
 use std::alloc::AllocError;
 
 /// What stands before the title.

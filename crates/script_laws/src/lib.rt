@@ -1,7 +1,10 @@
-//! A theorem about the language of scripts (`script_language`): the text of every accepted script has, line by line, the
-//! replies of one run of the model, which meet the headline of `process_laws` (what a process may rely on).
+//! What scripts do. A theorem about their language (`script_language`): the text of every accepted script has, line by line, the
+//! replies of one run of the model, which meet the headline of `process_laws` (what a process may rely on). It is the `ensures`
+//! clause of a function that does nothing.
 //!
-//! The function does nothing. Its `ensures` clause is the theorem.
+//! And tests of the model (`process_model`), in `proofs/`, a file for each subject: whole scripts, each with the text that
+//! playing it writes or the fault for which it is refused, and some equations, computed from the definitions. `proofs/Playing`
+//! defines their row types, `proofs/Openings` and `proofs/ElfFiles` what many scripts share.
 #![tactic(auto)]
 
 ghost use Rattle.std.specs.Prelude.{◌≡◌, List, Ok, ℕ};

@@ -1,5 +1,5 @@
 //! What tests of files need: `RefusingFiles`, a struct of files that refuse one promise (a reservation of page I/O), and
-//! `copy_page`, a function over any `Files`. It has no tests: those of `file_cabinet` are in `tests_of_mappings`.
+//! `copy_page`, a function over any `Files`. It has no tests: those of `file_cabinet` are in `tests_of_processes`.
 #![tactic(auto)]
 
 mod page_copies;

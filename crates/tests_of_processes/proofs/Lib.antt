@@ -1,2 +1,4 @@
 pub mod KernelSteps
+pub mod Living
+pub mod Opening
 pub mod SpaceSteps

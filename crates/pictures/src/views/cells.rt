@@ -3,9 +3,10 @@
 ghost use Rattle.hart_machine.specs.BufferEntries.{IsInWorld};
 ghost use Rattle.process_model.specs.World.{World};
 
+use crate::bytes::bytes_at;
+use crate::names::{LeafName, names_in};
 use crate::views::files::FilePlace;
 use hart_machine::Machine;
-use lecture_views::{LeafName, bytes_at, names_in};
 use line_traces::Touched;
 use serde::Serialize;
 use std::alloc::{AllocError, Global};

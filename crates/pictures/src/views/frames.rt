@@ -4,8 +4,9 @@
 ghost use Rattle.hart_machine.specs.BufferEntries.{IsInWorld};
 ghost use Rattle.process_model.specs.World.{World};
 
+use crate::entries::entries_of;
+use crate::names::{LeafName, PageName, names_in, names_of};
 use hart_machine::Machine;
-use lecture_views::{LeafName, PageName, entries_of, names_in, names_of};
 use line_traces::frame_page;
 use serde::Serialize;
 use std::alloc::{AllocError, Global};

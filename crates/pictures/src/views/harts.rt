@@ -4,8 +4,7 @@ ghost use Rattle.hart_machine.specs.BufferEntries.{IsInWorld};
 ghost use Rattle.process_model.specs.World.{World};
 
 use hart_machine::Machine;
-use line_traces::buffer_of;
-use machine_views::HartPlace;
+use line_traces::{HartPlace, buffer_of};
 use serde::Serialize;
 use std::alloc::{AllocError, Global};
 use walk_lines::BufferLine;

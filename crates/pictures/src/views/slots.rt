@@ -3,10 +3,10 @@
 ghost use Rattle.hart_machine.specs.BufferEntries.{IsInWorld};
 ghost use Rattle.process_model.specs.World.{World};
 
+use crate::entries::{EntryView, entries_of};
 use address_space::Region;
 use hart_machine::Machine;
-use lecture_views::{EntryView, entries_of};
-use machine_views::RegionLine;
+use line_traces::RegionLine;
 use serde::Serialize;
 use std::alloc::{AllocError, Global};
 use sv39_entry::{Entry, Kind};

@@ -1,8 +1,0 @@
-use Rattle.std.proofs.Common.{◌≡◌, take}
-use Rattle.std.specs.List.{filter_map}
-use Rattle.lecture_views.specs.Names.{name_in}
-use Rattle.lecture_views.proofs.names.names_of.Given as goal
-
--- the pages of the leaves so far that are in the frame
-abbrev pub invariant-leaves : goal.invariant-leaves
-invariant-leaves l = l.names.items ≡ filter_map (name_in l.ppn) (take l.leaf-index l.leaves)

@@ -1,0 +1,7 @@
+use Rattle.mmu_lines.specs.States.{state_of}
+use Rattle.mmu_lines.proofs.playing.play.Given as goal
+use Rattle.mmu_lines.specs.Playing.{IsAfter}
+
+-- those of the first n lines that are kept were played, with fine answers
+abbrev pub invariant-lines : goal.invariant-lines
+invariant-lines l = IsAfter l.lines l.keeps l.n (state_of l.player)

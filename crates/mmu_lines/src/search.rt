@@ -1,0 +1,227 @@
+// `shrink`: removes lines as long as the last one stays not permitted, for the same reason.
+
+ghost use Rattle.std.specs.Prelude.{◌≡◌, ⊤, IfOk, MatchOption};
+ghost use Rattle.mmu_lines.specs.Playing.{IsDenied};
+
+use crate::line::Line;
+use crate::player::MmuPlayer;
+use crate::playing::{denies, is_fine, play};
+use mmu_reasons::Answer;
+use std::alloc::{AllocError, Global};
+
+/// The most removals that are tried.
+pub const MOST_TRIES: usize = 10_000;
+
+/// The most lines that are played to try removals.
+pub const MOST_LINES: usize = 10_000_000;
+
+/// What is left of lines of which one is not permitted.
+#[derive(Drop)]
+pub struct Shrunk {
+    /// Whether each line before that one is kept.
+    pub keeps: Vec<bool>,
+    /// The answer to that one, after those that are kept.
+    pub answer: Answer,
+    /// Whether the search ended before each removal was tried.
+    pub is_cut: bool,
+}
+
+/// A search for lines that may be removed.
+#[derive(Drop)]
+struct Search {
+    found: Shrunk,
+    /// The numbers of the lines that are kept.
+    places: Vec<usize>,
+    /// How many lines are tried to be removed at once.
+    size: usize,
+    /// How many lines that are kept come before those that are tried next.
+    at: usize,
+    /// Whether a line was removed since `at` was 0.
+    has_removed: bool,
+    is_done: bool,
+    /// How many lines were played.
+    played: usize,
+}
+
+/// Gives a player a line, and returns whether its answer is fine; `None` if it is `NOT permitted`.
+fn keep_of(player: &mut MmuPlayer, line: &Line) -> Result<Option<bool>, AllocError> {
+    match player.line(line.text.as_slice())? {
+        Some(answer) => {
+            if denies(&answer) {
+                Ok(None)
+            } else {
+                Ok(Some(is_fine(answer)))
+            }
+        }
+        None => Ok(Some(false)),
+    }
+}
+
+/// Whether each line before the first that is not permitted is one that is answered without an error; `None` if none is not permitted.
+fn fine_lines(alloc: Global, lines: &[Line]) -> Result<Option<Vec<bool>>, AllocError> {
+    let mut player = MmuPlayer::new(alloc);
+    let mut keeps = Vec::new(alloc);
+    'lines: for line in lines {
+        match keep_of(&mut player, line)? {
+            Some(keep) => keeps.push(keep)?,
+            None => return Ok(Some(keeps)),
+        }
+    }
+    Ok(None)
+}
+
+/// The numbers of the lines that are kept.
+fn places_of(alloc: Global, keeps: &[bool]) -> Result<Vec<usize>, AllocError> {
+    let mut places = Vec::new(alloc);
+    'keeps: for (n, keep) in keeps.iter().enumerate() {
+        if *keep {
+            places.push(n)?;
+        }
+    }
+    Ok(places)
+}
+
+/// Whether two texts differ at most in numbers of lines: in words after `line`.
+fn is_same_text(one: &str, other: &str) -> bool {
+    let mut others = other.split(' ');
+    let mut is_number = false;
+    'words: for word in one.split(' ') {
+        let Some(other) = others.next() else {
+            return false;
+        };
+        if !is_number && word != other {
+            return false;
+        }
+        is_number = word == "line";
+    }
+    others.next().is_none()
+}
+
+/// Whether two answers are `NOT permitted` for the same reason, and the walk over memory comes to the same.
+fn is_same(one: &Answer, other: &Answer) -> bool {
+    match (one, other) {
+        (
+            Answer::NotPermitted {
+                reason: one,
+                permitted: first,
+            },
+            Answer::NotPermitted {
+                reason: other,
+                permitted: second,
+            },
+        ) => is_same_text(one.as_str(), other.as_str()) && first.first() == second.first(),
+        _ => false,
+    }
+}
+
+impl Search {
+    /// Which lines are kept without those from `at` up to `end`.
+    fn without(&self, alloc: Global, end: usize) -> Result<Vec<bool>, AllocError> {
+        let mut keeps = Vec::from_slice(alloc, self.found.keeps.as_slice())?;
+        'places: for place in self.places.get(self.at..end).unwrap_or(&[]) {
+            if let Some(keep) = keeps.get_mut(*place) {
+                *keep = false;
+            }
+        }
+        Ok(keeps)
+    }
+
+    /// Goes on to the next lines that are to be tried.
+    fn turn(&mut self)
+        ensures { self.new.found ≡ self.old.found }
+    {
+        if self.at < self.places.len() {
+            return;
+        }
+        self.at = 0;
+        self.is_done = self.places.is_empty() || self.size <= 1 && !self.has_removed;
+        self.size -= self.size / 2;
+        self.has_removed = false;
+    }
+
+    /// Returns what is left without the lines from `at` up to `end`, if the answer is the same.
+    fn found_without(
+        &self,
+        alloc: Global,
+        lines: &[Line],
+        end: usize,
+    ) -> Result<Option<Shrunk>, AllocError>
+        ensures { IfOk result (λ found. MatchOption found ⊤ (λ s. IsDenied lines.now s.keeps.items s.answer)) }
+    {
+        let keeps = self.without(alloc, end)?;
+        match play(alloc, lines, keeps.as_slice())? {
+            Some(answer) if is_same(&self.found.answer, &answer) => Ok(Some(Shrunk {
+                keeps,
+                answer,
+                is_cut: false,
+            })),
+            _ => Ok(None),
+        }
+    }
+
+    /// Goes on from what was found.
+    fn take(&mut self, found: Shrunk)
+        ensures { self.new.found ≡ found }
+    {
+        self.found = found;
+        self.has_removed = true;
+    }
+
+    /// Tries to remove a run of lines.
+    fn step(&mut self, alloc: Global, lines: &[Line]) -> Result<(), AllocError>
+        requires { IsDenied lines.now self.old.found.keeps.items self.old.found.answer }
+        ensures { IfOk result (λ _. IsDenied lines.now self.new.found.keeps.items self.new.found.answer) }
+    {
+        let end = self.at.saturating_add(self.size).min(self.places.len());
+        self.played = self.played.saturating_add(self.places.len());
+        let Some(found) = self.found_without(alloc, lines, end)? else {
+            self.at = end;
+            self.turn();
+            return Ok(());
+        };
+        self.places = places_of(alloc, found.keeps.as_slice())?;
+        self.take(found);
+        self.turn();
+        Ok(())
+    }
+}
+
+/// Returns the fewest lines by which the first line that is not permitted stays so, for the same reason: no single line more can be removed, unless
+/// the search was cut. `None` if no line is not permitted.
+///
+/// # Errors
+/// `AllocError`: the host is out of memory.
+pub fn shrink(alloc: Global, lines: &[Line]) -> Result<Option<Shrunk>, AllocError>
+    ensures { IfOk result (λ shrunk. MatchOption shrunk ⊤ (λ s. IsDenied lines.now s.keeps.items s.answer)) }
+{
+    let Some(keeps) = fine_lines(alloc, lines)? else {
+        return Ok(None);
+    };
+    let Some(answer) = play(alloc, lines, keeps.as_slice())? else {
+        return Ok(None);
+    };
+    let places = places_of(alloc, keeps.as_slice())?;
+    let mut search = Search {
+        size: places.len() - places.len() / 2,
+        is_done: places.is_empty(),
+        found: Shrunk {
+            keeps,
+            answer,
+            is_cut: false,
+        },
+        places,
+        at: 0,
+        has_removed: false,
+        played: 0,
+    };
+    'tries: for _ in 0..MOST_TRIES {
+        if search.is_done || search.played >= MOST_LINES {
+            break;
+        }
+        search.step(alloc, lines)?;
+    }
+    Ok(Some(Shrunk {
+        is_cut: !search.is_done,
+        ..search.found
+    }))
+}

@@ -1,0 +1,129 @@
+// `Answer`: an enum, what is answered to a line; and `put_answer`: an answer as a line of text.
+
+ghost use Rattle.mmu_reasons.specs.Answers.{IsError};
+
+use crate::outcomes::{OutcomeLine, put_outcome};
+use line_fields::Mistake;
+use std::alloc::AllocError;
+use walk_lines::Hex;
+
+/// What a write of a PMP entry leaves as it was (RISC-V Privileged Architecture 20211203, 3.7.1).
+#[derive(Clone, Copy)]
+pub enum Lock {
+    /// Both registers are written.
+    Nothing,
+    /// The address is not written: the entry above is locked, and its A is TOR.
+    Address,
+    /// Neither is written: the entry is locked.
+    All,
+}
+
+/// What is answered to a line.
+#[derive(Drop)]
+pub enum Answer {
+    /// It was done.
+    Ok,
+    /// The protocol.
+    Version,
+    /// What satp holds.
+    Satp(Hex),
+    /// A PMP entry was written, but for what is locked.
+    Locked(Lock),
+    /// A fence has no effect: its address is none under the MODE of satp.
+    NoEffect(Hex),
+    /// The outcomes that an access may have.
+    Outcomes(Vec<OutcomeLine>),
+    /// The access may have the outcome that the client tells.
+    Permitted(OutcomeLine),
+    /// The access may not have the outcome that the client tells.
+    NotPermitted {
+        reason: String,
+        /// The outcomes that it may have.
+        permitted: Vec<OutcomeLine>,
+    },
+    /// The line is faulty.
+    Error {
+        column: Option<usize>,
+        text: String,
+    },
+}
+
+impl Answer {
+    /// Returns the answer to a faulty line.
+    pub fn mistake(mistake: Mistake) -> Answer
+        ensures { IsError result }
+    {
+        let Mistake { column, text } = mistake;
+        Answer::Error { column, text }
+    }
+
+    /// Whether the line is faulty, or the outcome that a client tells is not permitted.
+    pub fn is_amiss(&self) -> bool {
+        matches!(self, Answer::Error { .. } | Answer::NotPermitted { .. })
+    }
+}
+
+/// Appends outcomes, with `; ` between them.
+fn put_list(out: &mut String, lines: &[OutcomeLine]) -> Result<(), AllocError> {
+    if lines.is_empty() {
+        return out.push_str("none");
+    }
+    'lines: for (n, line) in lines.iter().enumerate() {
+        if n > 0 {
+            out.push_str("; ")?;
+        }
+        put_outcome(out, line)?;
+    }
+    Ok(())
+}
+
+/// Appends why an outcome is permitted.
+fn put_permitted(out: &mut String, line: &OutcomeLine) -> Result<(), AllocError> {
+    let (text, now) = match &line.as_of {
+        Some(as_of) => (as_of.as_str(), ""),
+        None => (line.by.text(), line.by.now()),
+    };
+    write!(out, "permitted ({text}{now})")
+}
+
+/// Appends why an outcome is not permitted, and those that are.
+fn put_denied(out: &mut String, reason: &str, permitted: &[OutcomeLine]) -> Result<(), AllocError> {
+    write!(out, "NOT permitted: {reason}. Permitted: ")?;
+    put_list(out, permitted)
+}
+
+fn put_error(out: &mut String, column: &Option<usize>, text: &str) -> Result<(), AllocError> {
+    out.push_str("error")?;
+    if let Some(column) = column {
+        write!(out, " column {column}")?;
+    }
+    out.push_str(": ")?;
+    out.push_str(text)
+}
+
+/// Appends an answer as text.
+fn put_text(out: &mut String, answer: &Answer) -> Result<(), AllocError> {
+    match answer {
+        Answer::Ok | Answer::Locked(Lock::Nothing) => out.push_str("ok"),
+        Answer::Version => out.push_str("mmu protocol 2"),
+        Answer::Satp(word) => write!(out, "satp {word}"),
+        Answer::Locked(Lock::All) => out.push_str("locked"),
+        Answer::Locked(Lock::Address) => out.push_str("address locked"),
+        Answer::NoEffect(va) => write!(out, "no effect: {va} is no address under the present MODE"),
+        Answer::Outcomes(outcomes) => put_list(out, outcomes.as_slice()),
+        Answer::Permitted(line) => put_permitted(out, line),
+        Answer::NotPermitted { reason, permitted } => {
+            put_denied(out, reason.as_str(), permitted.as_slice())
+        }
+        Answer::Error { column, text } => put_error(out, column, text.as_str()),
+    }
+}
+
+/// Appends an answer as a line of text.
+///
+/// # Errors
+/// `AllocError`: the host is out of memory.
+pub fn put_answer(out: &mut String, answer: &Answer) -> Result<(), AllocError> {
+    put_text(out, answer)?;
+    out.push('\n')
+}

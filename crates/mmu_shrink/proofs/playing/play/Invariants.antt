@@ -1,7 +1,0 @@
-use Rattle.mmu_lines.specs.States.{state_of}
-use Rattle.mmu_shrink.proofs.playing.play.Given as goal
-use Rattle.mmu_shrink.specs.Playing.{IsAfter}
-
--- those of the first n lines that are kept were played, with fine answers
-abbrev pub invariant-lines : goal.invariant-lines
-invariant-lines l = IsAfter l.lines l.keeps l.n (state_of l.player)

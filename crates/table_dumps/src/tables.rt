@@ -1,0 +1,186 @@
+// What is suspicious about page tables: `outside_findings`, tables outside the memory; `table_findings`, pages that are tables of two places, or that
+// user mode may write.
+
+use crate::dump::Dump;
+use crate::findings::{Finding, Reason, Subject, add};
+use crate::sharing::{Holding, held_frames};
+use crate::space::Space;
+use std::alloc::{AllocError, Global};
+use sv39_entry::{Entry, EntryFlags, Kind};
+use walk_rules::Extensions;
+
+/// A table, with the pointer that leads to it, or as a root.
+#[derive(Clone, Copy)]
+struct Table {
+    /// Its physical page number.
+    number: u64,
+    /// The level of its PTEs.
+    level: u32,
+    /// The number of its first page.
+    page: u64,
+    subject: Subject,
+}
+
+/// Appends the tables of a space: the root, then those of its pointers.
+fn hold_tables(
+    tables: &mut Vec<Table>,
+    extensions: Extensions,
+    number: usize,
+    space: &Space,
+) -> Result<(), AllocError> {
+    let subject = Subject::root(number, space);
+    let root = Table {
+        number: space.satp.ppn(),
+        level: space.top,
+        page: 0,
+        subject,
+    };
+    tables.push(root)?;
+    for entry in &space.entries {
+        let pte = Entry::from_word(entry.word);
+        if extensions.kind(pte, entry.level) == Kind::Pointer {
+            let table = Table {
+                number: pte.ppn(),
+                level: entry.level.saturating_sub(1),
+                page: entry.page,
+                subject: subject.at(*entry),
+            };
+            tables.push(table)?;
+        }
+    }
+    Ok(())
+}
+
+/// Returns the tables of all spaces, in ascending order of their physical page numbers; those of one number in the order of the spaces.
+fn all_tables(
+    alloc: Global,
+    extensions: Extensions,
+    spaces: &[Space],
+) -> Result<Vec<Table>, AllocError> {
+    let mut tables = Vec::new(alloc);
+    for (number, space) in spaces.iter().enumerate() {
+        hold_tables(&mut tables, extensions, number, space)?;
+    }
+    tables.sort_by_key(|table| table.number)?;
+    Ok(tables)
+}
+
+/// Appends a finding for the root and each pointer of a space whose table is outside the memory.
+pub fn outside_findings(
+    alloc: Global,
+    dump: &Dump<'_>,
+    extensions: Extensions,
+    number: usize,
+    space: &Space,
+    found: &mut Vec<Finding>,
+) -> Result<(), AllocError> {
+    let mut tables = Vec::new(alloc);
+    hold_tables(&mut tables, extensions, number, space)?;
+    for table in &tables {
+        if !dump.has_pages(table.number, 1) {
+            add(found, Finding::of(Reason::TableOutside, table.subject))?;
+        }
+    }
+    Ok(())
+}
+
+/// Whether a table has a leaf for user mode itself.
+fn has_user_leaf(dump: &Dump<'_>, extensions: Extensions, table: &Table) -> bool {
+    for index in 0..512 {
+        if let Some(word) = dump.word(table.number, index) {
+            let entry = Entry::from_word(word);
+            let is_leaf = extensions.kind(entry, table.level) == Kind::Leaf;
+            if is_leaf && entry.has(EntryFlags::USER) {
+                return true;
+            }
+        }
+    }
+    false
+}
+
+/// Whether it is suspicious that a page is a table of two places. Not if two spaces have it at the same place and it has no leaf for user
+/// mode: so kernels share their part.
+fn is_overlap(dump: &Dump<'_>, extensions: Extensions, one: &Table, other: &Table) -> bool {
+    let is_same_place = one.level == other.level && one.page == other.page;
+    one.subject.space == other.subject.space
+        || !is_same_place
+        || has_user_leaf(dump, extensions, one)
+}
+
+/// Appends a finding for each table whose page is that of an earlier one, too.
+fn overlap_findings(
+    dump: &Dump<'_>,
+    extensions: Extensions,
+    tables: &[Table],
+    found: &mut Vec<Finding>,
+) -> Result<(), AllocError> {
+    let mut first: Option<Table> = None;
+    for table in tables {
+        match first {
+            Some(one) if one.number == table.number => {
+                if is_overlap(dump, extensions, table, &one) {
+                    let finding = Finding::with(Reason::TwoPlaces, table.subject, one.subject);
+                    add(found, finding)?;
+                }
+            }
+            _ => first = Some(*table),
+        }
+    }
+    Ok(())
+}
+
+/// Returns the wider of the holding so far and of those from a place on that begin at a page or before it, and the place after these.
+fn widest_up_to(
+    held: &[Holding],
+    from: usize,
+    page: u64,
+    so_far: Option<Holding>,
+) -> (usize, Option<Holding>) {
+    let mut widest = so_far;
+    for place in from..held.len() {
+        let next = held[place];
+        if next.start > page {
+            return (place, widest);
+        }
+        match widest {
+            Some(holding) if holding.end >= next.end => {}
+            _ => widest = Some(next),
+        }
+    }
+    (held.len(), widest)
+}
+
+/// Appends a finding for each table that a mapping of user mode may write: of the mapping whose frames end last among those that begin at
+/// the table or before it.
+fn writable_findings(
+    tables: &[Table],
+    held: &[Holding],
+    found: &mut Vec<Finding>,
+) -> Result<(), AllocError> {
+    let (mut place, mut widest) = (0, None);
+    for table in tables {
+        (place, widest) = widest_up_to(held, place, table.number, widest);
+        match widest {
+            Some(holding) if holding.end > table.number => {
+                let finding = Finding::with(Reason::TableWritable, holding.subject, table.subject);
+                add(found, finding)?;
+            }
+            _ => {}
+        }
+    }
+    Ok(())
+}
+
+/// Appends findings for pages that are tables of two places, and for those that user mode may write.
+pub fn table_findings(
+    alloc: Global,
+    dump: &Dump<'_>,
+    extensions: Extensions,
+    spaces: &[Space],
+    found: &mut Vec<Finding>,
+) -> Result<(), AllocError> {
+    let tables = all_tables(alloc, extensions, spaces)?;
+    overlap_findings(dump, extensions, tables.as_slice(), found)?;
+    let held = held_frames(alloc, spaces, true)?;
+    writable_findings(tables.as_slice(), held.as_slice(), found)
+}

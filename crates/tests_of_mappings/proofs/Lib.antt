@@ -1,2 +1,0 @@
-pub mod Living
-pub mod Opening
