@@ -30,13 +30,13 @@ use Rattle.access_judge.proofs.SearchLists.{contains_head, flat_contains, flat_f
 
 -- ---- multiples
 
-multiple_only : (va width : ℕ) → is_multiple va width ≡ true → IsMultiple va width
+pub multiple_only : (va width : ℕ) → is_multiple va width ≡ true → IsMultiple va width
 multiple_only va width is =
     let rest = eqb-true (va % width) 0 is in
     let whole = div-add-mod va width in
     (va / width, omega (arith, rest, whole))
 
-multiple_each : (va width : ℕ) → IsMultiple va width → is_multiple va width ≡ true
+pub multiple_each : (va width : ℕ) → IsMultiple va width → is_multiple va width ≡ true
 multiple_each va width is =
     let rest : va % width ≡ 0 = subst (λ (a : ℕ). a % width ≡ 0) (sym is.1) (mul-mod_left is.0 width) in
     eq-eqb (va % width) 0 rest

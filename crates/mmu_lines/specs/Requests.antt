@@ -1,5 +1,6 @@
 -- What a request does to a reference MMU, and what is answered (`IsDone`).
 use Rattle.std.specs.Prelude.{◌≡◌, ◌⊎◌, ⊤, ℕ, false, ◌/◌, ◌%◌, ◌^◌, ◌<◌, ◌≤◌, None, Option, Some, List, length, map, slice_get}
+use Rattle.access_history.specs.Parts.{FaultsInPart, IsPartFault}
 use Rattle.access_history.specs.Permits.{Past, Permits, satp_of}
 use Rattle.access_history.specs.declared.event.Event.TheVariants as event
 use Rattle.access_history.specs.declared.outcome.Outcome.{Outcome}
@@ -67,9 +68,15 @@ IsJudged old q c new (answer.NoEffect va) = ⊥
 IsJudged old q c new (answer.Outcomes found) = ⊥
 IsJudged old q c new (answer.Error column text) = ⊥
 
+-- the access of which an outcome of the client is judged: the whole, if no part of it may have such a fault; else a part that may
+abbrev pub IsAskedOf : State → Request → Claim → Request → Type 0
+IsAskedOf s q c r =
+    ((r ≡ q) × ((o : Outcome) → Tells c o → FaultsInPart s.profile.extensions s.past q o → ⊥))
+    ⊎ ((o : Outcome) × Tells c o × IsPartFault s.profile.extensions s.past q r o)
+
 abbrev pub IsAnswered : State → Request → Option Claim → State → Answer → Type 0
 IsAnswered old q None new a = IsListed old q new a
-IsAnswered old q (Some c) new a = IsJudged old q c new a
+IsAnswered old q (Some c) new a = (r : Request) × IsAskedOf old q c r × IsJudged old r c new a
 
 -- a write of satp: not made if the hart lacks the MODE
 abbrev pub after_satp : Option ℕ → Past → Past

@@ -9,7 +9,7 @@ ghost use Rattle.access_judge.specs.Search.{is_address_under};
 ghost use Rattle.mmu.specs.Units.{happened};
 ghost use Rattle.mmu_lines.specs.Claims.{Tells};
 ghost use Rattle.mmu_reasons.specs.Answers.{IsError};
-ghost use Rattle.mmu_lines.specs.Requests.{IsAnswer, IsAnswered, IsDone, IsFenced, IsJudged, IsPlaced, IsPlacedIn, IsPmpWritten, IsSound, ShowPermitted, cut, outcome_in, stored};
+ghost use Rattle.mmu_lines.specs.Requests.{IsAnswer, IsAnswered, IsAskedOf, IsDone, IsFenced, IsJudged, IsPlaced, IsPlacedIn, IsPmpWritten, IsSound, ShowPermitted, cut, outcome_in, stored};
 ghost use Rattle.mmu_lines.specs.States.{begun, state_of, with_past};
 ghost use Rattle.mmu_requests.specs.Lines.{IsNothing};
 ghost use Rattle.mmu_requests.specs.Profiles.{plain_with};
@@ -20,7 +20,7 @@ ghost use Rattle.walk_rules.specs.Addresses.{top_of};
 use crate::claims::permitted_outcome;
 use crate::writes::{cut_asid, lock_of, satp_written};
 use access_history::{Outcome, Update};
-use access_judge::{Findings, Log, Told, Way, outcomes};
+use access_judge::{Findings, Log, Told, Way, faulting_part, outcomes};
 use line_fields::Mistake;
 use mmu_reasons::{Answer, By, Lock, OutcomeLine, Recorded, Telling, Witness, seek, seek_refusal};
 use mmu_requests::{Claim, End, Profile, Refusal, Request, read_line};
@@ -380,6 +380,29 @@ impl MmuPlayer {
         Ok(Answer::Permitted(line))
     }
 
+    /// The access of which an outcome that a client tells is judged: the whole access; or, if it is misaligned, a part of it that may have this
+    /// fault.
+    fn asked_of(&self, request: access_history::Request, claim: &Claim) -> access_history::Request
+        requires { 1 ≤ request.width }
+        ensures width { 1 ≤ result.width }
+        ensures asked { IsAskedOf (state_of self.now) request claim.now result }
+    {
+        let End::Refused(cause) = claim.end else {
+            return request;
+        };
+        let update = claim.update;
+        let outcome = Outcome::Refused { cause, update };
+        match faulting_part(
+            &self.recorded.unit,
+            self.profile.extensions,
+            request,
+            outcome,
+        ) {
+            Some(part) => part,
+            None => request,
+        }
+    }
+
     fn access(
         &mut self,
         request: access_history::Request,
@@ -390,7 +413,7 @@ impl MmuPlayer {
         ensures { IfOk result (IsAnswered (state_of self.old) request claim (state_of self.new)) }
     {
         match claim {
-            Some(claim) => self.judge(request, claim),
+            Some(claim) => self.judge(self.asked_of(request, &claim), claim),
             None => Ok(Answer::Outcomes(self.listed(request)?)),
         }
     }

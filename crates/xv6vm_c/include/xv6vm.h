@@ -255,8 +255,9 @@ uint32_t xv6vm_hart_pmp(struct xv6vm_hart *hart, struct xv6vm_event *events, siz
 uint32_t xv6vm_hart_fence(struct xv6vm_hart *hart, struct xv6vm_event *events, size_t capacity, uint32_t has_address,
                           uint64_t address, uint32_t has_asid, uint16_t asid);
 
-/* Returns 1 exactly when the standard permits the outcome of the access, given the history; 0 when it does not; XV6VM_UNKNOWN if a number of
-   `access` or of `outcome` has no meaning. */
+/* Returns 1 exactly when the standard permits the outcome of the access, given the history; also of a fault of the first or last byte of a
+   misaligned access, whose order beside the misaligned exception the standard leaves open (3.1.15, table 3.7). Returns 0 when it does not;
+   XV6VM_UNKNOWN if a number of `access` or of `outcome` has no meaning. */
 uint32_t xv6vm_hart_judge(const struct xv6vm_hart *hart, const struct xv6vm_event *events, size_t capacity, const uint64_t *words,
                           size_t count, uint64_t base_ppn, const struct xv6vm_access *access, const struct xv6vm_judged *outcome);
 

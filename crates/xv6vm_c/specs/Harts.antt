@@ -3,6 +3,7 @@ use Rattle.std.specs.Prelude.{◌≡◌, ◌⊎◌, ◌<◌, ◌≤◌, ◌+◌,
 use Rattle.std.specs.List.{Contains}
 use Rattle.sv39_entry.specs.Satp.{asid, mode, root_ppn}
 use Rattle.walk_rules.specs.declared.extensions.Extensions.{Extensions}
+use Rattle.access_history.specs.Parts.{MayEnd}
 use Rattle.access_history.specs.Permits.{Permits}
 use Rattle.access_history.specs.declared.outcome.Outcome.{Outcome}
 use Rattle.access_history.specs.declared.outcome.Request.{Request}
@@ -39,9 +40,9 @@ satp_with h satp = mode satp * 2 ^ 60 + mask_space h (asid satp) * 2 ^ 44 + root
 abbrev pub masked_if : LentHart → ℕ → ℕ → Option ℕ
 masked_if h has asid = if has == 0 then None else Some (mask_space h asid)
 
--- what is permitted, given the history
+-- what may come of an access, given the history
 abbrev pub IsPermitted : Lent → Request → Outcome → Type 0
-IsPermitted l q o = Permits (extensions_of l.hart) (past_of l) q o
+IsPermitted l q o = MayEnd (extensions_of l.hart) (past_of l) q o
 
 -- 1: the outcome is permitted; 0: it is not; 6: the access or the outcome has no meaning
 pub record IsVerdict (l : Lent) (q : Option Request) (o : Option Outcome) (code : ℕ) : Type 0 where

@@ -8,7 +8,7 @@ ghost use Rattle.lent_history.specs.Recording.{Adds, Restarts, is_everything, is
 ghost use Rattle.xv6vm_c.specs.Answers.{address_if, asid_if};
 ghost use Rattle.xv6vm_c.specs.Harts.{IsBegun, IsListed, IsVerdict, can_write, masked_if, satp_with};
 
-use access_judge::permits;
+use access_judge::may_end;
 use lent_history::{
     LentAccess, LentEvent, LentHart, LentHistory, LentOutcome, LentPmp, fence, outcomes, store,
     write_pmp, write_satp,
@@ -152,8 +152,8 @@ pub extern "C" fn xv6vm_hart_fence(
     }
 }
 
-/// Returns 1 if the standard permits the outcome of an access, given the history; 0 if not; 6 if a number of the access or of the outcome has
-/// no meaning.
+/// Returns 1 if the standard permits the outcome of an access, given the history, or, of a misaligned access, that fault for its first or last
+/// byte; 0 if not; 6 if a number of the access or of the outcome has no meaning.
 #[unsafe(no_mangle)]
 pub extern "C" fn xv6vm_hart_judge(
     hart: &LentHart,
@@ -169,7 +169,7 @@ pub extern "C" fn xv6vm_hart_judge(
         return UNKNOWN;
     };
     let history = LentHistory::new(hart, events, base_ppn, words);
-    if permits(&history, hart.extensions(), request, outcome) {
+    if may_end(&history, hart.extensions(), request, outcome) {
         1
     } else {
         0

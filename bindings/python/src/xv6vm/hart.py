@@ -201,7 +201,7 @@ class Hart:
         return self._raw, events, len(events), words, len(words), memory.base_ppn, request._raw()
 
     def judge(self, memory: Memory, request: Request, outcome: Judged) -> bool:
-        """Whether the standard permits the outcome of the access, given the history."""
+        """Whether the standard permits the outcome of the access, given the history; or, if it is misaligned, that fault of its first or last byte."""
         return bool(library().calls.xv6vm_hart_judge(*self._asked(memory, request), raw_of(outcome)) == 1)
 
     def outcomes(self, memory: Memory, request: Request) -> Set[Judged]:

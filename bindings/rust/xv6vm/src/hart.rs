@@ -315,7 +315,8 @@ impl Hart {
         });
     }
 
-    /// Returns whether the standard permits the outcome of an access, given the history. `memory` is as it is now.
+    /// Returns whether the standard permits the outcome of an access, given the history; also a fault of the first or last byte of a
+    /// misaligned one. `memory` is as it is now.
     pub fn judge(&self, memory: &Memory<'_>, request: &Request, outcome: &Judged) -> bool {
         let (words, access, outcome) = (memory.words(), request.raw(), outcome.raw());
         // SAFETY: two slices with their lengths, and three structs; all are borrowed or of this function, so nobody writes them.
