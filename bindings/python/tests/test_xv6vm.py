@@ -78,6 +78,7 @@ class Walks(unittest.TestCase):
         ):
             self.assertRaises(ValueError, call)
         self.assertRaises(IndexError, lambda: memory()[0x80006000])
+        self.assertRaises(TypeError, Memory, 0x80000, bytes(8))
         self.assertTrue(0x80005FFF in memory() and 0x80006000 not in memory())
 
     def test_lent(self):

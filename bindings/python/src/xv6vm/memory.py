@@ -78,6 +78,8 @@ class Memory:
     """
 
     def __init__(self, base_ppn: int, words: Union[int, Iterable[int]]) -> None:
+        if isinstance(words, (bytes, bytearray, memoryview)):
+            raise TypeError("these are bytes, and `words` is a number of words or the words: Memory.over(base_ppn, bytearray(..)) takes bytes")
         self.base_ppn = number(base_ppn, WORD, "base_ppn")
         given = [] if isinstance(words, int) else [number(it, WORD, "a word") for it in words]
         self.words = (ctypes.c_uint64 * (words if isinstance(words, int) else len(given)))(*given)

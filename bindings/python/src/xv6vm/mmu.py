@@ -40,6 +40,8 @@ class Verdict:
 
     >>> bool(Verdict(True)), bool(Verdict(False, "by another PTE alone"))
     (True, False)
+    >>> print(Verdict(False, "by another PTE alone", frozenset([Refused(13)])))
+    NOT permitted: by another PTE alone. Permitted: fault 13
     """
 
     permitted: bool
@@ -48,6 +50,12 @@ class Verdict:
 
     def __bool__(self) -> bool:
         return self.permitted
+
+    def __str__(self) -> str:
+        if self.permitted:
+            return "permitted"
+        reason = f": {self.reason}" if self.reason else ""
+        return f"NOT permitted{reason}. Permitted: {'; '.join(sorted(outcome_text(it) for it in self.outcomes))}"
 
 
 # ---- lines of xv6lab mmu
