@@ -185,6 +185,18 @@ static void print_outcome(const char *who, struct xv6vm_outcome outcome) {
         printf("%s: %s fault, cause %" PRIu64 "\n", who, outcome.status == XV6VM_PAGE_FAULT ? "page" : "access", outcome.cause);
 }
 
+/* Prints by which step of the standard's 4.3.2 the right answer is a fault, and the entry that was read last. */
+static void print_reason(const struct test *test) {
+    struct xv6vm_walk walk;
+    xv6vm_walk_begin(&walk, test->satp, test->address, test->access, test->mode);
+    while (walk.at.status == XV6VM_READ || walk.at.status == XV6VM_BYTE) {
+        uint32_t there = toy_has(walk.at.place) ? 1 : 0;
+        xv6vm_walk_next(&walk, there, there ? ram[(walk.at.place - ((uint64_t)BASE_PPN << 12)) / 8] : 0);
+    }
+    if (walk.at.status == XV6VM_PAGE_FAULT || walk.at.status == XV6VM_ACCESS_FAULT)
+        printf("xv6vm: by step %" PRIu64 ", level %" PRIu32 ", entry %#" PRIx64 "\n", walk.at.step, walk.at.level, walk.at.word);
+}
+
 static void print_test(const struct test *test) {
     static const char *const ACCESSES[3] = {"fetch from", "load from", "store to"};
     for (int i = 0; i < WORDS; i++)
@@ -195,6 +207,7 @@ static void print_test(const struct test *test) {
            test->mode == XV6VM_USER ? "user" : "supervisor");
     print_outcome("toy", toy(test));
     print_outcome("xv6vm", proved(test));
+    print_reason(test);
 }
 
 int main(void) {
@@ -220,4 +233,5 @@ word at 0x80002000: 0x20000453
 satp 0x8000000000080002, load from 0 in user mode
 toy: physical address 0x80001000
 xv6vm: page fault, cause 13
+xv6vm: by step 6, level 2, entry 0x20000453
 */
