@@ -45,33 +45,85 @@ fn elf<'a>(alloc: Global) -> Result<Command<'a>, AllocError> {
         .arg(file(alloc, "The ELF file; - is standard input"))
 }
 
+/// Returns the word `show`.
+fn show<'a>(alloc: Global) -> Result<Command<'a>, AllocError> {
+    Command::new(alloc, "show")
+        .about("Play a script that may also ask: regions S, vmprint S, tlb H, frames")
+        .arg(file(alloc, SCRIPT))
+}
+
+/// Returns the word `repl`.
+fn repl<'a>(alloc: Global) -> Command<'a> {
+    Command::new(alloc, "repl").about(
+        "Play the lines of standard input one by one; ? tells the lines",
+    )
+}
+
+/// Adds the words that play scripts.
+fn with_scripts<'a>(alloc: Global, words: Command<'a>) -> Result<Command<'a>, AllocError> {
+    words
+        .subcommand(run(alloc)?)?
+        .subcommand(check(alloc)?)?
+        .subcommand(grade(alloc)?)?
+        .subcommand(trace(alloc)?)
+}
+
+/// Adds the words that show the machine.
+fn with_looks<'a>(alloc: Global, words: Command<'a>) -> Result<Command<'a>, AllocError> {
+    words
+        .subcommand(draw(alloc)?)?
+        .subcommand(show(alloc)?)?
+        .subcommand(repl(alloc))
+}
+
+/// Adds the words that judge others.
+fn with_judges<'a>(alloc: Global, words: Command<'a>) -> Result<Command<'a>, AllocError> {
+    words
+        .subcommand(mmu(alloc)?)?
+        .subcommand(inspect(alloc)?)?
+        .subcommand(elf(alloc)?)
+}
+
+/// Adds the words that make something.
+fn with_makers<'a>(alloc: Global, words: Command<'a>) -> Result<Command<'a>, AllocError> {
+    words
+        .subcommand(usertest(alloc)?)?
+        .subcommand(labs(alloc)?)?
+        .subcommand(quiz(alloc)?)
+}
+
 /// Returns the form of the command line.
 fn command<'a>(alloc: Global) -> Result<Command<'a>, AllocError> {
-    let show = Command::new(alloc, "show")
-        .about("Play a script that may also ask: regions S, vmprint S, tlb H, frames")
-        .arg(file(alloc, SCRIPT))?;
-    let repl = Command::new(alloc, "repl").about(
-        "Play the lines of standard input one by one; ? tells the lines",
-    );
-    Command::new(alloc, "xv6lab")
+    let words = Command::new(alloc, "xv6lab")
         .version(VERSION)
         .about(
             "Plays scripts against the virtual memory of xv6-riscv, for people. docs/WORKBENCH.md has an example of each word",
         )
-        .subcommand_required(true)
-        .subcommand(run(alloc)?)?
-        .subcommand(check(alloc)?)?
-        .subcommand(grade(alloc)?)?
-        .subcommand(trace(alloc)?)?
-        .subcommand(draw(alloc)?)?
-        .subcommand(show)?
-        .subcommand(repl)?
-        .subcommand(mmu(alloc)?)?
-        .subcommand(inspect(alloc)?)?
-        .subcommand(elf(alloc)?)?
-        .subcommand(usertest(alloc)?)?
-        .subcommand(labs(alloc)?)?
-        .subcommand(quiz(alloc)?)
+        .subcommand_required(true);
+    let words = with_scripts(alloc, words)?;
+    let words = with_looks(alloc, words)?;
+    let words = with_judges(alloc, words)?;
+    with_makers(alloc, words)
+}
+
+/// Returns what a word says that makes something, or else what `repl` says.
+fn maker_of(alloc: Global, name: &str, given: &ArgMatches<'_>) -> Result<Task, Fault> {
+    Ok(match name {
+        "usertest" => Task::Usertest(UsertestWords::of(alloc, given)?),
+        "lab" => Task::Lab(LabWords::of(alloc, given)?),
+        "quiz" => Task::Quiz(QuizWords::of(alloc, given)?),
+        _ => Task::Repl,
+    })
+}
+
+/// Returns what a word says that judges others, or makes something.
+fn judge_of(alloc: Global, name: &str, given: &ArgMatches<'_>) -> Result<Task, Fault> {
+    Ok(match name {
+        "mmu" => Task::Mmu(MmuWords::of(alloc, given)?),
+        "inspect" => Task::Inspect(InspectWords::of(alloc, given)?),
+        "elf" => Task::Elf(file_of(alloc, given)?),
+        _ => return maker_of(alloc, name, given),
+    })
 }
 
 /// Returns what a word says.
@@ -86,13 +138,7 @@ fn task_of(alloc: Global, name: &str, given: &ArgMatches<'_>) -> Result<Task, Fa
         "trace" => Task::Trace(TraceWords::of(alloc, given)?),
         "draw" => Task::Draw(DrawWords::of(alloc, given)?),
         "show" => Task::Show(file_of(alloc, given)?),
-        "mmu" => Task::Mmu(MmuWords::of(alloc, given)?),
-        "inspect" => Task::Inspect(InspectWords::of(alloc, given)?),
-        "elf" => Task::Elf(file_of(alloc, given)?),
-        "usertest" => Task::Usertest(UsertestWords::of(alloc, given)?),
-        "lab" => Task::Lab(LabWords::of(alloc, given)?),
-        "quiz" => Task::Quiz(QuizWords::of(alloc, given)?),
-        _ => Task::Repl,
+        _ => return judge_of(alloc, name, given),
     })
 }
 
