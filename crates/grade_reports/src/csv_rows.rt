@@ -29,6 +29,17 @@ fn row_of(alloc: Global, fields: &ByteRecord) -> Result<Vec<u8>, AllocError> {
     }
 }
 
+/// Returns a row of a list of students, with its line feed: an id, and the path of a file.
+///
+/// # Errors
+/// `AllocError`: the host is out of memory.
+pub fn student_row(alloc: Global, id: &str, file: &str) -> Result<Vec<u8>, AllocError> {
+    let mut fields = ByteRecord::new(alloc);
+    fields.push_field(id.as_bytes())?;
+    fields.push_field(file.as_bytes())?;
+    row_of(alloc, &fields)
+}
+
 /// Adds a field with a number.
 fn push_number(alloc: Global, fields: &mut ByteRecord, number: usize) -> Result<(), AllocError> {
     fields.push_field(format!(in alloc; "{number}")?.as_bytes())

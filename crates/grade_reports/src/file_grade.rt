@@ -3,6 +3,7 @@
 ghost use Rattle.std.specs.Prelude.{◌≡◌, ◌+◌, ◌≤◌, ◌==◌, IfOk, length, vec_len};
 ghost use Rattle.handouts.specs.Marks.{blanks_of, rights_of};
 
+use crate::line_notes::LineNotes;
 use crate::reasons::{put_reason, reason_of, word_of};
 use handouts::{Asked, Grade, Line, Mark, grade_lines};
 use std::alloc::{AllocError, Global};
@@ -74,6 +75,8 @@ pub struct FileGrade {
     pub right: usize,
     /// The blanks, in the order of the handout.
     pub blanks: Vec<BlankText>,
+    /// Lines of the handout that are to be looked at.
+    pub noted: LineNotes,
 }
 
 /// Returns the texts of the blanks of a file.
@@ -128,6 +131,7 @@ impl FileGrade {
     {
         let grade = grade_lines(alloc, handout, student)?;
         let blanks = texts_of(alloc, handout, student, &grade)?;
+        let noted = LineNotes::of(alloc, handout, student, grade.found.as_slice())?;
         let standing = match standing {
             Standing::Whole if student.is_empty() => Standing::Empty,
             Standing::Whole if grade.is_cut => Standing::Truncated,
@@ -144,6 +148,7 @@ impl FileGrade {
             added: grade.added,
             right: grade.right(),
             blanks,
+            noted,
         })
     }
 

@@ -1,4 +1,7 @@
-// `form_of`: the parts of an answer, by the word of its line and its own; `Part`, an enum: one of them, and what it is called.
+// `form_of`: the parts of an answer, by the word of its line and its own; `Part`, an enum: one of them, and what it is called; `put_forms`:
+// the forms of all answers to a line, in words.
+
+use std::alloc::AllocError;
 
 /// A part of an answer after its word, and what it is called.
 #[derive(Clone, Copy)]
@@ -128,6 +131,9 @@ static ROWS: [Row; 25] = [
     },
 ];
 
+/// The word of the answer to `audit`.
+static AUDIT: [&str; 1] = ["free"];
+
 static SLOT: [Part; 1] = [Part::Decimal("slot")];
 
 static CAUSE: [Part; 1] = [Part::Decimal("cause")];
@@ -193,17 +199,17 @@ fn has_word(words: &[&str], word: &str) -> bool {
     false
 }
 
-/// Whether lines of a word can have answers that begin with another.
-fn has_answer(line: &str, word: &str) -> bool {
+/// Returns the words of the answers that lines of a word can have.
+fn answers_of(line: &str) -> &'static [&'static str] {
     if line == "audit" {
-        return word == "free";
+        return AUDIT.as_slice();
     }
     'rows: for row in ROWS.as_slice() {
         if row.word == line {
-            return has_word(row.answers, word);
+            return row.answers;
         }
     }
-    false
+    &[]
 }
 
 /// Returns the parts of a refusal that has so many.
@@ -235,7 +241,7 @@ fn short_of(line: &str) -> &'static [Part] {
 
 /// Returns the parts of an answer that has so many, by its word and that of its line; `None` if such a line has no such answer.
 pub fn form_of(line: &str, word: &str, count: usize) -> Option<&'static [Part]> {
-    if !has_answer(line, word) {
+    if !has_word(answers_of(line), word) {
         return None;
     }
     match word {
@@ -333,6 +339,17 @@ impl Part {
         }
     }
 
+    /// Returns what stands for the part in the form of an answer.
+    fn sign(self) -> &'static str {
+        match self {
+            Part::Text(text) => text,
+            Part::Decimal(_) | Part::Signed(_) => "N",
+            Part::Hexadecimal(_) => "0x..",
+            Part::Name(_) => "NAME",
+            Part::Bytes(_) => "HEX",
+        }
+    }
+
     /// Returns what the part is called.
     pub fn name(self) -> &'static str {
         match self {
@@ -344,4 +361,36 @@ impl Part {
             | Part::Bytes(name) => name,
         }
     }
+}
+
+/// Appends the form of an answer, by its word and that of its line, as `fault N`. After the name of a refusal there may be more.
+fn put_form(text: &mut String, line: &str, word: &str) -> Result<(), AllocError> {
+    let parts = match form_of(line, word, 0) {
+        Some(parts) => parts,
+        None => &[],
+    };
+    text.push_str(word)?;
+    'parts: for part in parts {
+        text.push_str(" ")?;
+        text.push_str(part.sign())?;
+    }
+    text.push_str(if word == "refused" { " .." } else { "" })
+}
+
+/// Appends the forms of the answers to a line, by its word.
+///
+/// # Errors
+/// `AllocError`: the host is out of memory.
+pub fn put_forms(text: &mut String, line: &str) -> Result<(), AllocError> {
+    let words = answers_of(line);
+    'words: for (number, word) in words.iter().enumerate() {
+        if number > 0 {
+            let is_last = number.saturating_add(1) == words.len();
+            text.push_str(if is_last { " or " } else { ", " })?;
+        }
+        text.push_str("`")?;
+        put_form(text, line, word)?;
+        text.push_str("`")?;
+    }
+    Ok(())
 }

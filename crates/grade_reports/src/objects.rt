@@ -41,6 +41,15 @@ pub struct FileObject {
     pub right: usize,
     /// The blanks, in the order of the handout.
     pub marks: Vec<MarkObject>,
+    /// The numbers of the lines that are no blanks and have another line in their place; left out if there are none.
+    #[serde(skip_serializing_if = "Option::is_none")]
+    pub changed_lines: Option<Vec<usize>>,
+    /// The numbers of the lines that are no blanks and are not there, up to the last that is; left out if there are none.
+    #[serde(skip_serializing_if = "Option::is_none")]
+    pub missing_lines: Option<Vec<usize>>,
+    /// The numbers of the blanks that the file answers more than once; left out if there are none.
+    #[serde(skip_serializing_if = "Option::is_none")]
+    pub repeated_lines: Option<Vec<usize>>,
 }
 
 /// A blank as a test of Gradescope.
@@ -80,6 +89,14 @@ fn again(alloc: Global, text: &Option<String>) -> Result<Option<String>, AllocEr
     }
 }
 
+/// Returns numbers again, if there are some.
+fn some_numbers(alloc: Global, numbers: &[usize]) -> Result<Option<Vec<usize>>, AllocError> {
+    if numbers.is_empty() {
+        return Ok(None);
+    }
+    Ok(Some(Vec::from_slice(alloc, numbers)?))
+}
+
 impl FileObject {
     /// Returns a graded file as it is in JSON.
     ///
@@ -107,6 +124,9 @@ impl FileObject {
             blanks: grade.blanks.len(),
             right: grade.right,
             marks,
+            changed_lines: some_numbers(alloc, grade.noted.changed.as_slice())?,
+            missing_lines: some_numbers(alloc, grade.noted.missing.as_slice())?,
+            repeated_lines: some_numbers(alloc, grade.noted.again.as_slice())?,
         })
     }
 }

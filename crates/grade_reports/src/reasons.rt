@@ -1,6 +1,6 @@
 // `reason_of`: why an answer is wrong, without the right one (`Reason`, an enum); `put_reason`: that in words.
 
-use crate::forms::{Part, form_of};
+use crate::forms::{Part, form_of, put_forms};
 use handouts::{Answer, Asked, BlankMark, Found, Line, Mark};
 use script_reader::first_field;
 use std::alloc::{AllocError, Global};
@@ -28,6 +28,21 @@ pub fn word_of(line: &[u8]) -> &str {
         Some((word, _)) => std::str::from_utf8(word).unwrap_or(""),
         None => "",
     }
+}
+
+/// Returns an answer with one blank between its fields.
+fn joined(alloc: Global, answer: &[u8]) -> Result<Vec<u8>, AllocError> {
+    let mut text = Vec::new(alloc);
+    'fields: for field in answer.split(|byte| *byte == b' ' || *byte == b'\t') {
+        if field.is_empty() {
+            continue;
+        }
+        if !text.is_empty() {
+            text.push(b' ')?;
+        }
+        text.extend_from_slice(field)?;
+    }
+    Ok(text)
 }
 
 /// Splits an answer into its word and what comes after it.
@@ -168,8 +183,9 @@ pub fn reason_of(
                 return Ok(Some(Reason::Gone));
             };
             let word = word_of(asked.line.bare.as_slice());
-            let given = given_at(student, blank.found);
-            let reason = reason_of_text(alloc, word, given, asked.right.as_slice())?;
+            let given = joined(alloc, given_at(student, blank.found))?;
+            let right = asked.right.as_slice();
+            let reason = reason_of_text(alloc, word, given.as_slice(), right)?;
             Ok(Some(reason))
         }
     }
@@ -211,8 +227,10 @@ pub fn put_reason(text: &mut String, word: &str, reason: &Reason) -> Result<(), 
         Reason::Changed => text.push_str("the line is changed"),
         Reason::Gone => text.push_str("the line is gone"),
         Reason::Form => {
-            text.push_str("not the form of an answer of ")?;
-            text.push_str(word)
+            text.push_str("an answer of ")?;
+            text.push_str(word)?;
+            text.push_str(" is ")?;
+            put_forms(text, word)
         }
         Reason::Word => text.push_str("another word than the machine's"),
         Reason::Parts(names) => put_names(text, names.as_slice()),

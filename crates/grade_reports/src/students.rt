@@ -1,8 +1,10 @@
-// `students_of`: the students of a list, which has the columns `id` and `file`, and maybe others.
+// `students_of`: the students of a list, which has the columns `id` and `file`, and maybe others; `ids_of`: those of one that may have no
+// column `file`.
 
 ghost use Rattle.std.specs.Prelude.{OnOk, ◌<◌, All, IfOk, IfSome, string_len};
 
 use csv::{ByteRecord, Reader, ReaderBuilder};
+use memchr::memchr;
 use std::alloc::{AllocError, Global};
 
 /// A student of a list.
@@ -16,8 +18,12 @@ pub struct Student {
 /// Why a list cannot be taken.
 #[derive(Clone, Copy)]
 pub enum ListFault {
-    /// The first row does not name the columns `id` and `file`.
+    /// The first row does not name the columns `id` and, if there is to be one, `file`.
     Columns,
+    /// It has a byte 0, or the byte order mark of UTF-16.
+    Wide,
+    /// The id of the row of this number is no UTF-8.
+    NotText(usize),
     /// The row of this number has no id; the one after the names is 1.
     NoId(usize),
     /// The host is out of memory.
@@ -28,6 +34,31 @@ impl From<AllocError> for ListFault {
     fn from(_e: AllocError) -> ListFault {
         ListFault::Memory
     }
+}
+
+/// Where the columns are, and which byte parts them.
+#[derive(Clone, Copy)]
+struct Columns {
+    delimiter: u8,
+    id: usize,
+    file: Option<usize>,
+}
+
+/// The bytes that may part the fields of a row. A spreadsheet writes semicolons where a comma stands in numbers.
+static DELIMITERS: [u8; 3] = [b',', b';', b'\t'];
+
+/// Whether a text is UTF-16, as some programs save a list.
+fn is_wide(text: &[u8]) -> bool {
+    text.starts_with(&[0xff, 0xfe]) || text.starts_with(&[0xfe, 0xff]) || memchr(0, text).is_some()
+}
+
+/// Returns a reader of rows of any lengths.
+fn reader_of(alloc: Global, text: &[u8], delimiter: u8) -> Reader<&[u8]> {
+    ReaderBuilder::new()
+        .has_headers(false)
+        .flexible(true)
+        .delimiter(delimiter)
+        .from_reader(alloc, text)
 }
 
 /// Returns the place of a column, by its name.
@@ -48,7 +79,28 @@ fn field(alloc: Global, row: &ByteRecord, place: usize) -> Result<String, AllocE
         Some(bytes) => bytes.trim_ascii(),
         None => b"".as_slice(),
     };
-    String::from_utf8_lossy(alloc, bytes)
+    let text = String::from_utf8_lossy(alloc, bytes)?;
+    String::from_str(alloc, text.as_str().trim())
+}
+
+/// Whether a field of a row is UTF-8.
+fn is_text(row: &ByteRecord, place: usize) -> bool {
+    match row.get(place) {
+        Some(bytes) => std::str::from_utf8(bytes).is_ok(),
+        None => true,
+    }
+}
+
+/// Whether each field of a row is empty, as those below a table are.
+fn is_blank(row: &ByteRecord) -> bool {
+    'places: for place in 0..row.len() {
+        if let Some(field) = row.get(place) {
+            if !field.trim_ascii().is_empty() {
+                return false;
+            }
+        }
+    }
+    true
 }
 
 /// Reads the next row of a list, and returns whether there is one; without one the row is empty. Rows of any lengths are taken, from
@@ -64,16 +116,18 @@ fn next_row(reader: &mut Reader<&[u8]>, row: &mut ByteRecord) -> Result<bool, Li
 fn student_of(
     alloc: Global,
     row: &ByteRecord,
-    id: usize,
-    file: usize,
+    columns: Columns,
 ) -> Result<Option<Student>, AllocError>
     ensures { IfOk result (λ found. IfSome found (λ s. 0 < string_len s.id)) }
 {
-    let id = field(alloc, row, id)?;
+    let id = field(alloc, row, columns.id)?;
     if id.is_empty() {
         return Ok(None);
     }
-    let file = field(alloc, row, file)?;
+    let file = match columns.file {
+        Some(file) => field(alloc, row, file)?,
+        None => String::new(alloc),
+    };
     Ok(Some(Student { id, file }))
 }
 
@@ -86,32 +140,77 @@ fn keep(students: &mut Vec<Student>, student: Student) -> Result<(), AllocError>
     Ok(())
 }
 
-/// Returns the students of a list, in its order. Names and fields may have blanks around them; a byte order mark may stand before the
-/// first.
-///
-/// # Errors
-/// `Columns`: the first row does not name the columns `id` and `file`. `NoId`: a row has no id. `Memory`: the host is out of memory.
-pub fn students_of(alloc: Global, text: &[u8]) -> Result<Vec<Student>, ListFault>
+/// Returns where the columns of a list are, by the first byte of `DELIMITERS` that parts their names.
+fn columns_of(alloc: Global, text: &[u8], needs_file: bool) -> Result<Option<Columns>, ListFault> {
+    'delimiters: for delimiter in DELIMITERS.as_slice() {
+        let mut reader = reader_of(alloc, text, *delimiter);
+        let mut row = ByteRecord::new(alloc);
+        let _has_names = next_row(&mut reader, &mut row)?;
+        let (id, file) = (column(&row, "id"), column(&row, "file"));
+        if file.is_none() && needs_file {
+            continue;
+        }
+        if let Some(id) = id {
+            return Ok(Some(Columns {
+                delimiter: *delimiter,
+                id,
+                file,
+            }));
+        }
+    }
+    Ok(None)
+}
+
+/// Returns the students of a list, in its order; `needs_file`: whether it must have the column `file`. Rows without any text are passed over.
+fn rows_of(alloc: Global, text: &[u8], needs_file: bool) -> Result<Vec<Student>, ListFault>
     ensures { IfOk result (λ students. All (λ s. 0 < string_len s.id) students.items) }
 {
-    let mut reader = ReaderBuilder::new()
-        .has_headers(false)
-        .flexible(true)
-        .from_reader(alloc, text);
-    let mut row = ByteRecord::new(alloc);
-    let _has_names = next_row(&mut reader, &mut row)?;
-    let (Some(id), Some(file)) = (column(&row, "id"), column(&row, "file")) else {
+    if is_wide(text) {
+        return Err(ListFault::Wide);
+    }
+    let Some(columns) = columns_of(alloc, text, needs_file)? else {
         return Err(ListFault::Columns);
     };
+    let mut reader = reader_of(alloc, text, columns.delimiter);
+    let mut row = ByteRecord::new(alloc);
+    let _has_names = next_row(&mut reader, &mut row)?;
     let mut students = Vec::new(alloc);
     'rows: for number in 1..text.len().saturating_add(1) {
         if !next_row(&mut reader, &mut row)? {
             break;
         }
-        match student_of(alloc, &row, id, file)? {
+        if is_blank(&row) {
+            continue;
+        }
+        if !is_text(&row, columns.id) {
+            return Err(ListFault::NotText(number));
+        }
+        match student_of(alloc, &row, columns)? {
             Some(student) => keep(&mut students, student)?,
             None => return Err(ListFault::NoId(number)),
         }
     }
     Ok(students)
+}
+
+/// Returns the students of a list, in its order. Names and fields may have blanks around them; a byte order mark may stand before the
+/// first. Commas, semicolons or tabs part the fields, and any of CR, LF and CR LF the rows.
+///
+/// # Errors
+/// `Columns`: the first row does not name the columns `id` and `file`. `Wide`: it is UTF-16. `NotText`: an id is no UTF-8. `NoId`: a row has
+/// no id. `Memory`: the host is out of memory.
+pub fn students_of(alloc: Global, text: &[u8]) -> Result<Vec<Student>, ListFault>
+    ensures { IfOk result (λ students. All (λ s. 0 < string_len s.id) students.items) }
+{
+    rows_of(alloc, text, true)
+}
+
+/// Returns the students of a list that may have no column `file`, in its order, as `students_of` does; then their files are empty.
+///
+/// # Errors
+/// Those of `students_of`.
+pub fn ids_of(alloc: Global, text: &[u8]) -> Result<Vec<Student>, ListFault>
+    ensures { IfOk result (λ students. All (λ s. 0 < string_len s.id) students.items) }
+{
+    rows_of(alloc, text, false)
 }

@@ -1,6 +1,7 @@
 // `put_table`: a line for each graded file, in columns; `put_summary`: how many there were, and their mean.
 
 use crate::file_grade::{FileGrade, Standing};
+use crate::line_notes::put_lines;
 use std::alloc::{AllocError, Global};
 
 /// The blanks between two columns.
@@ -52,7 +53,10 @@ pub fn notes_of(alloc: Global, grade: &FileGrade) -> Result<String, AllocError> 
         )?,
     }
     match grade.standing {
-        Standing::Whole | Standing::Truncated => put_wrong(alloc, &mut notes, grade)?,
+        Standing::Whole | Standing::Truncated => {
+            put_lines(&mut notes, &grade.noted)?;
+            put_wrong(alloc, &mut notes, grade)?;
+        }
         _ => {}
     }
     Ok(notes)

@@ -9,12 +9,13 @@ use Rattle.handouts.specs.declared.marks.Mark.{Mark}
 use Rattle.handouts.specs.declared.marks.Mark.TheVariants as mark
 use Rattle.handouts.specs.declared.marks.Asked.{Asked}
 use Rattle.handouts.specs.declared.marks.BlankMark.{BlankMark}
+use Rattle.handouts.specs.Lines.{IsSame}
 
--- a line that ends with this answer
+-- a line that ends with this answer, in other blanks maybe
 abbrev pub IsAnswer : Answer → List ℕ → Type 0
 IsAnswer answer.Absent right = ⊥
 IsAnswer answer.Blank right = ⊥
-IsAnswer (answer.Given text) right = text.items ≡ right
+IsAnswer (answer.Given text) right = IsSame text.items right
 
 abbrev pub HasAnswer : Option Line → List ℕ → Type 0
 HasAnswer None right = ⊥

@@ -13,3 +13,4 @@ pub use alignment::{Found, align};
 pub use expected::{Expected, split};
 pub use lines::{Answer, Line, lines_of, without_comment};
 pub use marks::{Asked, BlankMark, Grade, Mark, blank_count, grade_lines};
+pub use same::is_kept;

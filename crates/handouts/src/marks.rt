@@ -7,6 +7,7 @@ ghost use Rattle.handouts.specs.declared.marks.Mark.TheVariants as mark;
 
 use crate::alignment::{Found, align};
 use crate::lines::{Answer, Line};
+use crate::same::is_same;
 use std::alloc::{AllocError, Global};
 
 /// A line of a handout, with the machine's answer to it; empty if it has none.
@@ -19,7 +20,7 @@ pub struct Asked {
 /// What a student has at a blank.
 #[derive(Clone, Copy)]
 pub enum Mark {
-    /// The machine's answer.
+    /// The machine's answer: the same fields.
     Right,
     /// Nothing yet: `?`.
     Open,
@@ -56,6 +57,8 @@ pub struct Grade {
     pub is_cut: bool,
     /// The blanks, in the order of the handout.
     pub blanks: Vec<BlankMark>,
+    /// Where each line of the handout is.
+    pub found: Vec<Found>,
 }
 
 /// How many lines of a handout are kept, changed and missing.
@@ -74,7 +77,7 @@ fn mark_answer(answer: &Answer, right: &[u8]) -> Mark
         Answer::Absent => Mark::Changed,
         Answer::Blank => Mark::Open,
         Answer::Given(text) => {
-            if text.as_slice() == right {
+            if is_same(text.as_slice(), right) {
                 Mark::Right
             } else {
                 Mark::Wrong
@@ -261,5 +264,6 @@ pub fn grade_lines(alloc: Global, handout: &[Asked], student: &[Line]) -> Result
         added,
         is_cut,
         blanks,
+        found,
     })
 }

@@ -7,7 +7,7 @@ use crate::lines::{Answer, Line};
 use script_reader::first_field;
 
 /// Whether two lines have the same fields.
-fn is_same(one: &[u8], other: &[u8]) -> bool
+pub(crate) fn is_same(one: &[u8], other: &[u8]) -> bool
     ensures { IsTrue result ↔ IsSame one.now other.now }
 {
     let mut one = one;

@@ -9,7 +9,7 @@ use crate::lab::{Host, Reading};
 use crate::screen::Screen;
 use grade_reports::{
     FileGrade, FileObject, Head, ListFault, ResultsObject, Standing, Student, csv_head, csv_row,
-    put_summary, put_table, students_of,
+    ids_of, put_summary, put_table, students_of,
 };
 use handouts::{Asked, Line, lines_of};
 use lab_variants::Lab;
@@ -56,6 +56,24 @@ impl Reading for FirstBytes {
 struct Target {
     file: String,
     id: Option<String>,
+}
+
+/// What students hand in.
+#[derive(Drop)]
+struct Targets {
+    list: Vec<Target>,
+    /// A line for each path that is left out: why, and what would be right. Empty if none is.
+    left_out: String,
+}
+
+/// What there is at a path.
+#[derive(Clone, Copy, PartialEq)]
+enum Kind {
+    /// A file, or nothing: to open it tells.
+    File,
+    Folder,
+    /// A pipe or a device: to read it might never end.
+    Other,
 }
 
 /// What was read of a file.
@@ -107,59 +125,159 @@ impl Content {
     }
 }
 
-/// Whether a path names a folder.
-fn is_folder<F: Files>(files: &F, path: &str) -> bool {
+/// Returns what there is at a path.
+fn kind_of<F: Files>(files: &F, path: &str) -> Kind {
     match files.metadata(path) {
-        Ok(metadata) => metadata.is_dir(),
-        Err(_) => false,
+        Ok(metadata) if metadata.is_dir() => Kind::Folder,
+        Ok(metadata) if metadata.is_file() => Kind::File,
+        Ok(_) => Kind::Other,
+        Err(_) => Kind::File,
     }
 }
 
-/// Returns the paths of the files in a folder, in the order of their names, but those whose names begin with a dot.
+/// Appends that a file of a folder is left out since its name is no UTF-8, which the folder's reader cannot give.
 ///
 /// # Errors
 /// The folder cannot be read, or the host is out of memory.
-fn files_in<F: Files>(files: &F, alloc: Global, folder: &str) -> io::Result<Vec<String>> {
-    let folder = folder.strip_suffix('/').unwrap_or(folder);
+fn put_unnamed(left_out: &mut String, folder: &str, error: io::Error) -> io::Result<()> {
+    match error.kind() {
+        io::ErrorKind::InvalidFilename => {
+            writeln!(
+                left_out,
+                "{folder}: left out a file whose name is no UTF-8; rename it"
+            )?;
+            Ok(())
+        }
+        _ => Err(error),
+    }
+}
+
+/// Returns the paths of what is in a folder, in the order of their names, but those whose names begin with a dot.
+///
+/// # Errors
+/// The folder cannot be read, or the host is out of memory.
+fn paths_in<F: Files>(
+    files: &F,
+    alloc: Global,
+    folder: &str,
+    left_out: &mut String,
+) -> io::Result<Vec<String>> {
     let mut paths = Vec::new(alloc);
     for entry in fs::read_dir(&(files, alloc), folder)? {
-        let entry = entry?;
-        let name = entry.file_name();
-        let path = format!(in alloc; "{folder}/{name}")?;
-        if !name.starts_with('.') && !is_folder(files, path.as_str()) {
-            paths.push(path)?;
+        match entry {
+            Ok(entry) => {
+                let name = entry.file_name();
+                if !name.starts_with('.') {
+                    paths.push(format!(in alloc; "{folder}/{name}")?)?;
+                }
+            }
+            Err(error) => put_unnamed(left_out, folder, error)?,
         }
     }
     paths.sort()?;
     Ok(paths)
 }
 
-/// Appends what is handed in at a path: a file, or the files of a folder.
+impl Targets {
+    /// Appends a file, or why it is left out.
+    ///
+    /// # Errors
+    /// `AllocError`: the host is out of memory.
+    fn add(&mut self, kind: Kind, file: String) -> Result<(), AllocError> {
+        if kind == Kind::File {
+            let target = Target { file, id: None };
+            return Ok(self.list.push(target)?);
+        }
+        let why = if kind == Kind::Folder {
+            "a folder in a folder; name it as a FILE to grade the files in it"
+        } else {
+            "no plain file, so reading it might never end; hand in a file"
+        };
+        let file = file.as_str();
+        writeln!(&mut self.left_out, "{file}: left out, {why}")
+    }
+
+    /// Appends the files of a folder.
+    ///
+    /// # Errors
+    /// The folder cannot be read, or the host is out of memory.
+    fn add_folder<F: Files>(&mut self, files: &F, alloc: Global, folder: &str) -> io::Result<()> {
+        let folder = folder.strip_suffix('/').unwrap_or(folder);
+        for file in paths_in(files, alloc, folder, &mut self.left_out)? {
+            self.add(kind_of(files, file.as_str()), file)?;
+        }
+        Ok(())
+    }
+
+    /// Appends what is handed in at a path: a file, or the files of a folder. A shell names its pipes by paths in `/dev`; `is_listed`: the path
+    /// is no shell's.
+    ///
+    /// # Errors
+    /// `File`: the folder cannot be read. `Memory`: the host is out of memory.
+    fn add_path<F: Files>(
+        &mut self,
+        files: &F,
+        alloc: Global,
+        path: &str,
+        is_listed: bool,
+    ) -> Result<(), Fault> {
+        let is_shells = path == "-" || (!is_listed && path.starts_with("/dev/"));
+        let kind = if is_shells {
+            Kind::File
+        } else {
+            kind_of(files, path)
+        };
+        if kind != Kind::Folder {
+            return Ok(self.add(kind, String::from_str(alloc, path)?)?);
+        }
+        match self.add_folder(files, alloc, path) {
+            Ok(()) => Ok(()),
+            Err(error) => Err(Fault::File(String::from_str(alloc, path)?, error)),
+        }
+    }
+
+    /// Appends what is handed in at the paths of a list, one a line.
+    ///
+    /// # Errors
+    /// Those of `add_path`.
+    fn add_list<F: Files>(&mut self, files: &F, alloc: Global, list: &[u8]) -> Result<(), Fault> {
+        for path in without_mark(list).split(|byte| *byte == b'\n' || *byte == b'\r') {
+            let path = String::from_utf8_lossy(alloc, path.trim_ascii())?;
+            if !path.is_empty() {
+                self.add_path(files, alloc, path.as_str(), true)?;
+            }
+        }
+        Ok(())
+    }
+}
+
+/// Returns a list without the byte order mark that some editors write before it.
+fn without_mark(list: &[u8]) -> &[u8] {
+    list.strip_prefix(b"\xef\xbb\xbf").unwrap_or(list)
+}
+
+/// Returns what is wrong with a list of students, for people; `columns`: those that it must have.
 ///
 /// # Errors
-/// `File`: the folder cannot be read. `Memory`: the host is out of memory.
-fn add_target<F: Files>(
-    files: &F,
+/// `AllocError`: the host is out of memory.
+fn list_fault(
     alloc: Global,
-    targets: &mut Vec<Target>,
-    path: &str,
-) -> Result<(), Fault> {
-    if path == "-" || !is_folder(files, path) {
-        let target = Target {
-            file: String::from_str(alloc, path)?,
-            id: None,
-        };
-        return Ok(targets.push(target)?);
-    }
-    match files_in(files, alloc, path) {
-        Ok(paths) => {
-            for file in paths {
-                let target = Target { file, id: None };
-                targets.push(target)?;
-            }
-            Ok(())
+    list: &str,
+    columns: &str,
+    fault: ListFault,
+) -> Result<String, AllocError> {
+    match fault {
+        ListFault::Memory => Err(AllocError),
+        ListFault::Columns => {
+            format!(in alloc; "{list}: the first row does not name the {columns}\n")
         }
-        Err(error) => Err(Fault::File(String::from_str(alloc, path)?, error)),
+        ListFault::NoId(row) => format!(in alloc; "{list}: row {row} has no id\n"),
+        ListFault::NotText(row) => format!(in alloc;
+            "{list}: the id of row {row} is no UTF-8; save the list as CSV UTF-8\n"
+        ),
+        ListFault::Wide => format!(in alloc;
+            "{list}: this is UTF-16, or no text; save the list as CSV UTF-8\n"
+        ),
     }
 }
 
@@ -257,16 +375,16 @@ fn other_id(
 #[derive(Drop)]
 struct Grading {
     grades: Vec<FileGrade>,
-    /// Whether each file so far was there and could be read.
+    /// Whether none was left out, and each file so far was there and could be read.
     is_whole: bool,
 }
 
 impl Grading {
-    /// Returns a grading of no file.
-    fn new(alloc: Global) -> Grading {
+    /// Returns a grading of no file; `is_whole`: none was left out.
+    fn new(alloc: Global, is_whole: bool) -> Grading {
         Grading {
             grades: Vec::new(alloc),
-            is_whole: true,
+            is_whole,
         }
     }
 
@@ -346,29 +464,29 @@ impl<F: Files, I: Read + Drop> Host<'_, F, I> {
         Ok(first.bytes)
     }
 
-    /// Returns what is handed in at some paths, and at those of a list.
+    /// Returns what is handed in at some paths, and at those of a list, and tells what is left out.
     fn targets<S: Screen>(
         &mut self,
         screen: &mut S,
         paths: &[String],
         list: Option<&str>,
-    ) -> Result<Vec<Target>, Fault>
+    ) -> Result<Targets, Fault>
         ensures whole { IfOk result (λ _. S.whole screen.old → S.whole screen.new) }
     {
         let alloc = self.alloc;
-        let mut targets = Vec::new(alloc);
-        for path in paths {
-            add_target(self.files, alloc, &mut targets, path.as_str())?;
-        }
-        let Some(list) = list else {
-            return Ok(targets);
+        let mut targets = Targets {
+            list: Vec::new(alloc),
+            left_out: String::new(alloc),
         };
-        let text = self.whole_file(screen, list, 16 * MOST_BYTES)?;
-        for path in text.split(|byte| *byte == b'\n') {
-            let path = String::from_utf8_lossy(alloc, path.trim_ascii())?;
-            if !path.is_empty() {
-                add_target(self.files, alloc, &mut targets, path.as_str())?;
-            }
+        for path in paths {
+            targets.add_path(self.files, alloc, path.as_str(), false)?;
+        }
+        if let Some(list) = list {
+            let text = self.whole_file(screen, list, 16 * MOST_BYTES)?;
+            targets.add_list(self.files, alloc, text.as_slice())?;
+        }
+        if !targets.left_out.is_empty() {
+            screen.err(targets.left_out.as_str())?;
         }
         Ok(targets)
     }
@@ -378,40 +496,48 @@ impl<F: Files, I: Read + Drop> Host<'_, F, I> {
         &mut self,
         screen: &mut S,
         handout: &str,
-        targets: Vec<Target>,
+        targets: Targets,
     ) -> Result<Grading, Fault>
         ensures whole { IfOk result (λ g. g.is_whole ≡ true → S.whole screen.old → S.whole screen.new) }
     {
         let alloc = self.alloc;
         let text = self.whole_file(screen, handout, MOST_BYTES)?;
         let asked = play_handout(alloc, screen, handout, text.as_slice())?;
-        let mut grading = Grading::new(alloc);
-        'targets: for target in targets {
+        let Targets { list, left_out } = targets;
+        let mut grading = Grading::new(alloc, left_out.is_empty());
+        'targets: for target in list {
             let content = self.content(screen, target.file.as_str())?;
             grading.add(alloc, asked.as_slice(), target, content, None)?;
         }
         Ok(grading)
     }
 
-    /// Returns the students of a list.
+    /// Returns the students of a list; `needs_file`: it must say what each handed in.
     ///
     /// # Errors
     /// `File`: the list cannot be opened or read. `Told`: it is faulty; that was told. `Memory`: the host is out of memory. `Io`: printing failed.
-    fn students<S: Screen>(&mut self, screen: &mut S, list: &str) -> Result<Vec<Student>, Fault>
+    pub(crate) fn students<S: Screen>(
+        &mut self,
+        screen: &mut S,
+        list: &str,
+        needs_file: bool,
+    ) -> Result<Vec<Student>, Fault>
         ensures whole { IfOk result (λ _. S.whole screen.old → S.whole screen.new) }
     {
         let alloc = self.alloc;
         let text = self.whole_file(screen, list, 16 * MOST_BYTES)?;
-        let text = match students_of(alloc, text.as_slice()) {
-            Ok(students) => return Ok(students),
-            Err(ListFault::Memory) => return Err(Fault::Memory),
-            Err(ListFault::Columns) => format!(in alloc;
-                "{list}: the first row does not name the columns id and file\n"
-            )?,
-            Err(ListFault::NoId(row)) => format!(in alloc; "{list}: row {row} has no id\n")?,
+        let (found, columns) = if needs_file {
+            (students_of(alloc, text.as_slice()), "columns id and file")
+        } else {
+            (ids_of(alloc, text.as_slice()), "column id")
         };
-        screen.err(text.as_str())?;
-        Err(Fault::Told)
+        match found {
+            Ok(students) => Ok(students),
+            Err(fault) => {
+                screen.err(list_fault(alloc, list, columns, fault)?.as_str())?;
+                Err(Fault::Told)
+            }
+        }
     }
 
     /// Grades what one student hands in, by the student's variant of a lab.
@@ -432,6 +558,8 @@ impl<F: Files, I: Read + Drop> Host<'_, F, I> {
         let asked = play_handout(alloc, screen, id, handout)?;
         let content = if file.is_empty() {
             Content::nothing(alloc, Standing::Missing, true)
+        } else if kind_of(self.files, file) == Kind::Other {
+            Content::nothing(alloc, Standing::Unreadable, false)
         } else {
             self.content(screen, file)?
         };
@@ -452,10 +580,10 @@ impl<F: Files, I: Read + Drop> Host<'_, F, I> {
         ensures whole { IfOk result (λ g. g.is_whole ≡ true → S.whole screen.old → S.whole screen.new) }
     {
         let alloc = self.alloc;
-        let students = self.students(screen, list)?;
+        let students = self.students(screen, list, true)?;
         let sample = lab_variants::handout(alloc, lab, NO_STUDENT)?;
         let head = Head::of(sample.as_str().as_bytes(), NO_STUDENT.as_bytes());
-        let mut grading = Grading::new(alloc);
+        let mut grading = Grading::new(alloc, true);
         'students: for student in students {
             self.grade_student(screen, lab, head, &mut grading, student)?;
         }
@@ -466,7 +594,7 @@ impl<F: Files, I: Read + Drop> Host<'_, F, I> {
     ///
     /// # Errors
     /// `Word`: there is not one file, and results for Gradescope are to be printed. `Told`: the handout or the list is faulty; or a file is
-    /// missing or cannot be read, after all grades were printed. `File`: the handout, a list or a folder cannot be read. `Memory`: the host is
+    /// missing, cannot be read or was left out, after all grades were printed. `File`: the handout, a list or a folder cannot be read. `Memory`: the host is
     /// out of memory. `Io`: printing failed.
     pub fn grade<S: Screen>(&mut self, screen: &mut S, words: &GradeWords) -> Result<(), Fault>
         ensures whole { IfOk result (λ _. S.whole screen.old → S.whole screen.new) }

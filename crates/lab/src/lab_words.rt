@@ -1,4 +1,4 @@
-// `LabWords`: a struct, what a command line of `lab` says.
+// `LabWords`: a struct, what a command line of `lab` says; `labs` has its form.
 
 use clap::{Arg, ArgAction, ArgMatches, Command};
 use lab_variants::Lab;
@@ -14,13 +14,15 @@ static NAMES: [&str; 6] = [
     "stale_entries",
 ];
 
-/// The handout of a lab is printed, or written to a new file.
+/// The handout of a lab is printed, or written to a new file; or those of the students of a list are written to a folder.
 #[derive(Drop)]
 pub struct LabWords {
     pub lab: Lab,
     /// What its numbers follow from; those of the lab's page, if there is none.
     pub seed: Option<String>,
-    /// The path of the file that is written; `-` is standard output.
+    /// The path of a list of students, each of whom gets a handout.
+    pub seeds: Option<String>,
+    /// The path of the file or folder that is written; `-` is standard output.
     pub out: String,
 }
 
@@ -38,6 +40,14 @@ pub fn labs<'a>(alloc: Global) -> Result<Command<'a>, AllocError> {
         .help(
             "What the numbers follow from, as the name of a student; without it they are those of the page",
         );
+    let seeds = Arg::new(alloc, "seeds")
+        .long("seeds")
+        .action(ArgAction::Set)
+        .value_name("LIST.csv")
+        .help(
+            "A list with the column id: a script for each student is written to the folder after -o, and a list of them; - is standard input",
+        )
+        .conflicts_with("TEXT")?;
     let out = Arg::new(alloc, "OUT")
         .short('o')
         .long("out")
@@ -49,6 +59,7 @@ pub fn labs<'a>(alloc: Global) -> Result<Command<'a>, AllocError> {
         .about("Print the script of a lab, in which answers are to be filled in")
         .arg(name)?
         .arg(seed)?
+        .arg(seeds)?
         .arg(out)
 }
 
@@ -59,14 +70,20 @@ impl LabWords {
             Some(name) => Lab::of_name(name),
             None => None,
         };
+        // a list's ids have no blanks around them either
         let seed = match given.get_str("TEXT") {
-            Some(text) => Some(String::from_str(alloc, text)?),
+            Some(text) => Some(String::from_str(alloc, text.trim())?),
+            None => None,
+        };
+        let seeds = match given.get_str("seeds") {
+            Some(list) => Some(String::from_str(alloc, list)?),
             None => None,
         };
         let out = given.get_str("OUT").unwrap_or("-");
         Ok(LabWords {
             lab: lab.unwrap_or(Lab::PageTables),
             seed,
+            seeds,
             out: String::from_str(alloc, out)?,
         })
     }

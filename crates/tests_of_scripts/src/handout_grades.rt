@@ -122,7 +122,7 @@ fn reasons_are_told(rt: HostRuntime) -> Result<(), Fail> {
         ("start 0 => slot 1\n", Some("start: slot is wrong")),
         (
             "start 0 => slot\n",
-            Some("start: not the form of an answer of start"),
+            Some("start: an answer of start is `slot N` or `refused N NAME ..`"),
         ),
         (
             "start 0 => refused 10 NoSlot\n",
