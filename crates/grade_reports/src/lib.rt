@@ -20,5 +20,5 @@ pub use heads::Head;
 pub use line_notes::LineNotes;
 pub use objects::{FileObject, MarkObject, ResultsObject, TestObject};
 pub use reasons::{Reason, put_reason, reason_of, word_of};
-pub use students::{ListFault, Student, ids_of, students_of};
+pub use students::{ListFault, Student, ids_of, is_wide, students_of};
 pub use table::{notes_of, put_summary, put_table};

@@ -47,8 +47,8 @@ struct Columns {
 /// The bytes that may part the fields of a row. A spreadsheet writes semicolons where a comma stands in numbers.
 static DELIMITERS: [u8; 3] = [b',', b';', b'\t'];
 
-/// Whether a text is UTF-16, as some programs save a list.
-fn is_wide(text: &[u8]) -> bool {
+/// Whether a text is UTF-16, as some programs save a list, or no text.
+pub fn is_wide(text: &[u8]) -> bool {
     text.starts_with(&[0xff, 0xfe]) || text.starts_with(&[0xfe, 0xff]) || memchr(0, text).is_some()
 }
 

@@ -9,7 +9,7 @@ use crate::lab::{Host, Reading};
 use crate::screen::Screen;
 use grade_reports::{
     FileGrade, FileObject, Head, ListFault, ResultsObject, Standing, Student, csv_head, csv_row,
-    ids_of, put_summary, put_table, students_of,
+    ids_of, is_wide, put_summary, put_table, students_of,
 };
 use handouts::{Asked, Line, lines_of};
 use lab_variants::Lab;
@@ -273,10 +273,10 @@ fn list_fault(
         }
         ListFault::NoId(row) => format!(in alloc; "{list}: row {row} has no id\n"),
         ListFault::NotText(row) => format!(in alloc;
-            "{list}: the id of row {row} is no UTF-8; save the list as CSV UTF-8\n"
+            "{list}: the id of row {row} is no UTF-8; save the list as UTF-8, a spreadsheet's as CSV UTF-8\n"
         ),
         ListFault::Wide => format!(in alloc;
-            "{list}: this is UTF-16, or no text; save the list as CSV UTF-8\n"
+            "{list}: this is UTF-16, or no text; save the list as UTF-8, a spreadsheet's as CSV UTF-8\n"
         ),
     }
 }
@@ -483,6 +483,10 @@ impl<F: Files, I: Read + Drop> Host<'_, F, I> {
         }
         if let Some(list) = list {
             let text = self.whole_file(screen, list, 16 * MOST_BYTES)?;
+            if is_wide(text.as_slice()) {
+                screen.err(list_fault(alloc, list, "", ListFault::Wide)?.as_str())?;
+                return Err(Fault::Told);
+            }
             targets.add_list(self.files, alloc, text.as_slice())?;
         }
         if !targets.left_out.is_empty() {
