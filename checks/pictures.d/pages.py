@@ -88,8 +88,19 @@ def check_frames(state, leaves, held, free, tables, compare, counts):
     counts["sharers named"] += sum(len(f["names"]) for f in it["frames"])
 
 
+def check_marks(steps, compare, counts):
+    """The frame of each page that is listed is listed too, with its count, if it has two references or more."""
+    for step in steps:
+        walk = (step["trace"].get("request") or {}).get("walk", [])
+        frames = {it["ppn"]: it["count"] for it in step["state"].get("frames", {}).get("frames", [])}
+        for word in walk:
+            if word["kind"] == "leaf" and word["references"] > 1:
+                compare(f"references of {word['ppn']} on line {step['trace']['line']}", frames.get(word["ppn"]), word["references"])
+                counts["marks compared"] += 1
+
+
 def check_bytes(steps, compare, counts):
-    """What a load answers, and what a store left, is in the bytes that are shown of the process."""
+    """What a load answers, and what a store left, is in the bytes that are shown of the process; its page and its frame are listed."""
     for step in steps:
         words, answer, cell = without_answer(step["trace"]["text"]).split(), answer_of(step), step["state"].get("cell")
         if words and words[0] == "show" and answer and answer.startswith("file"):
@@ -108,6 +119,10 @@ def check_bytes(steps, compare, counts):
         shown = [bytes(row["bytes"]) for row in cell["rows"] if row["slot"] == slot and int(row["page"], 16) == int(words[2], 0) // 4096 * 4096]
         at = int(words[2], 0) % 8
         compare(f"bytes at {words[2]} on line {step['trace']['line']}", [int.from_bytes(it[at : at + width], "little") for it in shown], [value % 256**width])
+        page = hex(int(words[2], 0) // 4096 * 4096)
+        entries, frames = step["state"][f"slot{slot}"]["entries"], step["state"]["frames"]["frames"]
+        touched = [it["ppn"] for it in entries if it["address"] == page and set(it["flags"]) & set("RWX")]
+        compare(f"page {page} on line {step['trace']['line']} is listed, and its frame", [it["ppn"] for it in frames if it["ppn"] in touched], touched[:1] or "a page")
         counts["cells compared"] += 1
 
 

@@ -58,10 +58,10 @@ function marksOf(state, entry, kind) {
 
 function pageRows(state, slot, entry, name, kind) {
   const key = slot + '-' + entry.address, cell = state.cell;
-  const rows = [row('p' + key, '', [['name', name], ['', entry.address], ['', '→ ' + entry.ppn], ...marksOf(state, entry, kind)], 2)];
-  for (const it of cell ? cell.rows : [])
-    if (it.slot === slot && it.page === entry.address)
-      rows.push(row('c' + key + '-' + it.address, 'bytes quiet', [['', offsetOf(it.address)], ...bytesOf(it.bytes, cell), lettersOf(it.bytes, cell)], 7));
+  const shown = cell ? cell.rows.filter(it => it.slot === slot && it.page === entry.address) : [];
+  const rows = [row('p' + key, '', [['name', name], ['', entry.address], ['', '→ ' + entry.ppn], ...marksOf(state, entry, kind)], shown.length ? 7 : 2)];
+  for (const it of shown)
+    rows.push(row('c' + key + '-' + it.address, 'bytes quiet', [['', offsetOf(it.address)], ...bytesOf(it.bytes, cell), lettersOf(it.bytes, cell)], 7));
   return rows;
 }
 
@@ -159,8 +159,8 @@ function frameRows(state) {
   for (const frame of it.frames) {
     const code = frame.ppn === '0x80000';
     const names = code ? [['', 'trampoline']] : frame.names.map(name => nameOf(state, name));
-    rows.push(row('f' + frame.ppn, code ? 'dim' : frame.count > 1 ? 'shared' : '', [['', frame.ppn], frame.count > 1 && ['mark', '×' + frame.count], ...names], code ? 0 : frame.count > 1 ? 3 : 2));
     const bytes = cell && cell.rows.find(row => row.ppn === frame.ppn);
+    rows.push(row('f' + frame.ppn, code ? 'dim' : frame.count > 1 ? 'shared' : '', [['', frame.ppn], frame.count > 1 && ['mark', '×' + frame.count], ...names], bytes ? 7 : code ? 0 : frame.count > 1 ? 3 : 2));
     if (bytes) rows.push(row('d' + frame.ppn + '-' + bytes.address, 'bytes quiet', [['', offsetOf(bytes.address)], ...bytesOf(bytes.bytes, cell), lettersOf(bytes.bytes, cell)], 7));
   }
   if (it.more) rows.push(row('more pages', 'dim', [['', 'and ' + it.more + ' frames more with pages']]));

@@ -41,6 +41,16 @@ pub struct CellView {
     pub rows: Vec<CellRow>,
 }
 
+/// Returns whether bytes of a page of the process in a slot are among some that are shown.
+pub fn shows_page(rows: &[CellRow], slot: usize, page: u64) -> bool {
+    for row in rows {
+        if row.slot == slot && row.page.0 == page {
+            return true;
+        }
+    }
+    false
+}
+
 /// Returns the frames that processes have for a page.
 fn frames_of(alloc: Global, leaves: &[LeafName], page: u64) -> Result<Vec<u64>, AllocError> {
     let mut frames = Vec::new(alloc);

@@ -3,9 +3,9 @@
 ghost use Rattle.hart_machine.specs.BufferEntries.{IsInWorld};
 ghost use Rattle.process_model.specs.World.{World};
 
-use crate::views::cells::CellView;
+use crate::views::cells::{CellRow, CellView};
 use crate::views::files::{FilePlace, file_place, files_of};
-use crate::views::frames::FramesView;
+use crate::views::frames::{FramesView, KeptFrames};
 use crate::views::harts::harts_of;
 use crate::views::slots::SlotView;
 use hart_machine::Machine;
@@ -104,6 +104,59 @@ impl ShownParts {
         Ok(())
     }
 
+    /// Returns the bytes that a line touched last, as they are now; `None` if none did.
+    fn cell(&self, machine: &Machine) -> Result<Option<CellView>, AllocError>
+        requires world { (w : World) × IsInWorld machine.now w }
+    {
+        match self.touched {
+            Some(touched) => {
+                let cell = CellView::of(self.alloc, machine, touched, self.place)?;
+                Ok(Some(cell))
+            }
+            None => Ok(None),
+        }
+    }
+
+    /// Puts the slots that are other than they were put last, and returns the physical page numbers of the pages that are listed; of the
+    /// pages with bytes in `rows`, all are.
+    fn put_slots(
+        &mut self,
+        out: &mut String,
+        machine: &Machine,
+        rows: &[CellRow],
+    ) -> Result<Vec<u64>, AllocError>
+        requires world { (w : World) × IsInWorld machine.now w }
+    {
+        let alloc = self.alloc;
+        let mut pages = Vec::new(alloc);
+        for slot in 0..machine.slot_count() {
+            let name = format!(in alloc; "slot{slot}")?;
+            let view = SlotView::of(alloc, machine, slot, rows)?;
+            if let Some(view) = &view {
+                view.put_pages(&mut pages)?;
+            }
+            self.put(out, name.as_str(), &view)?;
+        }
+        Ok(pages)
+    }
+
+    /// Puts the slots and the frames that are other than they were put last; the pages and frames with bytes in `rows` are listed.
+    fn put_memory(
+        &mut self,
+        out: &mut String,
+        machine: &Machine,
+        rows: &[CellRow],
+    ) -> Result<(), AllocError>
+        requires world { (w : World) × IsInWorld machine.now w }
+    {
+        let pages = self.put_slots(out, machine, rows)?;
+        let kept = KeptFrames {
+            rows,
+            pages: pages.as_slice(),
+        };
+        self.put(out, "frames", &FramesView::of(self.alloc, machine, kept)?)
+    }
+
     /// Puts the parts of a machine that are other than they were put last, as a JSON object: `slots`, how many there are, and if they are
     /// others `harts`, `frames`, `files`, `cell` (the bytes that a line touched last) and, for each slot, `slot0` and so on.
     ///
@@ -114,20 +167,16 @@ impl ShownParts {
     {
         let (alloc, slots) = (self.alloc, machine.slot_count());
         self.note_place(machine);
-        let (touched, place) = (self.touched, self.place);
+        let cell = self.cell(machine)?;
         out.push('{')?;
         write!(out, "\"slots\":{slots}")?;
         self.put(out, "harts", &harts_of(alloc, machine)?)?;
-        for slot in 0..slots {
-            let name = format!(in alloc; "slot{slot}")?;
-            self.put(out, name.as_str(), &SlotView::of(alloc, machine, slot)?)?;
+        match &cell {
+            Some(cell) => self.put_memory(out, machine, cell.rows.as_slice())?,
+            None => self.put_memory(out, machine, &[])?,
         }
-        self.put(out, "frames", &FramesView::of(alloc, machine)?)?;
+        let place = self.place;
         self.put(out, "files", &files_of(alloc, machine, place)?)?;
-        let cell = match touched {
-            Some(touched) => Some(CellView::of(alloc, machine, touched, place)?),
-            None => None,
-        };
         self.put(out, "cell", &cell)?;
         out.push('}')
     }

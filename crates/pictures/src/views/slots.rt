@@ -1,15 +1,17 @@
-// `SlotView`: a process with its regions, and the valid entries of its page tables.
+// `SlotView`: a process with its regions, and the valid entries of its page tables. Of a region with many pages only the first are listed, and
+// those that the line touches.
 
 ghost use Rattle.hart_machine.specs.BufferEntries.{IsInWorld};
 ghost use Rattle.process_model.specs.World.{World};
 
 use crate::entries::{EntryView, entries_of};
+use crate::views::cells::{CellRow, shows_page};
 use address_space::Region;
 use hart_machine::Machine;
 use line_traces::RegionLine;
 use serde::Serialize;
 use std::alloc::{AllocError, Global};
-use sv39_entry::{Entry, Kind};
+use sv39_entry::{Entry, Kind, Scheme};
 use walk_lines::{Hex, TableEntry};
 
 /// The most pages of a region that have their leaves listed.
@@ -33,7 +35,8 @@ pub struct SlotView {
     pub trapframe: Hex,
     /// In the order of their addresses.
     pub regions: Vec<RegionView>,
-    /// The valid entries of its page tables in the order of their addresses, at most `LISTED_PAGES` leaves of a region.
+    /// The valid entries of its page tables in the order of their addresses, at most `LISTED_PAGES` leaves of a region; past these, the
+    /// leaves of pages whose bytes are shown.
     pub entries: Vec<EntryView>,
 }
 
@@ -64,10 +67,18 @@ fn views_of(alloc: Global, regions: &[Region]) -> Result<Vec<RegionView>, AllocE
     Ok(views)
 }
 
+/// Pages of a process that are listed however many there are: those whose bytes are shown.
+#[derive(Clone, Copy)]
+struct Kept<'a> {
+    slot: usize,
+    rows: &'a [CellRow],
+}
+
 /// Returns the entries that are shown, and counts all pages.
 fn shown_entries(
     alloc: Global,
-    machine: &Machine,
+    scheme: Scheme,
+    kept: Kept<'_>,
     regions: &[Region],
     views: &mut [RegionView],
     entries: &[TableEntry],
@@ -75,19 +86,26 @@ fn shown_entries(
     let mut shown = Vec::new(alloc);
     for entry in entries {
         let is_leaf = Entry::from_word(entry.word).kind() == Kind::Leaf;
-        if !is_leaf || count_page(regions, views, entry.page) {
-            shown.push(EntryView::of(machine.scheme(), *entry))?;
+        let view = EntryView::of(scheme, *entry);
+        let is_first = !is_leaf || count_page(regions, views, entry.page);
+        if is_first || shows_page(kept.rows, kept.slot, view.address.0) {
+            shown.push(view)?;
         }
     }
     Ok(shown)
 }
 
 impl SlotView {
-    /// Returns the process in a slot; `None` if there is none.
+    /// Returns the process in a slot, `None` if there is none; `rows` are the bytes that are shown.
     ///
     /// # Errors
     /// `AllocError`: the host is out of memory.
-    pub fn of(alloc: Global, machine: &Machine, slot: usize) -> Result<Option<SlotView>, AllocError>
+    pub fn of(
+        alloc: Global,
+        machine: &Machine,
+        slot: usize,
+        rows: &[CellRow],
+    ) -> Result<Option<SlotView>, AllocError>
         requires world { (w : World) × IsInWorld machine.now w }
     {
         let (Some(regions), Some(root)) = (machine.regions(slot), machine.root(slot)) else {
@@ -97,7 +115,8 @@ impl SlotView {
         let mut views = views_of(alloc, regions.as_slice())?;
         let shown = shown_entries(
             alloc,
-            machine,
+            machine.scheme(),
+            Kept { slot, rows },
             regions.as_slice(),
             views.as_mut_slice(),
             entries.as_slice(),
@@ -110,5 +129,19 @@ impl SlotView {
             regions: views,
             entries: shown,
         }))
+    }
+
+    /// Appends the physical page numbers of the pages that are listed.
+    ///
+    /// # Errors
+    /// `AllocError`: the host is out of memory.
+    pub fn put_pages(&self, pages: &mut Vec<u64>) -> Result<(), AllocError> {
+        for entry in self.entries.as_slice() {
+            let word = Entry::from_word(entry.flags.0);
+            if word.kind() == Kind::Leaf {
+                pages.push(word.ppn())?;
+            }
+        }
+        Ok(())
     }
 }
