@@ -12,7 +12,7 @@ use crate::play::{Listener, played};
 use crate::screen::Screen;
 use handouts::split;
 use line_player::{LinePlayer, LineReply};
-use line_traces::trace_line;
+use line_traces::{Ledger, trace_line};
 use pictures::{Page, PageHead, put_picture};
 use std::alloc::Global;
 use std::io::Write;
@@ -141,6 +141,7 @@ pub struct PageLines<'a, W> {
     alloc: Global,
     paper: Paper<'a, W>,
     page: Page,
+    ledger: Ledger,
     /// What is written next.
     text: String,
 }
@@ -152,6 +153,7 @@ impl<'a, W: Write + Drop> PageLines<'a, W> {
             alloc,
             paper,
             page: Page::new(alloc),
+            ledger: Ledger::new(alloc),
             text: String::new(alloc),
         }
     }
@@ -192,7 +194,8 @@ impl<W: Write + Drop> Listener for PageLines<'_, W> {
         number: u64,
         line: &[u8],
     ) -> Result<(), Fault> {
-        let trace = trace_line(self.alloc, player, number, split(line).line)?;
+        let mut trace = trace_line(self.alloc, player, number, split(line).line)?;
+        self.ledger.add(&mut trace, player.machine())?;
         self.page
             .put_step(&mut self.text, &trace, player.machine())?;
         self.flush(screen)

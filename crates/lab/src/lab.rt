@@ -25,6 +25,7 @@ use crate::trace::TraceLines;
 use crate::trace_words::TraceWords;
 use crate::usertest::{Program, Tests};
 use crate::usertest_words::UsertestWords;
+use line_traces::Ledger;
 use pictures::PageHead;
 use std::alloc::Global;
 use std::fs;
@@ -301,6 +302,7 @@ impl<F: Files, I: Read + Drop> Host<'_, F, I> {
             file,
             json: words.json,
             only: ChosenLine::named(words.line),
+            ledger: Ledger::new(self.alloc),
         };
         self.play(screen, file, &mut listener)
     }

@@ -7,11 +7,11 @@ ghost use Rattle.line_player.specs.PlayedLines.{Played};
 use crate::chosen_line::ChosenLine;
 use crate::fault::Fault;
 use crate::mistakes::{Place, tell_end, tell_refused};
-use crate::play::{Listener, played};
+use crate::play::Listener;
 use crate::screen::Screen;
 use handouts::split;
 use line_player::{LinePlayer, LineReply};
-use line_traces::{LineTrace, put_trace, trace_line};
+use line_traces::{Ledger, LineTrace, put_trace, trace_line};
 use std::alloc::Global;
 
 /// Prints what happens on each line, or on one.
@@ -23,17 +23,11 @@ pub struct TraceLines<'a> {
     pub json: bool,
     /// The only line of which that is printed, if one is named.
     pub only: Option<ChosenLine>,
+    /// What was taken and given back since the last audit.
+    pub ledger: Ledger,
 }
 
 impl TraceLines<'_> {
-    /// Whether nothing is printed of a line.
-    fn is_passed(&self, number: u64) -> bool {
-        match &self.only {
-            Some(only) => only.number != number,
-            None => false,
-        }
-    }
-
     /// Takes note of how a line was answered, and returns whether what happened on it is printed.
     fn note(&mut self, number: u64, reply: LineReply) -> bool {
         let Some(only) = &mut self.only else {
@@ -73,15 +67,11 @@ impl Listener for TraceLines<'_> {
             file: self.file,
             line: number,
         };
-        if self.is_passed(number) {
-            let reply = played(self.alloc, screen, place, player, bare)?;
-            self.note(number, reply);
-            return Ok(());
-        }
-        let trace = trace_line(self.alloc, player, number, bare)?;
+        let mut trace = trace_line(self.alloc, player, number, bare)?;
         if let LineReply::Refused(cause) = trace.reply {
             return tell_refused(self.alloc, screen, place, player, bare, cause);
         }
+        self.ledger.add(&mut trace, player.machine())?;
         if self.note(number, trace.reply) {
             return self.print(screen, &trace);
         }

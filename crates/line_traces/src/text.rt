@@ -4,6 +4,7 @@ use crate::changes::Changes;
 use crate::frames::{FrameChanges, Recount};
 use crate::leaves::LeafChange;
 use crate::request_traces::RequestTrace;
+use crate::sums::AuditSums;
 use crate::traces::LineTrace;
 use std::alloc::AllocError;
 use std::fmt;
@@ -140,6 +141,44 @@ fn put_changes(
     }
 }
 
+/// Since when sums are, as text.
+#[derive(Clone, Copy)]
+struct Since(Option<u64>);
+
+impl fmt::Display for Since {
+    fn fmt<W: fmt::Write>(&self, f: &mut fmt::Formatter<W>) -> fmt::Result {
+        match self.0 {
+            Some(line) => write!(f, "since line {line}"),
+            None => write!(f, "since the boot"),
+        }
+    }
+}
+
+/// Puts what was taken and given back since the audit before.
+fn put_sums(out: &mut String, sums: &AuditSums) -> Result<(), AllocError> {
+    let (since, taken, given) = (Since(sums.since), sums.taken, sums.given_back);
+    let (tables, pages, copies) = (taken.tables, taken.pages, taken.copies);
+    writeln!(
+        out,
+        "        {since}, frames taken: {tables} for page tables, {pages} for pages, {copies} for copies"
+    )?;
+    let (tables, pages) = (given.tables, given.pages);
+    writeln!(
+        out,
+        "        {since}, frames given back: {tables} of page tables, {pages} of pages"
+    )?;
+    let (come, gone) = (sums.shared.come, sums.shared.gone);
+    writeln!(
+        out,
+        "        {since}, shared frames: {come} more, {gone} fewer"
+    )?;
+    let (come, gone) = (sums.references.come, sums.references.gone);
+    writeln!(
+        out,
+        "        {since}, references: {come} more, {gone} fewer"
+    )
+}
+
 /// Puts what happens on a line: the line with its answer and, indented below it, what is seen before it, of its access, and what
 /// is other after it. Each line has a line end.
 ///
@@ -161,5 +200,8 @@ pub fn put_trace(out: &mut String, trace: &LineTrace) -> Result<(), AllocError> 
         let (hart, serves) = hart_and_service(trace);
         put_changes(out, changes, hart, serves)?;
     }
-    Ok(())
+    match &trace.sums {
+        Some(sums) => put_sums(out, sums),
+        None => Ok(()),
+    }
 }

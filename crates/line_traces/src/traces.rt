@@ -12,6 +12,7 @@ use crate::explaining::explain_answer;
 use crate::places::HartPlace;
 use crate::request_traces::RequestTrace;
 use crate::requests::{Touched, hart_of, request_of, touched_by};
+use crate::sums::AuditSums;
 use hart_machine::Machine;
 use line_player::{LinePlayer, LineReply};
 use script_language::{Command, Item};
@@ -44,6 +45,9 @@ pub struct LineTrace {
     /// What is other after the line, if it is a step and there is a machine.
     #[serde(skip_serializing_if = "Option::is_none")]
     pub changes: Option<Changes>,
+    /// Of an audit, what was taken and given back since the one before; a `Ledger` puts it there.
+    #[serde(skip_serializing_if = "Option::is_none")]
+    pub sums: Option<AuditSums>,
     /// The bytes that it touches.
     #[serde(skip)]
     pub touched: Option<Touched>,
@@ -227,6 +231,7 @@ pub fn trace_line(
         request: seen.request,
         note: note_of(alloc, player, &seen_before, line)?,
         changes: seen.changes,
+        sums: None,
         touched,
     })
 }
