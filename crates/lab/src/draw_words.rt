@@ -20,15 +20,29 @@ pub struct DrawWords {
     pub title: String,
 }
 
-/// Returns the word `draw`.
-pub fn draw<'a>(alloc: Global) -> Result<Command<'a>, AllocError> {
-    let out = Arg::new(alloc, "OUT")
+/// Returns the option `-o`.
+fn out<'a>(alloc: Global) -> Arg<'a> {
+    Arg::new(alloc, "OUT")
         .short('o')
         .long("out")
         .required(true)
         .action(ArgAction::Set)
         .value_name("OUT")
-        .help("The file to write; - is standard output");
+        .help("The file to write; - is standard output")
+}
+
+/// Returns the option `--title`.
+fn title<'a>(alloc: Global) -> Result<Arg<'a>, AllocError> {
+    Arg::new(alloc, "title")
+        .long("title")
+        .action(ArgAction::Set)
+        .value_name("TEXT")
+        .help("The title of the page; else FILE is")
+        .requires_arg("steps")
+}
+
+/// Adds the options of a page.
+fn with_page<'a>(alloc: Global, word: Command<'a>) -> Result<Command<'a>, AllocError> {
     let steps = flag(
         alloc,
         "steps",
@@ -38,20 +52,17 @@ pub fn draw<'a>(alloc: Global) -> Result<Command<'a>, AllocError> {
     let quiz = flag(alloc, "quiz", "Show the answer of each line only at a key").requires_arg(
         "steps",
     )?;
-    let title = Arg::new(alloc, "title")
-        .long("title")
-        .action(ArgAction::Set)
-        .value_name("TEXT")
-        .help("The title of the page; else FILE is")
-        .requires_arg("steps")?;
-    Command::new(alloc, "draw")
+    let word = word.arg(steps)?.arg(line)?;
+    word.arg(quiz)?.arg(title(alloc)?)
+}
+
+/// Returns the word `draw`.
+pub fn draw<'a>(alloc: Global) -> Result<Command<'a>, AllocError> {
+    let word = Command::new(alloc, "draw")
         .about("Draw the machine after the last line: regions, pages, tables, frames, TLBs")
         .arg(file(alloc, SCRIPT))?
-        .arg(out)?
-        .arg(steps)?
-        .arg(line)?
-        .arg(quiz)?
-        .arg(title)
+        .arg(out(alloc))?;
+    with_page(alloc, word)
 }
 
 impl DrawWords {

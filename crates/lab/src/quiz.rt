@@ -9,9 +9,9 @@ use crate::play::{Listener, each_line, is_among};
 use crate::screen::Screen;
 use line_player::LinePlayer;
 use line_traces::{put_trace, trace_line};
-use mmu_lines::{MmuPlayer, put_answer};
+use mmu_lines::{Answer, MmuPlayer, put_answer};
 use pictures::{QuizQuestion, put_picture};
-use quiz_answers::{Script, choose};
+use quiz_answers::{OUTCOME_FORM, Script, choose, form_of, has_form, is_right, plain_parts};
 use quizzes::{Quiz, Subject, Teller, make};
 use script_reader::{first_field, number};
 use std::alloc::{AllocError, Global};
@@ -125,6 +125,45 @@ fn indices(alloc: Global, address: u64) -> Result<String, AllocError> {
     let page = address / 4096;
     let (last, middle, first) = (page % 512, page / 512 % 512, page / 262_144 % 512);
     format!(in alloc; "VPN[2] {first}, VPN[1] {middle}, VPN[0] {last}, offset 0x{offset:x}")
+}
+
+/// Returns an outcome of a guess as a client of a reference MMU tells it; a physical address in hexadecimal digits.
+fn told_outcome(alloc: Global, part: &[u8]) -> Result<String, AllocError> {
+    if let Some((word, rest)) = first_field(part) {
+        if word == b"pa".as_slice() {
+            if let Some(pa) = only_number(rest) {
+                return format!(in alloc; "pa 0x{pa:x}");
+            }
+        }
+    }
+    String::from_str(alloc, std::str::from_utf8(part.trim_ascii()).unwrap_or("?"))
+}
+
+/// Returns the number that is the first field of a text.
+fn only_number(text: &[u8]) -> Option<u64> {
+    let (field, _) = first_field(text)?;
+    number(field)
+}
+
+/// Appends what a reference MMU answers to a line that tells an outcome: why it is not permitted, or that another is permitted too.
+fn put_reason(
+    out: &mut String,
+    player: &mut MmuPlayer,
+    line: &str,
+    outcome: &str,
+) -> Result<(), AllocError> {
+    let alloc = *out.allocator();
+    let text = format!(in alloc; "{line} => {outcome}")?;
+    match player.line(text.as_str().as_bytes())? {
+        Some(Answer::NotPermitted { reason, .. }) => {
+            let reason = reason.as_str();
+            writeln!(out, "  {outcome}: NOT permitted: {reason}")
+        }
+        Some(Answer::Permitted(_)) => {
+            writeln!(out, "  {outcome}: permitted, but not the only outcome")
+        }
+        _ => Ok(()),
+    }
 }
 
 /// The words of lines that access an address.
@@ -306,6 +345,60 @@ impl Game {
         }
     }
 
+    /// Returns the form of the answers to a line.
+    pub fn form(&self, at: usize) -> &'static str {
+        match self.quiz.teller {
+            Teller::Machine => form_of(self.line(at).as_bytes()),
+            Teller::Mmu => OUTCOME_FORM,
+        }
+    }
+
+    /// Returns whether a guess is right, or at least of the form of the answers to a line.
+    pub fn is_formed(&self, at: usize, guess: &[u8]) -> Result<bool, AllocError> {
+        if is_right(self.alloc, guess, self.answer(at).as_bytes())? {
+            return Ok(true);
+        }
+        has_form(self.alloc, self.form(at), guess)
+    }
+
+    /// Returns a reference MMU that was told the lines before a line.
+    fn mmu_before(&self, at: usize) -> Result<MmuPlayer, AllocError> {
+        let mut player = MmuPlayer::new(self.alloc);
+        for before in 0..at {
+            player.line(self.line(before).as_bytes())?;
+        }
+        Ok(player)
+    }
+
+    /// Returns what the reference MMU says of the outcomes in a wrong guess, one a line; empty of other quizzes.
+    pub fn reasons(&self, at: usize, guess: &[u8]) -> Result<String, AllocError> {
+        let mut text = String::new(self.alloc);
+        if self.quiz.teller == Teller::Machine {
+            return Ok(text);
+        }
+        let mut player = self.mmu_before(at)?;
+        let parts = plain_parts(self.alloc, guess)?;
+        'parts: for part in parts.as_slice() {
+            let outcome = told_outcome(self.alloc, part.as_slice())?;
+            put_reason(&mut text, &mut player, self.line(at), outcome.as_str())?;
+        }
+        Ok(text)
+    }
+
+    /// Returns the lines of questions that were missed, each with its number and its right answer; empty if none were.
+    pub fn missed(&self, missed: &[usize]) -> Result<String, AllocError> {
+        let mut text = String::new(self.alloc);
+        if missed.is_empty() {
+            return Ok(text);
+        }
+        text.push_str("missed:\n")?;
+        for at in missed {
+            let (number, line, answer) = (at.saturating_add(1), self.line(*at), self.answer(*at));
+            write!(&mut text, "  line {number}: {line}\n    {answer}\n")?;
+        }
+        Ok(text)
+    }
+
     /// Returns what happens on a line; empty if there is none.
     pub fn trace(&self, at: usize) -> &str {
         match self.traces.get(at) {
@@ -353,6 +446,7 @@ impl Game {
             lines,
             line: self.line(at),
             answer: self.answer(at),
+            form: self.form(at),
             trace: self.trace(at),
             before: self.picture(at),
             after: self.picture(at.saturating_add(1)),

@@ -13,9 +13,6 @@ use std::alloc::{AllocError, Global};
 use std::fmt;
 use std::io::{BufReader, Read};
 
-/// What is printed, on standard error, when a guess may be typed.
-const PROMPT: &str = "? ";
-
 /// How many guesses were right, of those that were made.
 #[derive(Clone, Copy)]
 struct Score {
@@ -67,8 +64,38 @@ impl Game {
     {
         screen.out(self.between(first, at)?.as_str())?;
         let line = self.line(at);
-        screen.out(format!(in self.alloc; "{line}\n")?.as_str())?;
-        screen.err(PROMPT)
+        screen.out(format!(in self.alloc; "{line}\n")?.as_str())
+    }
+
+    /// Prints, on standard error, that a guess may be typed: the line's number, and the form of its answers.
+    fn print_prompt<S: Screen>(&self, screen: &mut S, at: usize) -> Result<(), Fault>
+        ensures whole { IfOk result (λ _. S.whole screen.old → S.whole screen.new) }
+    {
+        let (number, form) = (at.saturating_add(1), self.form(at));
+        screen.err(format!(in self.alloc; "line {number}: {form}? ")?.as_str())
+    }
+
+    /// Reads a guess, `None` at the end of the input; of one that has not the form of the answers, tells that and reads once more.
+    fn read_formed<R: Read + Drop, S: Screen>(
+        &self,
+        screen: &mut S,
+        reader: &mut BufReader<R>,
+        at: usize,
+    ) -> Result<Option<Vec<u8>>, Fault>
+        ensures whole { IfOk result (λ _. S.whole screen.old → S.whole screen.new) }
+    {
+        self.print_prompt(screen, at)?;
+        let Some(guess) = read_guess(self.alloc, reader)? else {
+            return Ok(None);
+        };
+        if self.is_formed(at, guess.as_slice())? {
+            return Ok(Some(guess));
+        }
+        let form = self.form(at);
+        let text = format!(in self.alloc; "no answer: once more, in the form {form}\n")?;
+        screen.out(text.as_str())?;
+        self.print_prompt(screen, at)?;
+        read_guess(self.alloc, reader)
     }
 
     /// Prints whether a guess is right, and what happens on the line. Returns whether it is.
@@ -86,22 +113,61 @@ impl Game {
             screen.out(format!(in self.alloc; "right: {answer}\n")?.as_str())?;
         } else {
             screen.out(format!(in self.alloc; "wrong: it is {answer}\n")?.as_str())?;
+            screen.out(self.reasons(at, guess)?.as_str())?;
         }
         screen.out(self.trace(at))?;
         screen.out("\n")?;
         Ok(right)
     }
 
-    /// Prints the score at the end of the input, and how many questions are left.
-    fn print_left<S: Screen>(&self, screen: &mut S, score: Score) -> Result<(), Fault>
+    /// Prints, at the end of the input, what was missed, the score, and how many questions are left.
+    fn print_left<S: Screen>(
+        &self,
+        screen: &mut S,
+        score: Score,
+        missed: &[usize],
+    ) -> Result<(), Fault>
         ensures whole { IfOk result (λ _. S.whole screen.old → S.whole screen.new) }
     {
         let left = self.asked.len().saturating_sub(score.asked);
         screen.err("\n")?;
+        screen.out(self.missed(missed)?.as_str())?;
         screen.out(format!(in self.alloc; "{score}, {left} not answered\n")?.as_str())
     }
 
-    /// Asks the questions one by one, and prints the score; the end of the input ends it.
+    /// Prints what was missed and the score, after the last question.
+    fn print_end<S: Screen>(
+        &self,
+        screen: &mut S,
+        score: Score,
+        missed: &[usize],
+    ) -> Result<(), Fault>
+        ensures whole { IfOk result (λ _. S.whole screen.old → S.whole screen.new) }
+    {
+        screen.out(self.missed(missed)?.as_str())?;
+        screen.out(format!(in self.alloc; "{score}\n")?.as_str())
+    }
+
+    /// Asks a question, reads a guess and prints the verdict; `first` is the first line that was not printed before. Returns whether the guess is
+    /// right, `None` at the end of the input.
+    fn ask_one<R: Read + Drop, S: Screen>(
+        &self,
+        screen: &mut S,
+        reader: &mut BufReader<R>,
+        first: usize,
+        at: usize,
+    ) -> Result<Option<bool>, Fault>
+        ensures whole { IfOk result (λ _. S.whole screen.old → S.whole screen.new) }
+    {
+        self.print_question(screen, first, at)?;
+        let Some(guess) = self.read_formed(screen, reader, at)? else {
+            return Ok(None);
+        };
+        let right = self.print_verdict(screen, at, guess.as_slice())?;
+        Ok(Some(right))
+    }
+
+    /// Asks the questions one by one, and prints what was missed and the score; the end of the input ends it.
     ///
     /// # Errors
     /// `Read`: the reader failed. `Io`: printing failed. `Memory`: the host is out of memory.
@@ -110,16 +176,18 @@ impl Game {
     {
         let mut reader = BufReader::new(self.alloc, input)?;
         let (mut score, mut first) = (Score { right: 0, asked: 0 }, 0usize);
+        let mut missed = Vec::new(self.alloc);
         'questions: for at in self.asked.as_slice() {
-            self.print_question(screen, first, *at)?;
-            let Some(guess) = read_guess(self.alloc, &mut reader)? else {
-                return self.print_left(screen, score);
+            let Some(right) = self.ask_one(screen, &mut reader, first, *at)? else {
+                return self.print_left(screen, score, missed.as_slice());
             };
-            let right = self.print_verdict(screen, *at, guess.as_slice())?;
+            if !right {
+                missed.push(*at)?;
+            }
             score = score.with(right);
             first = at.saturating_add(1);
         }
-        screen.out(format!(in self.alloc; "{score}\n")?.as_str())
+        self.print_end(screen, score, missed.as_slice())
     }
 
     /// Returns the quiz as a page.

@@ -51,11 +51,12 @@ button { font: inherit }
 const END: &str = "<script>
 const at = name => document.getElementById(name);
 const questions = [...document.querySelectorAll('template')].map(it => ({
-  number: it.dataset.number, line: it.dataset.line, answer: it.dataset.answer,
+  number: it.dataset.number, line: it.dataset.line, answer: it.dataset.answer, form: it.dataset.form,
   lines: it.content.querySelector('.lines').textContent, trace: it.content.querySelector('.trace').textContent,
   before: it.content.querySelector('.before svg'), after: it.content.querySelector('.after svg')
 }));
-let now = 0, right = 0, answered = false, lines = '';
+const missed = [];
+let now = 0, right = 0, answered = false, again = false, lines = '';
 const by = ['=>', 'walk', 'held', 'bare', 'misaligned', 'not', 'canonical'];
 const bytes = { file: 2, copied: 2, short: 5 };
 function plainWord(word, isBytes) {
@@ -78,6 +79,16 @@ function isRight(guess, answer) {
   const one = plainParts(guess), other = plainParts(answer);
   return one.size === other.size && [...one].every(it => other.has(it));
 }
+function fitsWord(form, word) {
+  if (form === 'N' || form === '0x..') return /^-?(0x[0-9a-f]+|[0-9]+)$/.test(word);
+  if (form === 'BYTES') return /^(-|[0-9a-f]+)$/.test(word);
+  if (form === 'NAME' || form === 'RULE') return !/^(0x[0-9a-f]+|[0-9]+)$/.test(word);
+  return form === word;
+}
+function hasForm(guess, form) {
+  const parts = [...plainParts(guess)].map(it => it.split(' ')), forms = form.split(' or ').map(it => it.split(' '));
+  return parts.length > 0 && parts.every(part => forms.some(words => words.length === part.length && words.every((word, place) => fitsWord(word, part[place]))));
+}
 function texts(picture) {
   return new Map([...picture.querySelectorAll('.cell')].filter(it => it.dataset.key).map(it => [it.dataset.key, it.getAttribute('class') + it.textContent]));
 }
@@ -94,7 +105,8 @@ function draw(question, after) {
 }
 function show() {
   const question = questions[now];
-  answered = false;
+  answered = again = false;
+  at('guess').placeholder = question.form;
   lines += question.lines;
   at('lines').textContent = lines;
   at('lines').scrollTop = at('lines').scrollHeight;
@@ -109,9 +121,15 @@ function show() {
   at('guess').focus();
 }
 function answer() {
-  const question = questions[now], good = isRight(at('guess').value, question.answer);
+  const question = questions[now], guess = at('guess').value, good = isRight(guess, question.answer);
+  if (!good && !again && !hasForm(guess, question.form)) {
+    again = true;
+    at('verdict').textContent = 'no answer: once more, in the form ' + question.form;
+    return;
+  }
   answered = true;
   if (good) right++;
+  else missed.push('line ' + question.number + ': ' + question.line + '\\n    ' + question.answer + '\\n');
   at('verdict').textContent = (good ? 'right: ' : 'wrong: it is ') + question.answer;
   at('trace').textContent = question.trace;
   at('score').textContent = right + ' right of ' + (now + 1);
@@ -123,7 +141,10 @@ function answer() {
 }
 function goOn() {
   if (now + 1 < questions.length) { now++; show(); }
-  else at('verdict').textContent = right + ' right of ' + questions.length;
+  else {
+    at('verdict').textContent = right + ' right of ' + questions.length;
+    at('trace').textContent = missed.length ? 'missed:\\n' + missed.join('') : '';
+  }
 }
 at('title').textContent = document.title;
 at('form').addEventListener('submit', event => {
@@ -149,6 +170,8 @@ pub struct QuizQuestion<'a> {
     pub lines: &'a str,
     pub line: &'a str,
     pub answer: &'a str,
+    /// The form of the answers to such a line.
+    pub form: &'a str,
     /// What happens on the line.
     pub trace: &'a str,
     /// The machine before the line and after it, as SVG; empty if there is none.
@@ -190,6 +213,8 @@ pub fn put_question(out: &mut String, question: &QuizQuestion<'_>) -> Result<(),
     put_escaped(out, question.line)?;
     out.push_str("\" data-answer=\"")?;
     put_escaped(out, question.answer)?;
+    out.push_str("\" data-form=\"")?;
+    put_escaped(out, question.form)?;
     out.push_str("\">\n")?;
     put_text(out, "lines", question.lines)?;
     put_text(out, "trace", question.trace)?;

@@ -84,8 +84,12 @@ fn add_part(alloc: Global, parts: &mut Vec<Vec<u8>>, part: &[u8]) -> Result<(), 
     Ok(())
 }
 
-/// Returns the outcomes of an answer, each in the form in which it is compared. What stands in parentheses is left out.
-fn plain_parts(alloc: Global, text: &[u8]) -> Result<Vec<Vec<u8>>, AllocError> {
+/// Returns the outcomes of an answer, each in the form in which it is compared: small letters, numbers in decimal digits. What stands in
+/// parentheses is left out, and by what an outcome is known.
+///
+/// # Errors
+/// `AllocError`: the host is out of memory.
+pub fn plain_parts(alloc: Global, text: &[u8]) -> Result<Vec<Vec<u8>>, AllocError> {
     let letters = text.to_ascii_lowercase(alloc)?;
     let (mut parts, mut part) = (Vec::new(alloc), Vec::new(alloc));
     let mut inside = false;

@@ -1,9 +1,12 @@
 //! Questions and guesses of quizzes: `choose` takes, of the lines that are worth a question, some whose answers the script does not give
-//! away; `is_right` compares a guess with an answer.
+//! away; `is_right` compares a guess with an answer, by the parts of both (`plain_parts`); `form_of` is the form of the answers to a line, and
+//! `has_form` says whether a guess is of it.
 #![tactic(auto)]
 
 mod choosing;
+mod forms;
 mod guesses;
 
 pub use choosing::{Script, choose};
-pub use guesses::is_right;
+pub use forms::{OUTCOME_FORM, form_of, has_form};
+pub use guesses::{is_right, plain_parts};
