@@ -44,7 +44,7 @@ function look() {
   if (!open) return;
   const request = step.trace.request;
   for (const word of request ? request.walk : []) {
-    const row = texts('tables').find(it => it.dataset.key === 'w' + word.table + '-' + word.index && it.matches('.walked'));
+    const row = texts('tables').find(it => it.dataset.key.replace('-still', '') === 'w' + word.table + '-' + word.index && it.matches('.walked'));
     if (!row) say('a word of the walk is not marked: ' + word.table + '[' + word.index + ']');
     counts.walked++;
   }

@@ -56,10 +56,10 @@ function marksOf(state, entry, kind) {
   ];
 }
 
-function pageRows(state, slot, entry, name, kind) {
+function pageRows(state, slot, entry, name, kind, look = '') {
   const key = slot + '-' + entry.address, cell = state.cell;
   const shown = cell ? cell.rows.filter(it => it.slot === slot && it.page === entry.address) : [];
-  const rows = [row('p' + key, '', [['name', name], ['', entry.address], ['', '→ ' + entry.ppn], ...marksOf(state, entry, kind)], shown.length ? 7 : 2)];
+  const rows = [row('p' + key, look, [['name', name], ['', entry.address], ['', '→ ' + entry.ppn], ...marksOf(state, entry, kind)], shown.length ? 7 : 2)];
   for (const it of shown)
     rows.push(row('c' + key + '-' + it.address, 'bytes quiet', [['', offsetOf(it.address)], ...bytesOf(it.bytes, cell), lettersOf(it.bytes, cell)], 7));
   return rows;
@@ -69,15 +69,23 @@ function regionName(line) {
   return { 'shared mapping': 'shared', 'private mapping': 'private' }[line.kind] || line.kind;
 }
 
+// How many pages of a region are listed; past these only such whose bytes are shown, which no line brings or takes away.
+const LISTED = 24;
+
+function leavesOf(it, line) {
+  const start = number(line.start), end = number(line.end);
+  return it.entries.filter(entry => isLeaf(entry) && number(entry.address) >= start && number(entry.address) < end);
+}
+
 function regionRows(state, it, region) {
-  const line = region.line, start = number(line.start), end = number(line.end);
-  const leaves = it.entries.filter(entry => isLeaf(entry) && number(entry.address) >= start && number(entry.address) < end);
+  const line = region.line, start = number(line.start), end = number(line.end), leaves = leavesOf(it, line);
   const name = regionName(line) + ' ' + line.rights;
   if (leaves.length === 1 && end - start === 4096 && line.file === undefined) return pageRows(state, it.slot, leaves[0], name, line.kind);
   const file = line.file !== undefined && ['', 'file ' + line.file + (line.offset ? ' + ' + line.offset : '')];
   const rows = [row('r' + it.slot + '-' + line.start, leaves.length ? '' : 'dim', [['name', name], file, ['', line.start + '..' + line.end]])];
-  for (const leaf of leaves) rows.push(...pageRows(state, it.slot, leaf, '', line.kind));
-  if (region.settled > leaves.length) rows.push(row('m' + it.slot + '-' + line.start, 'dim', [['name', ''], ['', region.settled - leaves.length + ' pages more']]));
+  leaves.forEach((leaf, place) => rows.push(...pageRows(state, it.slot, leaf, '', line.kind, place < LISTED ? '' : 'quiet')));
+  const more = region.settled - leaves.length;
+  if (more > 0) rows.push(row('m' + it.slot + '-' + line.start + '-' + more, 'dim quiet', [['name', ''], ['', more + ' pages more']]));
   return rows;
 }
 
@@ -116,10 +124,10 @@ function hartRows(state, step) {
   return rows;
 }
 
-function entryRow(entry, depth, walked) {
-  const look = walked ? 'walked' : '';
+function entryRow(entry, depth, walked, still) {
+  const look = (walked ? 'walked' : '') + (still ? ' quiet' : '');
   const to = isLeaf(entry) ? [['', entry.address], ['', '→ ' + entry.ppn], ['', flagsOf(entry)]] : [['', '→ table ' + entry.ppn]];
-  return { ...row('w' + entry.table + '-' + entry.index, look, [['', (walked ? '▶' : ' ') + '[' + entry.index + ']'], ...to], walked ? 7 : isLeaf(entry) ? 2 : 3), depth };
+  return { ...row('w' + entry.table + '-' + entry.index + (still ? '-still' : ''), look, [['', (walked ? '▶' : ' ') + '[' + entry.index + ']'], ...to], walked ? 7 : isLeaf(entry) ? 2 : 3), depth };
 }
 
 // The slot of which the page tables are shown: that of the process on the line's hart, or of the one that was there.
@@ -133,10 +141,11 @@ function treeRows(state, step, slot) {
   const it = slotsOf(state).find(it => it.slot === slot), rows = [], walked = walkedBy(step), there = new Set();
   if (it) {
     rows.push(row('t' + it.slot, 'head', [['', 'page tables of'], ['who ' + lookOf(it.slot), String(it.slot)], ['', 'root ' + it.root]], 8));
+    const still = new Set(it.regions.flatMap(region => leavesOf(it, region.line).slice(LISTED)));
     for (const entry of it.entries) {
       const key = entry.table + '-' + entry.index;
       there.add(key);
-      rows.push(entryRow(entry, it.levels - entry.level, walked.has(key)));
+      rows.push(entryRow(entry, it.levels - entry.level, walked.has(key), still.has(entry)));
     }
   }
   const others = walk.filter(word => !there.has(word.table + '-' + word.index));
@@ -153,17 +162,21 @@ function nameOf(state, it) {
   return ['who ' + lookOf(it.slot), it.slot + ':' + page];
 }
 
-function frameRows(state) {
-  const it = state.frames, cell = state.cell, rows = [];
+function frameRows(state, step) {
+  const it = state.frames, cell = state.cell, rows = [], frames = step.trace.changes && step.trace.changes.frames;
+  // Of many frames not all are listed: then those that the line took or gave back are known by its trace.
+  const some = [step.before, step.after].some(other => other && other.frames.more > 0);
+  const moved = new Set(frames ? [...frames.taken, ...frames.given_back] : []);
   rows.push(row('frames', 'head', [['', 'frames: ' + it.free + ' free, ' + it.held + ' held,'], ['', it.shared + ' shared']], 8));
   for (const frame of it.frames) {
     const code = frame.ppn === '0x80000';
     const names = code ? [['', 'trampoline']] : frame.names.map(name => nameOf(state, name));
     const bytes = cell && cell.rows.find(row => row.ppn === frame.ppn);
-    rows.push(row('f' + frame.ppn, code ? 'dim' : frame.count > 1 ? 'shared' : '', [['', frame.ppn], frame.count > 1 && ['mark', '×' + frame.count], ...names], bytes ? 7 : code ? 0 : frame.count > 1 ? 3 : 2));
+    const look = (code ? 'dim' : frame.count > 1 ? 'shared' : '') + (some && !moved.has(frame.ppn) ? ' quiet' : '');
+    rows.push(row('f' + frame.ppn, look, [['', frame.ppn], frame.count > 1 && ['mark', '×' + frame.count], ...names], bytes ? 7 : code ? 0 : frame.count > 1 ? 3 : 2));
     if (bytes) rows.push(row('d' + frame.ppn + '-' + bytes.address, 'bytes quiet', [['', offsetOf(bytes.address)], ...bytesOf(bytes.bytes, cell), lettersOf(bytes.bytes, cell)], 7));
   }
-  if (it.more) rows.push(row('more pages', 'dim', [['', 'and ' + it.more + ' frames more with pages']]));
+  if (it.more) rows.push(row('more pages ' + it.more, 'dim quiet', [['', 'and ' + it.more + ' frames more with pages']]));
   for (const other of it.tables) rows.push(row('tables' + other.slot, 'dim', [['who ' + lookOf(other.slot), String(other.slot)], ['', 'page tables: ' + other.count + ' frames']]));
   rows.push(row('kernel', 'dim', [['', 'the kernel: ' + it.kernel + ' frames']]));
   rows.push(row('free', 'dim', [['', 'free: ' + it.free + ' frames']], 3));
@@ -183,7 +196,7 @@ function fileRows(state) {
 const PANELS = {
   processes: state => processRows(state),
   tables: (state, step, slot) => [...hartRows(state, step), ...treeRows(state, step, slot)],
-  frames: state => [...frameRows(state), ...fileRows(state)],
+  frames: (state, step) => [...frameRows(state, step), ...fileRows(state)],
 };
 
 // Rows of a state, with those that the line changed marked, and those that are gone between them.
