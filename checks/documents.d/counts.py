@@ -6,7 +6,7 @@ from planted import PLANTED
 
 WORDS = "no one two three four five six seven eight nine ten eleven twelve thirteen fourteen fifteen sixteen seventeen eighteen".split()
 N = r"\b(?P<n>\d[\d,]*\d|\d|" + "|".join(WORDS) + r")\b"
-MOST_LINES, MOST_WORDS = 200, 78_500
+MOST_LINES, MOST_WORDS = 200, 77_900
 
 
 def number(text):
