@@ -1,7 +1,6 @@
 -- An outcome that a client may mean is the one that it means with one of the three memory types (`is_meant`).
 use Rattle.std.proofs.Common.{◌≡◌, ◌⊎◌, ℕ, Option, None, Some, Bool, false, IsTrue, ◌↔◌, ◌∙◌, subst, inl, inr, sym}
 use Rattle.std.proofs.lemmas.Bool.{false≢true}
-use Rattle.access_history.specs.Parts.{IsRefusal}
 use Rattle.access_history.specs.declared.outcome.Outcome.{Outcome}
 use Rattle.access_history.specs.declared.outcome.Outcome.TheVariants as outcome
 use Rattle.access_history.specs.declared.outcome.Update.{Update}
@@ -35,30 +34,3 @@ is_meant c (outcome.Refused code u) is = refusal c c.end code u is.0 is.1
 
 pub denied : (P : Outcome → Type 0) (b : Bool) (o p : Outcome) → (IsTrue b ↔ P p) → b ≡ false → p ≡ o → P o → ⊥
 denied P b o p is denies same holds = false≢true (sym denies ∙ is.1 (subst P (sym same) holds))
-
--- ---- an end that is told
-
-grant_apart : (e : End) (cause pa : ℕ) (t : MemoryType) → e ≡ ends.Refused cause → TellsGrant e pa t → ⊥
-grant_apart (ends.Granted at s) cause pa t is told = absurd (cc)
-grant_apart (ends.Refused code) cause pa t is told = told
-
-same_code : (e : End) (cause code : ℕ) → e ≡ ends.Refused cause → TellsRefusal e code → code ≡ cause
-same_code (ends.Granted at s) cause code is told = absurd told
-same_code (ends.Refused code) cause other is told = cc
-
--- a claim of a fault tells one outcome
-pub refused_as : (c : Claim) (cause : ℕ) (o : Outcome) → c.end ≡ ends.Refused cause → Tells c o → o ≡ outcome.Refused cause c.update
-refused_as c cause (outcome.Granted pa t u) is told = absurd (grant_apart c.end cause pa t is told.0)
-refused_as c cause (outcome.Refused code u) is told =
-    let same = same_code c.end cause code is told.0 in
-    let update = told.1 in
-    cc
-
-refusal_apart : (e : End) (at : ℕ) (s : Option MemoryType) (code : ℕ) → e ≡ ends.Granted at s → TellsRefusal e code → ⊥
-refusal_apart (ends.Granted pa t) at s code is told = told
-refusal_apart (ends.Refused cause) at s code is told = absurd (cc)
-
--- a claim of a grant tells no fault
-pub no_refusal : (c : Claim) (at : ℕ) (s : Option MemoryType) (o : Outcome) → c.end ≡ ends.Granted at s → Tells c o → IsRefusal o → ⊥
-no_refusal c at s (outcome.Granted pa t u) is told refuses = refuses
-no_refusal c at s (outcome.Refused code u) is told refuses = refusal_apart c.end at s code is told.0
