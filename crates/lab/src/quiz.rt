@@ -145,7 +145,7 @@ fn only_number(text: &[u8]) -> Option<u64> {
     number(field)
 }
 
-/// Appends what a reference MMU answers to a line that tells an outcome: why it is not permitted, or that another is permitted too.
+/// Appends what a reference MMU answers to a line that tells an outcome: that it is permitted, or why it is not.
 fn put_reason(
     out: &mut String,
     player: &mut MmuPlayer,
@@ -159,9 +159,7 @@ fn put_reason(
             let reason = reason.as_str();
             writeln!(out, "  {outcome}: NOT permitted: {reason}")
         }
-        Some(Answer::Permitted(_)) => {
-            writeln!(out, "  {outcome}: permitted, but not the only outcome")
-        }
+        Some(Answer::Permitted(_)) => { writeln!(out, "  {outcome}: permitted") }
         _ => Ok(()),
     }
 }
