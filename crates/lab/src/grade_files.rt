@@ -5,6 +5,7 @@ ghost use Rattle.std.specs.Prelude.{◌≡◌, IfOk, true};
 use crate::fault::Fault;
 use crate::grade::play_handout;
 use crate::grade_words::{Form, GradeWords, Source};
+use crate::handed_in::{Kind, Target, Targets, kind_of};
 use crate::lab::{Host, Reading};
 use crate::screen::Screen;
 use grade_reports::{
@@ -15,9 +16,9 @@ use handouts::{Asked, Line, lines_of};
 use lab_variants::Lab;
 use memchr::memchr;
 use std::alloc::{AllocError, Global};
+use std::io;
 use std::io::Read;
 use std::rt::Files;
-use std::{fs, io};
 
 /// The most bytes that a handout, or what a student hands in, may have.
 const MOST_BYTES: usize = 1_048_576;
@@ -49,31 +50,6 @@ impl Reading for FirstBytes {
             Err(error) => Err(Fault::of_reading(error)),
         }
     }
-}
-
-/// What a student hands in: where it is, and for which variant.
-#[derive(Drop)]
-struct Target {
-    file: String,
-    id: Option<String>,
-}
-
-/// What students hand in.
-#[derive(Drop)]
-struct Targets {
-    list: Vec<Target>,
-    /// A line for each path that is left out: why, and what would be right. Empty if none is.
-    left_out: String,
-}
-
-/// What there is at a path.
-#[derive(Clone, Copy, PartialEq)]
-enum Kind {
-    /// A file, or nothing: to open it tells.
-    File,
-    Folder,
-    /// A pipe or a device: to read it might never end.
-    Other,
 }
 
 /// What was read of a file.
@@ -123,137 +99,6 @@ impl Content {
         }
         Ok(lines)
     }
-}
-
-/// Returns what there is at a path.
-fn kind_of<F: Files>(files: &F, path: &str) -> Kind {
-    match files.metadata(path) {
-        Ok(metadata) if metadata.is_dir() => Kind::Folder,
-        Ok(metadata) if metadata.is_file() => Kind::File,
-        Ok(_) => Kind::Other,
-        Err(_) => Kind::File,
-    }
-}
-
-/// Appends that a file of a folder is left out since its name is no UTF-8, which the folder's reader cannot give.
-///
-/// # Errors
-/// The folder cannot be read, or the host is out of memory.
-fn put_unnamed(left_out: &mut String, folder: &str, error: io::Error) -> io::Result<()> {
-    match error.kind() {
-        io::ErrorKind::InvalidFilename => {
-            writeln!(
-                left_out,
-                "{folder}: left out a file whose name is no UTF-8; rename it"
-            )?;
-            Ok(())
-        }
-        _ => Err(error),
-    }
-}
-
-/// Returns the paths of what is in a folder, in the order of their names, but those whose names begin with a dot.
-///
-/// # Errors
-/// The folder cannot be read, or the host is out of memory.
-fn paths_in<F: Files>(
-    files: &F,
-    alloc: Global,
-    folder: &str,
-    left_out: &mut String,
-) -> io::Result<Vec<String>> {
-    let mut paths = Vec::new(alloc);
-    for entry in fs::read_dir(&(files, alloc), folder)? {
-        match entry {
-            Ok(entry) => {
-                let name = entry.file_name();
-                if !name.starts_with('.') {
-                    paths.push(format!(in alloc; "{folder}/{name}")?)?;
-                }
-            }
-            Err(error) => put_unnamed(left_out, folder, error)?,
-        }
-    }
-    paths.sort()?;
-    Ok(paths)
-}
-
-impl Targets {
-    /// Appends a file, or why it is left out.
-    ///
-    /// # Errors
-    /// `AllocError`: the host is out of memory.
-    fn add(&mut self, kind: Kind, file: String) -> Result<(), AllocError> {
-        if kind == Kind::File {
-            let target = Target { file, id: None };
-            return Ok(self.list.push(target)?);
-        }
-        let why = if kind == Kind::Folder {
-            "a folder in a folder; name it as a FILE to grade the files in it"
-        } else {
-            "no plain file, so reading it might never end; hand in a file"
-        };
-        let file = file.as_str();
-        writeln!(&mut self.left_out, "{file}: left out, {why}")
-    }
-
-    /// Appends the files of a folder.
-    ///
-    /// # Errors
-    /// The folder cannot be read, or the host is out of memory.
-    fn add_folder<F: Files>(&mut self, files: &F, alloc: Global, folder: &str) -> io::Result<()> {
-        let folder = folder.strip_suffix('/').unwrap_or(folder);
-        for file in paths_in(files, alloc, folder, &mut self.left_out)? {
-            self.add(kind_of(files, file.as_str()), file)?;
-        }
-        Ok(())
-    }
-
-    /// Appends what is handed in at a path: a file, or the files of a folder. A shell names its pipes by paths in `/dev`; `is_listed`: the path
-    /// is no shell's.
-    ///
-    /// # Errors
-    /// `File`: the folder cannot be read. `Memory`: the host is out of memory.
-    fn add_path<F: Files>(
-        &mut self,
-        files: &F,
-        alloc: Global,
-        path: &str,
-        is_listed: bool,
-    ) -> Result<(), Fault> {
-        let is_shells = path == "-" || (!is_listed && path.starts_with("/dev/"));
-        let kind = if is_shells {
-            Kind::File
-        } else {
-            kind_of(files, path)
-        };
-        if kind != Kind::Folder {
-            return Ok(self.add(kind, String::from_str(alloc, path)?)?);
-        }
-        match self.add_folder(files, alloc, path) {
-            Ok(()) => Ok(()),
-            Err(error) => Err(Fault::File(String::from_str(alloc, path)?, error)),
-        }
-    }
-
-    /// Appends what is handed in at the paths of a list, one a line.
-    ///
-    /// # Errors
-    /// Those of `add_path`.
-    fn add_list<F: Files>(&mut self, files: &F, alloc: Global, list: &[u8]) -> Result<(), Fault> {
-        for path in without_mark(list).split(|byte| *byte == b'\n' || *byte == b'\r') {
-            let path = String::from_utf8_lossy(alloc, path.trim_ascii())?;
-            if !path.is_empty() {
-                self.add_path(files, alloc, path.as_str(), true)?;
-            }
-        }
-        Ok(())
-    }
-}
-
-/// Returns a list without the byte order mark that some editors write before it.
-fn without_mark(list: &[u8]) -> &[u8] {
-    list.strip_prefix(b"\xef\xbb\xbf").unwrap_or(list)
 }
 
 /// Returns what is wrong with a list of students, for people; `columns`: those that it must have.

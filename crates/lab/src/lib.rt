@@ -18,6 +18,7 @@ mod fault;
 mod grade;
 mod grade_files;
 mod grade_words;
+mod handed_in;
 mod inspect;
 mod inspect_words;
 mod lab;
