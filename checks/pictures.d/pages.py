@@ -6,7 +6,7 @@ import shutil
 import subprocess
 import tempfile
 
-LOOK = pathlib.Path(__file__).resolve().parent / "look.js"
+LOOK, ANSWER = (pathlib.Path(__file__).resolve().parent / name for name in ["look.js", "quiz.js"])
 SIZES = [(1280, 720), (1920, 1080)]
 STEP = re.compile(r'<script type="application/json" class="step">(.*?)</script>\n', re.S)
 LEAF = re.compile(r"(?P<dots>( \.\.)+)(?P<va>0x[0-9a-f]+): pte (?P<pte>0x[0-9a-f]+) pa (?P<pa>0x[0-9a-f]+)")
@@ -126,8 +126,9 @@ def check_bytes(steps, compare, counts):
         counts["cells compared"] += 1
 
 
-def look(page, compare, counts, dark=False):
-    """Shows each line of a page in a browser, at each size; what does not fit or is not marked is wrong. Nothing if there is no browser."""
+def look(page, compare, counts, dark=False, script=LOOK):
+    """Shows each line of a page in a browser, at each size; what does not fit or is not marked is wrong. Nothing if there is no browser. With the
+    script ANSWER it answers the questions of a quiz's page."""
     browser = shutil.which("chromium") or shutil.which("chromium-browser") or shutil.which("google-chrome")
     if not browser:
         counts["pages not looked at, for want of chromium"] += 1
@@ -135,8 +136,8 @@ def look(page, compare, counts, dark=False):
     for width, height in SIZES:
         with tempfile.TemporaryDirectory() as folder:
             inner, outer = pathlib.Path(folder) / "page.html", pathlib.Path(folder) / "outer.html"
-            script = f"<script>const WIDTH = {width}, HEIGHT = {height};\n{LOOK.read_text()}</script>"
-            inner.write_text(page.replace("</body>", script + "</body>"))
+            looks = f"<script>const WIDTH = {width}, HEIGHT = {height};\n{script.read_text()}</script>"
+            inner.write_text(page.replace("</body>", looks + "</body>"))
             outer.write_text(
                 f'<!doctype html><pre id="report"></pre><script>onmessage = event => document.getElementById("report").textContent = event.data</script>'
                 f'<iframe src="page.html{"#1,dark" if dark else ""}" style="border: 0; width: {width}px; height: {height}px"></iframe>'

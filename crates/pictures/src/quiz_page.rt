@@ -55,6 +55,9 @@ const questions = [...document.querySelectorAll('template')].map(it => ({
   lines: it.content.querySelector('.lines').textContent, trace: it.content.querySelector('.trace').textContent,
   before: it.content.querySelector('.before svg'), after: it.content.querySelector('.after svg')
 }));
+// The form of an outcome of the reference MMU, of which all that are permitted are asked.
+const outcome = 'pa 0x.. or fault N';
+const wanted = form => (form === outcome ? 'each permitted outcome, with ; between: ' : '') + form;
 const missed = [];
 let now = 0, right = 0, answered = false, again = false, lines = '';
 const by = ['=>', 'walk', 'held', 'bare', 'misaligned', 'not', 'canonical'];
@@ -89,17 +92,25 @@ function hasForm(guess, form) {
   const parts = [...plainParts(guess)].map(it => it.split(' ')), forms = form.split(' or ').map(it => it.split(' '));
   return parts.length > 0 && parts.every(part => forms.some(words => words.length === part.length && words.every((word, place) => fitsWord(word, part[place]))));
 }
+// Between outcomes a comma is as good as a semicolon.
+function parted(guess, form) {
+  return form === outcome ? guess.replace(/,/g, ';') : guess;
+}
+// Whether a line asks for the counts that a picture shows.
+const asksCounts = question => question.line.trim().split(/[^a-z]/)[0] === 'audit';
 function texts(picture) {
   return new Map([...picture.querySelectorAll('.cell')].filter(it => it.dataset.key).map(it => [it.dataset.key, it.getAttribute('class') + it.textContent]));
 }
 function draw(question, after) {
-  const picture = (after ? question.after : question.before)?.cloneNode(true);
+  const kept = !after && question.before && asksCounts(question);
+  const picture = kept ? null : (after ? question.after : question.before)?.cloneNode(true);
   if (after && picture && question.before) {
     const old = texts(question.before);
     for (const it of picture.querySelectorAll('.cell'))
       if (it.dataset.key && old.get(it.dataset.key) !== it.getAttribute('class') + it.textContent) it.classList.add('changed');
   }
-  at('caption').textContent = picture ? after ? 'After this line (what changed is outlined)' : 'Before this line' : '';
+  at('caption').textContent = kept ? 'The picture comes with the answer: it shows the counts that are asked.'
+    : picture ? after ? 'After this line (what changed is outlined)' : 'Before this line' : '';
   at('picture').hidden = !picture;
   at('picture').replaceChildren(...picture ? [picture] : []);
 }
@@ -113,7 +124,8 @@ function show() {
   at('line').textContent = question.number + '  ' + question.line;
   at('place').textContent = 'question ' + (now + 1) + ' of ' + questions.length;
   at('score').textContent = right + ' right';
-  at('verdict').textContent = at('trace').textContent = '';
+  at('verdict').textContent = question.form === outcome ? 'Give ' + wanted(question.form) : '';
+  at('trace').textContent = '';
   at('guess').value = '';
   at('guess').disabled = false;
   at('button').textContent = 'Answer';
@@ -121,16 +133,17 @@ function show() {
   at('guess').focus();
 }
 function answer() {
-  const question = questions[now], guess = at('guess').value, good = isRight(guess, question.answer);
-  if (!good && !again && !hasForm(guess, question.form)) {
+  const question = questions[now], guess = parted(at('guess').value, question.form);
+  const good = isRight(guess, question.answer), formed = good || hasForm(guess, question.form);
+  if (!formed && !again) {
     again = true;
-    at('verdict').textContent = 'no answer: once more, in the form ' + question.form;
+    at('verdict').textContent = 'no answer: once more, in the form ' + wanted(question.form);
     return;
   }
   answered = true;
   if (good) right++;
   else missed.push('line ' + question.number + ': ' + question.line + '\\n    ' + question.answer + '\\n');
-  at('verdict').textContent = (good ? 'right: ' : 'wrong: it is ') + question.answer;
+  at('verdict').textContent = (good ? 'right: ' : formed ? 'wrong: it is ' : 'not understood: it is ') + question.answer;
   at('trace').textContent = question.trace;
   at('score').textContent = right + ' right of ' + (now + 1);
   at('guess').disabled = true;
