@@ -50,6 +50,11 @@ function look() {
   }
   if (request && request.entry && !at('tables').querySelector('.walked')) say('the entry that the access uses is not marked');
   if (state.cell) for (const it of state.cell.rows) {
+    // No user has access to the kernel's pages, which are in no region; the model says nothing of their bytes.
+    if (number(it.page) >= number(state['slot' + it.slot].trapframe)) {
+      if ([...document.querySelectorAll('.bytes')].some(row => row.dataset.key.endsWith('-' + it.address))) say('bytes of the kernel are shown, at ' + it.address);
+      continue;
+    }
     const row = texts('processes').find(other => other.dataset.key.startsWith('c' + it.slot + '-' + it.page));
     if (!row) say('the bytes of ' + it.slot + ':' + it.page + ' are not shown');
     else if (!row.textContent.includes(it.bytes.map(byte => byte.toString(16).padStart(2, '0')).join(''))) say('other bytes of ' + it.slot + ':' + it.page);

@@ -156,6 +156,9 @@ function treeRows(state, step, slot) {
   return rows;
 }
 
+// Whether a user may have access to a page: the trapframe's and, above it, the trampoline's are the kernel's.
+const isUsers = (state, it) => number(it.page) < number(state['slot' + it.slot].trapframe);
+
 function nameOf(state, it) {
   const slot = slotsOf(state).find(other => other.slot === it.slot);
   const page = slot && it.page === slot.trapframe ? 'trapframe' : it.page;
@@ -171,10 +174,14 @@ function frameRows(state, step) {
   for (const frame of it.frames) {
     const code = frame.ppn === '0x80000';
     const names = code ? [['', 'trampoline']] : frame.names.map(name => nameOf(state, name));
-    const bytes = cell && cell.rows.find(row => row.ppn === frame.ppn);
+    const touched = cell && cell.rows.find(row => row.ppn === frame.ppn);
     const look = (code ? 'dim' : frame.count > 1 ? 'shared' : '') + (some && !moved.has(frame.ppn) ? ' quiet' : '');
-    rows.push(row('f' + frame.ppn, look, [['', frame.ppn], frame.count > 1 && ['mark', '×' + frame.count], ...names], bytes ? 7 : code ? 0 : frame.count > 1 ? 3 : 2));
-    if (bytes) rows.push(row('d' + frame.ppn + '-' + bytes.address, 'bytes quiet', [['', offsetOf(bytes.address)], ...bytesOf(bytes.bytes, cell), lettersOf(bytes.bytes, cell)], 7));
+    const parts = [['', frame.ppn], frame.count > 1 && ['mark', '×' + frame.count], ...names];
+    rows.push(row('f' + frame.ppn, look, parts, touched ? 7 : code ? 0 : frame.count > 1 ? 3 : 2));
+    if (touched && isUsers(state, touched)) {
+      const bytes = [['', offsetOf(touched.address)], ...bytesOf(touched.bytes, cell), lettersOf(touched.bytes, cell)];
+      rows.push(row('d' + frame.ppn + '-' + touched.address, 'bytes quiet', bytes, 7));
+    }
   }
   if (it.more) rows.push(row('more pages ' + it.more, 'dim quiet', [['', 'and ' + it.more + ' frames more with pages']]));
   for (const other of it.tables) rows.push(row('tables' + other.slot, 'dim', [['who ' + lookOf(other.slot), String(other.slot)], ['', 'page tables: ' + other.count + ' frames']]));
