@@ -1,7 +1,7 @@
 // Looks at a page in a browser, in a frame of WIDTH x HEIGHT: it shows each line, and then goes through the page by keys. What is wrong goes to
 // the window around the frame.
 'use strict';
-const wrong = [], counts = { looks: 0, rows: 0, hidden: 0, bytes: 0, sharers: 0, walked: 0, keys: 0 };
+const wrong = [], counts = { looks: 0, rows: 0, hidden: 0, bytes: 0, sharers: 0, walked: 0, reasons: 0, keys: 0 };
 const say = text => { if (wrong.length < 20) wrong.push('line ' + (now + 1) + ': ' + text); };
 const key = name => { document.dispatchEvent(new KeyboardEvent('keydown', { key: name, bubbles: true })); counts.keys++; };
 const texts = panel => [...at(panel).querySelectorAll('.row')].filter(it => !it.hidden);
@@ -42,7 +42,13 @@ function look() {
   }
   if (!at('frames').querySelector('.more') && !frames.some(it => it.includes('free: ' + state.frames.free + ' frames'))) say('free frames are not counted');
   if (!open) return;
-  const request = step.trace.request;
+  const request = step.trace.request, told = [...at('trace').children].filter(it => !it.hidden).map(it => it.textContent);
+  for (const why of [request && request.reason, step.trace.note]) {
+    if (why && !told.includes(why)) say('it is hidden why: ' + why.slice(0, 60));
+    counts.reasons += why ? 1 : 0;
+  }
+  const rule = request && request.access && request.access.rule;
+  if (rule && !told.some(it => it.includes('denied by rule ' + rule.number + ' ' + rule.name))) say('rule ' + rule.number + ' is hidden');
   for (const word of request ? request.walk : []) {
     const row = texts('tables').find(it => it.dataset.key.replace('-still', '') === 'w' + word.table + '-' + word.index && it.matches('.walked'));
     if (!row) say('a word of the walk is not marked: ' + word.table + '[' + word.index + ']');

@@ -82,7 +82,7 @@ function regionRows(state, it, region) {
   const name = regionName(line) + ' ' + line.rights;
   if (leaves.length === 1 && end - start === 4096 && line.file === undefined) return pageRows(state, it.slot, leaves[0], name, line.kind);
   const file = line.file !== undefined && ['', 'file ' + line.file + (line.offset ? ' + ' + line.offset : '')];
-  const rows = [row('r' + it.slot + '-' + line.start, leaves.length ? '' : 'dim', [['name', name], file, ['', line.start + '..' + line.end]])];
+  const rows = [row('r' + it.slot + '-' + line.start, leaves.length ? '' : 'dim', [['name', name], file, ['', line.start + '..' + line.end]], leaves.length ? 3 : 1)];
   leaves.forEach((leaf, place) => rows.push(...pageRows(state, it.slot, leaf, '', line.kind, place < LISTED ? '' : 'quiet')));
   const more = region.settled - leaves.length;
   if (more > 0) rows.push(row('m' + it.slot + '-' + line.start + '-' + more, 'dim quiet', [['name', ''], ['', more + ' pages more']]));
@@ -255,22 +255,35 @@ function fitLines(panel) {
 }
 
 // Hides what matters least until the rest fits, and says how much is hidden.
-function fit(panel) {
+function hideLeast(panel) {
   if (fits(panel)) return;
-  const more = document.createElement('div');
+  const rows = [...panel.children].reverse().sort((one, other) => one.dataset.rank - other.dataset.rank), more = document.createElement('div');
   more.className = 'row more';
-  more.dataset.rank = 9;
   more.onclick = () => turn('all');
   panel.append(more);
-  const rows = [...panel.children].filter(it => it !== more).reverse();
-  let hidden = 0;
-  for (let rank = 0; rank < 9; rank++)
-    for (const it of rows.filter(it => Number(it.dataset.rank) === rank)) {
-      if (fits(panel)) return;
-      it.hidden = true;
-      hidden++;
-      more.textContent = hidden + (hidden > 1 ? ' rows' : ' row') + ' more (key a)';
-    }
+  const hide = count => {
+    rows.forEach((it, place) => it.hidden = place < count);
+    more.textContent = count + (count > 1 ? ' rows' : ' row') + ' more (key a)';
+    return fits(panel);
+  };
+  let few = 1, many = rows.length;
+  while (few < many) {
+    const count = (few + many) >> 1;
+    if (hide(count)) many = count;
+    else few = count + 1;
+  }
+  hide(few);
+}
+
+// Makes the letters a little smaller before it hides what the line changed or walks.
+function fit(panel) {
+  panel.classList.remove('tight');
+  hideLeast(panel);
+  if (!panel.querySelector('.row[hidden]:is(.changed, .walked, .bytes)')) return;
+  panel.querySelector('.more').remove();
+  for (const it of panel.children) it.hidden = false;
+  panel.classList.add('tight');
+  hideLeast(panel);
 }
 
 function fill(panel, nodes, fitting) {
@@ -333,12 +346,22 @@ function linesOf() {
   return nodes;
 }
 
+// How much a line of a trace matters: most of all why there is a fault, a refusal or an end, and by which rule; then what no panel shows.
+function traceRank(step, text) {
+  const request = step.trace.request;
+  if (text === step.trace.note || request && text === request.reason) return 8;
+  if (text.startsWith('regions: ')) return 7;
+  if (/^(TLB of|  |hart )/.test(text)) return 1;
+  if (/^(frames|references|then )/.test(text)) return 2;
+  return /^level .* leaf|^uses /.test(text) ? 4 : 3;
+}
+
 function traceOf(step) {
   const told = open ? step.told : String.fromCharCode(10) + 'Space shows the answer, and what happens.';
-  return told.split(String.fromCharCode(10)).slice(1).filter(text => text).map((text, place) => {
-    const node = document.createElement('div');
-    node.textContent = text.replace(/^ {8}/, '');
-    node.dataset.rank = 2;
+  return told.split(String.fromCharCode(10)).slice(1).filter(line => line).map(line => {
+    const node = document.createElement('div'), text = line.replace(/^ {8}/, '');
+    node.textContent = text;
+    node.dataset.rank = traceRank(step, text);
     return node;
   });
 }

@@ -39,6 +39,7 @@ body.early main { display: none }
 main { flex: 1; min-height: 0; display: grid; grid-template-columns: minmax(0, 1fr) minmax(0, 1.12fr) minmax(0, 1fr); gap: .6rem; padding: .5rem .8rem .6rem; font-size: 1.08rem }
 .panel { min-height: 0; overflow: hidden; border: 1px solid var(--line); background: var(--panel); padding: .2rem .3rem }
 .row { display: flex; flex-wrap: wrap; gap: 0 .55ch; align-items: baseline; white-space: nowrap; overflow: hidden; line-height: 1.36; padding: 0 .3rem; border-left: .3rem solid transparent }
+.tight { font-size: 1.01rem } .tight .row { line-height: 1.28 }
 .row.head { font-weight: bold; background: var(--head); margin: .15rem 0 .1rem }
 .row.dim, .row.more { color: var(--dim) }
 .row.more { cursor: pointer; font-family: system-ui, sans-serif }
