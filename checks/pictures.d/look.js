@@ -1,7 +1,7 @@
 // Looks at a page in a browser, in a frame of WIDTH x HEIGHT: it shows each line, and then goes through the page by keys. What is wrong goes to
 // the window around the frame.
 'use strict';
-const wrong = [], counts = { looks: 0, rows: 0, hidden: 0, bytes: 0, sharers: 0, walked: 0, reasons: 0, keys: 0 };
+const wrong = [], counts = { looks: 0, rows: 0, hidden: 0, bytes: 0, sharers: 0, walked: 0, reasons: 0, audits: 0, keys: 0 };
 const say = text => { if (wrong.length < 20) wrong.push('line ' + (now + 1) + ': ' + text); };
 const key = name => { document.dispatchEvent(new KeyboardEvent('keydown', { key: name, bubbles: true })); counts.keys++; };
 const texts = panel => [...at(panel).querySelectorAll('.row')].filter(it => !it.hidden);
@@ -19,6 +19,13 @@ function within(box) {
   }
 }
 
+// Before the answer to an audit no count of frames is shown.
+function lookAtAudit() {
+  const rows = texts('frames').filter(it => !/^(file|i)[0-9]/.test(it.dataset.key));
+  if (rows.length !== 1 || /[0-9]/.test(rows[0].textContent)) say('the counts that are asked can be read');
+  counts.audits++;
+}
+
 function look() {
   const step = steps[now], state = open ? step.after : step.before;
   counts.looks++;
@@ -32,15 +39,20 @@ function look() {
     if (rows.some(it => it.hidden && (it.matches('.changed, .walked, .bytes')))) say('a row that the line changes or walks is hidden in ' + name);
     if (parseFloat(getComputedStyle(rows[0]).fontSize) < innerHeight / 45) say('small letters in ' + name);
   }
-  const frames = texts('frames').map(it => it.textContent);
-  for (const frame of state.frames.frames) {
-    const row = texts('frames').find(it => it.dataset.key === 'f' + frame.ppn);
-    if (!row || frame.ppn === '0x80000') continue;
-    const names = [...row.querySelectorAll('.who')].map(it => it.textContent);
-    if (names.length !== frame.names.length) say('frame ' + frame.ppn + ' has ' + names);
-    counts.sharers += names.length;
+  const asked = steps.slice(now).find(it => it.trace.answer !== undefined);
+  const isAudit = quiz && asked && (asked !== step || !open) && asked.trace.text.startsWith('audit');
+  if (isAudit) lookAtAudit();
+  else {
+    for (const frame of state.frames.frames) {
+      const row = texts('frames').find(it => it.dataset.key === 'f' + frame.ppn);
+      if (!row || frame.ppn === '0x80000') continue;
+      const names = [...row.querySelectorAll('.who')].map(it => it.textContent);
+      if (names.length !== frame.names.length) say('frame ' + frame.ppn + ' has ' + names);
+      counts.sharers += names.length;
+    }
+    const isCounted = texts('frames').some(it => it.textContent.includes('free: ' + state.frames.free + ' frames'));
+    if (!at('frames').querySelector('.more') && !isCounted) say('free frames are not counted');
   }
-  if (!at('frames').querySelector('.more') && !frames.some(it => it.includes('free: ' + state.frames.free + ' frames'))) say('free frames are not counted');
   if (!open) return;
   const request = step.trace.request, told = [...at('trace').children].filter(it => !it.hidden).map(it => it.textContent);
   for (const why of [request && request.reason, step.trace.note]) {

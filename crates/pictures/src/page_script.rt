@@ -200,10 +200,16 @@ function fileRows(state) {
   return rows;
 }
 
+// Whether the counts of frames are asked: by the line or, at lines without an answer, by the next one that has an answer.
+function asksCounts() {
+  const asked = steps.find((step, place) => place >= now && step.trace.answer !== undefined);
+  return quiz && asked !== undefined && (asked !== steps[now] || !open) && asked.trace.text.trim().split(/[^a-z]/)[0] === 'audit';
+}
+
 const PANELS = {
   processes: state => processRows(state),
   tables: (state, step, slot) => [...hartRows(state, step), ...treeRows(state, step, slot)],
-  frames: (state, step) => [...frameRows(state, step), ...fileRows(state)],
+  frames: (state, step) => [...asksCounts() ? [row('frames', 'head', [['', 'frames: their counts are asked']], 8)] : frameRows(state, step), ...fileRows(state)],
 };
 
 // Rows of a state, with those that the line changed marked, and those that are gone between them.
