@@ -1,7 +1,7 @@
 // Looks at a page in a browser, in a frame of WIDTH x HEIGHT: it shows each line, and then goes through the page by keys. What is wrong goes to
 // the window around the frame.
 'use strict';
-const wrong = [], counts = { looks: 0, rows: 0, hidden: 0, bytes: 0, sharers: 0, walked: 0, reasons: 0, audits: 0, keys: 0 };
+const wrong = [], counts = { looks: 0, rows: 0, hidden: 0, bytes: 0, sharers: 0, folded: 0, walked: 0, reasons: 0, audits: 0, keys: 0 };
 const say = text => { if (wrong.length < 20) wrong.push('line ' + (now + 1) + ': ' + text); };
 const key = name => { document.dispatchEvent(new KeyboardEvent('keydown', { key: name, bubbles: true })); counts.keys++; };
 const texts = panel => [...at(panel).querySelectorAll('.row')].filter(it => !it.hidden);
@@ -19,6 +19,32 @@ function within(box) {
   }
 }
 
+// The first frame and the last of a row of frames; nothing for another row.
+const framesOf = row => (/^f(0x[0-9a-f]+)(?:\.\.(0x[0-9a-f]+))?$/.exec(row.dataset.key) || []).slice(1).filter(it => it).map(number);
+
+// Each frame is in one row, with the names of all its pages. Folded are frames with a page each, in a row, which the line did not touch, and all
+// of which it took, or none.
+function lookAtFrames(step, state) {
+  const rows = texts('frames').filter(it => !it.matches('.gone') && framesOf(it).length);
+  const before = open && step.before && !step.before.frames.more && !state.frames.more ? step.before.frames.frames : null;
+  for (const frame of state.frames.frames) {
+    const ppn = number(frame.ppn), holding = rows.filter(it => framesOf(it)[0] <= ppn && ppn <= framesOf(it).pop());
+    if (holding.length > 1 || !holding.length && !at('frames').querySelector('.more')) say('frame ' + frame.ppn + ' is in ' + holding.length + ' rows');
+    if (!holding.length || frame.ppn === '0x80000') continue;
+    const row = holding[0], names = [...row.querySelectorAll('.who')].map(it => it.textContent), [first, last] = framesOf(row);
+    if (names.length !== frame.names.length) say('frame ' + frame.ppn + ' has ' + names);
+    counts.sharers += names.length;
+    if (last === undefined) continue;
+    counts.folded++;
+    const [slot, from, to] = names[0].split(/:|\.\./), page = number(from) + (number(from) < number(to) ? 4096 : -4096) * (ppn - first);
+    if (frame.count !== 1 || Number(slot) !== frame.names[0].slot || page !== number(frame.names[0].page)) say('frame ' + frame.ppn + ' is folded as ' + names);
+    if (!row.textContent.endsWith(last - first + 1 + ' pages')) say('the fold of ' + frame.ppn + ' is counted otherwise');
+    if (state.cell && state.cell.rows.some(it => it.ppn === frame.ppn)) say('frame ' + frame.ppn + ' is folded, and touched');
+    const was = before && before.find(it => it.ppn === frame.ppn);
+    if (before && (row.matches('.changed') ? was : !was || JSON.stringify(was) !== JSON.stringify(frame))) say('a fold hides what the line changed of frame ' + frame.ppn);
+  }
+}
+
 // Before the answer to an audit no count of frames is shown.
 function lookAtAudit() {
   const rows = texts('frames').filter(it => !/^(file|i)[0-9]/.test(it.dataset.key));
@@ -32,24 +58,20 @@ function look() {
   if (document.documentElement.scrollHeight > innerHeight || document.documentElement.scrollWidth > innerWidth) say('the page scrolls');
   for (const name of ['lines', 'trace', 'processes', 'tables', 'frames']) if (at(name).offsetParent) within(at(name));
   if (!state) return;
+  const manyPages = slotsOf(state).some(it => it.regions.some(region => region.settled > LISTED));
   for (const name of Object.keys(PANELS)) {
     const rows = [...at(name).querySelectorAll('.row')];
     counts.rows += rows.length;
     counts.hidden += rows.filter(it => it.hidden).length;
-    if (rows.some(it => it.hidden && (it.matches('.changed, .walked, .bytes')))) say('a row that the line changes or walks is hidden in ' + name);
+    const mustFit = manyPages && name !== 'frames' ? '.walked, .bytes' : '.changed, .walked, .bytes';
+    if (rows.some(it => it.hidden && it.matches(mustFit))) say('a row that the line changes or walks is hidden in ' + name);
     if (parseFloat(getComputedStyle(rows[0]).fontSize) < innerHeight / 45) say('small letters in ' + name);
   }
   const asked = steps.slice(now).find(it => it.trace.answer !== undefined);
   const isAudit = quiz && asked && (asked !== step || !open) && asked.trace.text.startsWith('audit');
   if (isAudit) lookAtAudit();
   else {
-    for (const frame of state.frames.frames) {
-      const row = texts('frames').find(it => it.dataset.key === 'f' + frame.ppn);
-      if (!row || frame.ppn === '0x80000') continue;
-      const names = [...row.querySelectorAll('.who')].map(it => it.textContent);
-      if (names.length !== frame.names.length) say('frame ' + frame.ppn + ' has ' + names);
-      counts.sharers += names.length;
-    }
+    lookAtFrames(step, state);
     const isCounted = texts('frames').some(it => it.textContent.includes('free: ' + state.frames.free + ' frames'));
     if (!at('frames').querySelector('.more') && !isCounted) say('free frames are not counted');
   }

@@ -28,9 +28,10 @@ pub const BODY: &str = r#"<header>
 <b>Right, Left</b><span>one line on or back; Home, End</span>
 <b>d</b><span>light or dark</span>
 <b>+, -</b><span>larger or smaller</span>
-<b>a</b><span>all rows, with scroll bars</span>
+<b>a</b><span>all rows, each frame in its own, with scroll bars</span>
 <b>0:0x1000</b><span>the page at 0x1000 of process 0</span>
 <b>→ 0x80014</b><span>in the frame with this physical page number</span>
+<b>0x80014..0x80033</b><span>frames in a row, which have pages in a row</span>
 <b>×2</b><span>the frame has two references</span>
 <b>C, D</b><span>copy-on-write; stored to, so written back to its file</span>
 <b>▶</b><span>the walk of the line read this entry</span>

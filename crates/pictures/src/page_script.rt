@@ -165,6 +165,13 @@ function nameOf(state, it) {
   return ['who ' + lookOf(it.slot), it.slot + ':' + page];
 }
 
+// Where a frame is among others: which page of which region it has, if one has it alone.
+function placeOf(state, frame) {
+  const name = frame.names[0], slot = name && state['slot' + name.slot], page = name && number(name.page);
+  const region = slot && slot.regions.find(it => number(it.line.start) <= page && page < number(it.line.end));
+  return frame.count === 1 && region ? { name, page, ppn: frame.ppn, at: number(frame.ppn), region: name.slot + '-' + region.line.start } : undefined;
+}
+
 function frameRows(state, step) {
   const it = state.frames, cell = state.cell, rows = [], frames = step.trace.changes && step.trace.changes.frames;
   // Of many frames not all are listed: then those that the line took or gave back are known by its trace.
@@ -174,13 +181,13 @@ function frameRows(state, step) {
   for (const frame of it.frames) {
     const code = frame.ppn === '0x80000';
     const names = code ? [['', 'trampoline']] : frame.names.map(name => nameOf(state, name));
-    const touched = cell && cell.rows.find(row => row.ppn === frame.ppn);
+    const touched = cell && cell.rows.find(row => row.ppn === frame.ppn), place = placeOf(state, frame);
     const look = (code ? 'dim' : frame.count > 1 ? 'shared' : '') + (some && !moved.has(frame.ppn) ? ' quiet' : '');
     const parts = [['', frame.ppn], frame.count > 1 && ['mark', '×' + frame.count], ...names];
-    rows.push(row('f' + frame.ppn, look, parts, touched ? 7 : code ? 0 : frame.count > 1 ? 3 : 2));
+    rows.push({ ...row('f' + frame.ppn, look, parts, touched ? 7 : code ? 0 : frame.count > 1 ? 3 : 2), place, touched });
     if (touched && isUsers(state, touched)) {
       const bytes = [['', offsetOf(touched.address)], ...bytesOf(touched.bytes, cell), lettersOf(touched.bytes, cell)];
-      rows.push(row('d' + frame.ppn + '-' + touched.address, 'bytes quiet', bytes, 7));
+      rows.push({ ...row('d' + frame.ppn + '-' + touched.address, 'bytes quiet', bytes, 7), place, touched });
     }
   }
   if (it.more) rows.push(row('more pages ' + it.more, 'dim quiet', [['', 'and ' + it.more + ' frames more with pages']]));
@@ -219,6 +226,7 @@ function compared(rows, others) {
     const was = old.get(it.key);
     it.changes = it.parts.map(([, text], place) => was ? !was.parts[place] || was.parts[place][1] !== text : false);
     it.changed = was ? was.parts.length !== it.parts.length || it.changes.includes(true) : !it.look.includes('quiet');
+    it.come = it.changed && !was;
     if (it.changed) it.rank = Math.max(it.rank, Math.min(6, it.rank + 3));
   }
   let before = null;
@@ -230,6 +238,36 @@ function compared(rows, others) {
     before = it.key;
   }
   return all;
+}
+
+// Frames in a row, from this many on, have one row together where the line did the same to them: nothing, or it took them or gave them back.
+const FOLDED = 6;
+
+const isNext = (one, other) => one && other && one.region === other.region && (one.at === other.at || one.at + 1 === other.at && Math.abs(one.page - other.page) === 4096);
+const fateOf = it => it.touched || it.changed && !it.come ? '' : it.look.includes('gone') ? 'gone' : it.changed ? 'come' : 'still';
+
+// Rows in parts, each as long as each row of it goes on from the one before.
+function partsOf(rows, goesOn) {
+  const all = [];
+  rows.forEach((it, place) => {
+    if (place && goesOn(rows[place - 1], it)) all[all.length - 1].push(it);
+    else all.push([it]);
+  });
+  return all;
+}
+
+function foldOf(rows) {
+  const first = rows[0], from = first.place, to = rows[rows.length - 1].place;
+  const who = ['who ' + lookOf(from.name.slot), from.name.slot + ':' + from.name.page + '..' + to.name.page];
+  return { ...first, key: first.key + '..' + to.ppn, parts: [['', from.ppn + '..' + to.ppn], who, ['', rows.length + ' pages']] };
+}
+
+// Rows, with many frames in a row as one: frames with one reference, of pages in a row of a region.
+function folded(rows) {
+  return partsOf(rows, (one, other) => isNext(one.place, other.place)).flatMap(run => {
+    if (run.filter(it => !it.look.includes('bytes')).length < FOLDED) return run;
+    return partsOf(run, (one, other) => fateOf(one) && fateOf(one) === fateOf(other)).flatMap(part => part.length > 1 ? [foldOf(part)] : part);
+  });
 }
 
 function nodeOf(it) {
@@ -382,7 +420,8 @@ function draw() {
     const asked = open ? step : { ...step, trace: { ...step.trace, request: undefined } };
     const slot = state && slotOf(state, step), rows = state ? rowsOf(state, asked, slot) : [];
     const others = open && step.before ? rowsOf(step.before, step, slot) : rows;
-    fill(at(name), compared(rows, others).map(nodeOf), fit);
+    const all = compared(rows, others);
+    fill(at(name), (document.body.classList.contains('all') ? all : folded(all)).map(nodeOf), fit);
   }
   at('slider').value = now;
   at('place').textContent = (now + 1) + ' / ' + steps.length;

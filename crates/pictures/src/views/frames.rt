@@ -16,7 +16,7 @@ use sv39_entry::{Entry, FrameNo, Kind};
 use walk_lines::Hex;
 
 /// How many frames are listed, unless more are kept.
-const LISTED_FRAMES: usize = 64;
+const LISTED_FRAMES: usize = 256;
 
 /// A frame in which there are pages.
 #[derive(Drop, Serialize)]
