@@ -1,4 +1,5 @@
-// `csv_row`: a graded file as a row of CSV (RFC 4180, with line feeds alone); `csv_head`: the names of its fields.
+// `csv_row`: a graded file as a row of CSV (RFC 4180, with line feeds alone); `csv_head`: the names of its fields; `student_row`: a row of
+// a list of students.
 
 use crate::file_grade::FileGrade;
 use crate::table::notes_of;
@@ -29,7 +30,7 @@ fn row_of(alloc: Global, fields: &ByteRecord) -> Result<Vec<u8>, AllocError> {
     }
 }
 
-/// Returns a row of a list of students, with its line feed: an id, and the path of a file.
+/// Returns a row of a list of students, with its line feed: an id, and the path of a file. Both are as they are: `students_of` reads the row.
 ///
 /// # Errors
 /// `AllocError`: the host is out of memory.
@@ -38,6 +39,16 @@ pub fn student_row(alloc: Global, id: &str, file: &str) -> Result<Vec<u8>, Alloc
     fields.push_field(id.as_bytes())?;
     fields.push_field(file.as_bytes())?;
     row_of(alloc, &fields)
+}
+
+/// Adds a field with a text. A spreadsheet may run one that begins with `=`, `+`, `-`, `@`, a tab or a carriage return: it gets `'` before it.
+fn push_text(alloc: Global, fields: &mut ByteRecord, text: &str) -> Result<(), AllocError> {
+    match text.as_bytes() {
+        [b'=' | b'+' | b'-' | b'@' | b'\t' | b'\r', ..] => {
+            fields.push_field(format!(in alloc; "'{text}")?.as_bytes())
+        }
+        bytes => fields.push_field(bytes),
+    }
 }
 
 /// Adds a field with a number.
@@ -66,9 +77,9 @@ fn push_counts(
 /// `AllocError`: the host is out of memory.
 pub fn csv_row(alloc: Global, grade: &FileGrade) -> Result<Vec<u8>, AllocError> {
     let mut fields = ByteRecord::new(alloc);
-    fields.push_field(grade.file.as_bytes())?;
+    push_text(alloc, &mut fields, grade.file.as_str())?;
     match &grade.id {
-        Some(id) => fields.push_field(id.as_bytes())?,
+        Some(id) => push_text(alloc, &mut fields, id.as_str())?,
         None => fields.push_field(b"")?,
     }
     fields.push_field(grade.standing.name().as_bytes())?;
@@ -80,6 +91,6 @@ pub fn csv_row(alloc: Global, grade: &FileGrade) -> Result<Vec<u8>, AllocError> 
         }
         None => fields.push_field(b"")?,
     }
-    fields.push_field(notes_of(alloc, grade)?.as_bytes())?;
+    push_text(alloc, &mut fields, notes_of(alloc, grade)?.as_str())?;
     row_of(alloc, &fields)
 }

@@ -62,6 +62,8 @@ pub struct FileGrade {
     pub id: Option<String>,
     /// The id that the file names, if it is another.
     pub other_id: Option<String>,
+    /// The number of the lab that the file names, if it is another.
+    pub other_lab: Option<u32>,
     pub standing: Standing,
     /// How many lines of the handout the file has.
     pub kept: usize,
@@ -141,6 +143,7 @@ impl FileGrade {
             file,
             id: None,
             other_id: None,
+            other_lab: None,
             standing,
             kept: grade.kept,
             changed: grade.changed,

@@ -324,6 +324,22 @@ fn is_bytes(text: &str) -> bool {
 }
 
 impl Part {
+    /// Whether a text has the form of this part but for zeros before its number.
+    pub fn fits_with_zeros(self, text: &str) -> bool {
+        match self {
+            Part::Decimal(_) => !text.is_empty() && are_decimal(text.as_bytes()),
+            Part::Hexadecimal(_) => match text.as_bytes() {
+                [b'0', b'x', digits @ ..] => !digits.is_empty() && are_hex(digits),
+                _ => false,
+            },
+            Part::Signed(_) => {
+                let digits = text.strip_prefix('-').unwrap_or(text);
+                !digits.is_empty() && are_decimal(digits.as_bytes())
+            }
+            Part::Text(_) | Part::Name(_) | Part::Bytes(_) => self.fits(text),
+        }
+    }
+
     /// Whether a text has the form of this part.
     pub fn fits(self, text: &str) -> bool {
         match self {

@@ -1,4 +1,4 @@
-// `Head`, a struct: the comment by which a variant of a handout names its student.
+// `Head`, a struct: the comment by which a variant of a handout names its student; `other_lab`: whether a file names another lab.
 
 use memchr::memmem;
 
@@ -7,6 +7,11 @@ use memchr::memmem;
 pub struct Head<'a> {
     before: &'a [u8],
     after: &'a [u8],
+}
+
+/// Whether a byte ends a line, as students may write one.
+fn is_end(byte: u8) -> bool {
+    byte == b'\n' || byte == b'\r'
 }
 
 /// Whether a line is a comment.
@@ -42,11 +47,37 @@ impl<'a> Head<'a> {
 
     /// Returns the id that a file names: that of its first comment of this form.
     pub fn id_of<'b>(&self, text: &'b [u8]) -> Option<&'b [u8]> {
-        'lines: for line in text.split(|byte| *byte == b'\n') {
+        'lines: for line in text.split(|byte| is_end(*byte)) {
             if let Some(id) = self.id_in(line.trim_ascii()) {
                 return Some(id);
             }
         }
         None
     }
+}
+
+/// Returns the number of the lab that a comment names, as `# Lab 4, copy-on-write fork.` does.
+fn lab_in(comment: &[u8]) -> Option<u32> {
+    let rest = comment.strip_prefix(b"# Lab ")?;
+    let count = rest.iter().take_while(|byte| byte.is_ascii_digit()).count();
+    let digits = rest.get(..count)?;
+    std::str::from_utf8(digits).ok()?.parse::<u32>().ok()
+}
+
+/// Returns the number of the lab that the first comment of a script names.
+fn lab_of(text: &[u8]) -> Option<u32> {
+    let text = text.strip_prefix(b"\xef\xbb\xbf").unwrap_or(text);
+    'lines: for line in text.split(|byte| is_end(*byte)) {
+        let line = line.trim_ascii();
+        if is_comment(line) {
+            return lab_in(line);
+        }
+    }
+    None
+}
+
+/// Returns the number of the lab that a file names in its first comment, if the handout names another in its own.
+pub fn other_lab(handout: &[u8], file: &[u8]) -> Option<u32> {
+    let (own, other) = (lab_of(handout)?, lab_of(file)?);
+    if own == other { None } else { Some(other) }
 }

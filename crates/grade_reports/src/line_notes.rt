@@ -1,5 +1,4 @@
-// `LineNotes`, a struct: which lines of a handout a student's file has changed, left out or answered more than once; `put_lines`: that in
-// words.
+// `LineNotes`, a struct: which lines of a handout a student's file has changed, left out or more than once; `put_lines`: that in words.
 
 use handouts::{Answer, Asked, Found, Line, is_kept};
 use std::alloc::{AllocError, Global};
@@ -14,7 +13,7 @@ pub struct LineNotes {
     pub changed: Vec<usize>,
     /// The lines that are no blanks and are not there, up to the last line that the file has of the handout.
     pub missing: Vec<usize>,
-    /// The blanks whose line the file has again further below, with an answer. The first counts.
+    /// The blanks whose line the file has more than once. The first answer in the handout's order counts.
     pub again: Vec<usize>,
 }
 
@@ -49,23 +48,117 @@ fn is_used(found: &[Found], written: usize) -> bool {
     false
 }
 
-/// Whether a line of the handout is a blank, and found in the file above a place.
-fn is_above(asked: &Asked, one: Option<&Found>, written: usize) -> bool {
-    match one {
-        Some(Found::Kept(place)) => asked.is_blank() && *place < written,
-        _ => false,
+/// Returns how many lines the file has up to the last that is a line of the handout, or in the place of one.
+fn used_end(found: &[Found]) -> usize {
+    let mut end = 0usize;
+    'found: for one in found {
+        match one {
+            Found::Kept(place) | Found::Changed(place) => end = end.max(place.saturating_add(1)),
+            Found::Missing => {}
+        }
+    }
+    end
+}
+
+/// A line of the file that is none of the handout, nor in the place of one.
+#[derive(Clone, Copy)]
+struct Copied<'a> {
+    line: &'a Line,
+    /// Its number among the lines of the file, from 0.
+    place: usize,
+    /// Whether no line below it is one of the handout, or in the place of one.
+    is_past: bool,
+}
+
+/// A blank of the handout that the file has.
+#[derive(Clone, Copy)]
+struct Kept<'a> {
+    asked: &'a Asked,
+    /// The line of the file that is it.
+    line: &'a Line,
+    /// The number of that among the lines of the file, from 0.
+    place: usize,
+}
+
+/// Whether a line has an answer.
+fn is_answered(line: &Line) -> bool {
+    matches!(line.answer, Answer::Given(_))
+}
+
+/// Returns a blank of the handout with the line of the file that is it; `None` if it is no blank, or not there.
+fn kept_blank<'a>(asked: &'a Asked, student: &'a [Line], found: Found) -> Option<Kept<'a>> {
+    match found {
+        Found::Kept(place) if asked.is_blank() => Some(Kept {
+            asked,
+            line: student.get(place)?,
+            place,
+        }),
+        _ => None,
     }
 }
 
-/// Returns the number of the last blank above a line of the file that this line, which is none of the handout, answers again.
-fn blank_above(handout: &[Asked], found: &[Found], line: &Line, written: usize) -> Option<usize> {
-    let mut number = None;
-    'lines: for (place, asked) in handout.iter().enumerate() {
-        if is_above(asked, found.get(place), written) && is_kept(&asked.line, line) {
-            number = Some(asked.line.number);
+impl Copied<'_> {
+    /// Whether this line may be a copy of a blank.
+    fn is_equal(self, blank: Kept<'_>) -> bool {
+        is_kept(&blank.asked.line, self.line)
+    }
+
+    /// Whether one of this line and a blank has the answer that the other lacks: this one, below all of the handout; or the blank, further
+    /// below.
+    fn is_for(self, blank: Kept<'_>) -> bool {
+        if is_answered(self.line) {
+            self.is_past && !is_answered(blank.line)
+        } else {
+            self.place < blank.place && is_answered(blank.line)
         }
     }
-    number
+
+    /// Whether this line has an answer, and a blank is above it.
+    fn is_below(self, blank: Kept<'_>) -> bool {
+        is_answered(self.line) && blank.place < self.place
+    }
+
+    /// Returns the number of the blank that this line is a copy of. Of equal ones it is the first that it is for; else the nearest above, or,
+    /// below all of the handout and not next to that one, the first. Of both the first is meant that is not among `numbers`.
+    fn blank_of(
+        self,
+        handout: &[Asked],
+        student: &[Line],
+        found: &[Found],
+        numbers: &[usize],
+    ) -> Option<usize> {
+        let (mut first, mut nearest) = (None, None);
+        'lines: for (asked, found) in handout.iter().zip(found) {
+            let Some(blank) = kept_blank(asked, student, *found) else {
+                continue;
+            };
+            if !self.is_equal(blank) {
+                continue;
+            }
+            let number = asked.line.number;
+            let is_new = !has_number(numbers, number);
+            if is_new && self.is_for(blank) {
+                return Some(number);
+            }
+            if self.is_below(blank) {
+                if is_new && first.is_none() {
+                    first = Some(number);
+                }
+                nearest = Some((number, blank.place));
+            }
+        }
+        self.chosen(first, nearest)
+    }
+
+    /// Returns the first of equal blanks or the nearest above, whose place in the file is given with it.
+    fn chosen(self, first: Option<usize>, nearest: Option<(usize, usize)>) -> Option<usize> {
+        let (number, place) = nearest?;
+        if self.is_past && place.saturating_add(1) < self.place {
+            Some(first.unwrap_or(number))
+        } else {
+            Some(number)
+        }
+    }
 }
 
 /// Whether a number is among some.
@@ -78,7 +171,7 @@ fn has_number(numbers: &[usize], number: usize) -> bool {
     false
 }
 
-/// Returns the numbers of the blanks that the file answers again.
+/// Returns the numbers of the blanks whose line the file has more than once.
 fn again_of(
     alloc: Global,
     handout: &[Asked],
@@ -86,11 +179,17 @@ fn again_of(
     found: &[Found],
 ) -> Result<Vec<usize>, AllocError> {
     let mut numbers = Vec::new(alloc);
-    'lines: for (written, line) in student.iter().enumerate() {
-        if !matches!(line.answer, Answer::Given(_)) || is_used(found, written) {
+    let end = used_end(found);
+    'lines: for (place, line) in student.iter().enumerate() {
+        if is_used(found, place) {
             continue;
         }
-        if let Some(number) = blank_above(handout, found, line, written) {
+        let copied = Copied {
+            line,
+            place,
+            is_past: end <= place,
+        };
+        if let Some(number) = copied.blank_of(handout, student, found, numbers.as_slice()) {
             if !has_number(numbers.as_slice(), number) {
                 numbers.push(number)?;
             }
@@ -101,7 +200,7 @@ fn again_of(
 }
 
 impl LineNotes {
-    /// Returns which lines of a handout a file has changed, left out or answered more than once; `found` is where each is.
+    /// Returns which lines of a handout a file has changed, left out or more than once; `found` is where each is.
     ///
     /// # Errors
     /// `AllocError`: the host is out of memory.
@@ -167,7 +266,7 @@ fn put_some(
     text.push_str(if numbers.len() == 1 { one } else { several })
 }
 
-/// Appends which lines a file has changed, left out or answered more than once, in words.
+/// Appends which lines a file has changed, left out or more than once, in words.
 ///
 /// # Errors
 /// `AllocError`: the host is out of memory.
@@ -187,7 +286,7 @@ pub fn put_lines(text: &mut String, notes: &LineNotes) -> Result<(), AllocError>
     put_some(
         text,
         notes.again.as_slice(),
-        " is there more than once, and the first counts",
-        " are there more than once, and the first counts",
+        " is there more than once, and the first answer in the handout's order counts",
+        " are there more than once, and the first answer in the handout's order counts",
     )
 }

@@ -28,6 +28,9 @@ pub struct FileObject {
     /// The id that the file names, if it is another.
     #[serde(skip_serializing_if = "Option::is_none")]
     pub made_for: Option<String>,
+    /// The number of the lab that the file names, if it is another.
+    #[serde(skip_serializing_if = "Option::is_none")]
+    pub made_for_lab: Option<u32>,
     /// `"graded"`, `"truncated"`, `"empty"`, `"missing"`, `"unreadable"`, `"too long"` or `"binary"`.
     pub status: &'static str,
     /// How many lines the handout has.
@@ -115,6 +118,7 @@ impl FileObject {
             file: String::from_str(alloc, grade.file.as_str())?,
             id: again(alloc, &grade.id)?,
             made_for: again(alloc, &grade.other_id)?,
+            made_for_lab: grade.other_lab,
             status: grade.standing.name(),
             lines: grade.lines(),
             kept: grade.kept,

@@ -1,9 +1,24 @@
-// `reason_of`: why an answer is wrong, without the right one (`Reason`, an enum); `put_reason`: that in words.
+// `reason_of`: why an answer is wrong, without the right one (`Reason`, an enum; `Excess`: what it has too much); `put_reason`: that in
+// words.
 
 use crate::forms::{Part, form_of, put_forms};
+use crate::visible::put_quoted;
 use handouts::{Answer, Asked, BlankMark, Found, Line, Mark};
 use script_reader::first_field;
 use std::alloc::{AllocError, Global};
+
+/// What an answer has too much, if without that it has the form of one.
+#[derive(Clone, Copy)]
+pub enum Excess {
+    /// The `?` of the blank, before the answer or after it.
+    Question,
+    /// Quotes around it.
+    Quotes,
+    /// A full stop after it.
+    Stop,
+    /// Zeros before a number.
+    Zeros,
+}
 
 /// Why a blank does not have the machine's answer.
 #[derive(Drop)]
@@ -14,8 +29,8 @@ pub enum Reason {
     Changed,
     /// The file does not have the line.
     Gone,
-    /// No answer to such a line has this form.
-    Form,
+    /// No answer to such a line has the form of this one, which the student wrote.
+    Form(String, Option<Excess>),
     /// The machine's answer begins with another word.
     Word,
     /// The word is right, and these parts after it are wrong.
@@ -69,8 +84,8 @@ fn part_count(rest: Option<&str>) -> usize {
     }
 }
 
-/// Whether what comes after an answer's word has this form.
-fn fits(parts: &[Part], rest: Option<&str>) -> bool {
+/// Whether what comes after an answer's word has this form; `zeros`: there may be some before its numbers.
+fn fits(parts: &[Part], rest: Option<&str>, zeros: bool) -> bool {
     let Some(rest) = rest else {
         return parts.is_empty();
     };
@@ -78,11 +93,60 @@ fn fits(parts: &[Part], rest: Option<&str>) -> bool {
         return false;
     }
     'parts: for (part, text) in parts.iter().zip(rest.split(' ')) {
-        if !part.fits(text) {
+        let is_fit = if zeros {
+            part.fits_with_zeros(text)
+        } else {
+            part.fits(text)
+        };
+        if !is_fit {
             return false;
         }
     }
     true
+}
+
+/// Whether answers to a line, by its word, have the form of this one; `zeros`: there may be some before its numbers.
+fn has_form(word: &str, answer: &str, zeros: bool) -> bool {
+    let (first, rest) = cut(answer);
+    match form_of(word, first, part_count(rest)) {
+        Some(parts) => fits(parts, rest, zeros),
+        None => false,
+    }
+}
+
+/// The quotes that keyboards and editors write.
+static QUOTES: [char; 7] = [
+    '"', '\'', '`', '\u{2018}', '\u{2019}', '\u{201c}', '\u{201d}',
+];
+
+/// Returns a text without quotes around it.
+fn without_quotes(text: &str) -> &str {
+    let mut bare = text;
+    'quotes: for quote in QUOTES.as_slice() {
+        bare = bare.trim_matches(*quote);
+    }
+    bare
+}
+
+/// Returns what an answer that has no form has too much, if without that it has one; `word` is its line's.
+fn excess_of(word: &str, answer: &str) -> Option<Excess> {
+    if has_form(word, answer.trim_matches('?').trim(), false) {
+        Some(Excess::Question)
+    } else if has_form(word, without_quotes(answer).trim(), false) {
+        Some(Excess::Quotes)
+    } else if has_form(word, answer.trim_end_matches('.').trim(), false) {
+        Some(Excess::Stop)
+    } else if has_form(word, answer, true) {
+        Some(Excess::Zeros)
+    } else {
+        None
+    }
+}
+
+/// Returns that no answer to a line has the form of this one; `word` is the line's.
+fn no_form(alloc: Global, word: &str, answer: &str) -> Result<Reason, AllocError> {
+    let given = String::from_str(alloc, answer)?;
+    Ok(Reason::Form(given, excess_of(word, answer)))
 }
 
 /// Whether there is a part, and it is this text.
@@ -131,14 +195,14 @@ fn reason_of_text(
     right: &[u8],
 ) -> Result<Reason, AllocError> {
     let (Ok(given), Ok(right)) = (std::str::from_utf8(given), std::str::from_utf8(right)) else {
-        return Ok(Reason::Form);
+        return Ok(Reason::Form(String::from_utf8_lossy(alloc, given)?, None));
     };
     let ((first, rest), (right_first, right_rest)) = (cut(given), cut(right));
     let Some(parts) = form_of(word, first, part_count(rest)) else {
-        return Ok(Reason::Form);
+        return no_form(alloc, word, given);
     };
-    if !fits(parts, rest) {
-        return Ok(Reason::Form);
+    if !fits(parts, rest, false) {
+        return no_form(alloc, word, given);
     }
     if first != right_first {
         return Ok(Reason::Word);
@@ -215,6 +279,28 @@ fn put_names(text: &mut String, names: &[&'static str]) -> Result<(), AllocError
     })
 }
 
+/// Appends which forms the answers to a line have, and what the student wrote, whose form is another; `word` is the line's.
+fn put_form(
+    text: &mut String,
+    word: &str,
+    given: &str,
+    excess: Option<Excess>,
+) -> Result<(), AllocError> {
+    text.push_str("an answer of ")?;
+    text.push_str(word)?;
+    text.push_str(" is ")?;
+    put_forms(text, word)?;
+    text.push_str(", not ")?;
+    put_quoted(text, given)?;
+    match excess {
+        Some(Excess::Question) => text.push_str(": write it without the ?"),
+        Some(Excess::Quotes) => text.push_str(": write it without the quotes"),
+        Some(Excess::Stop) => text.push_str(": write it without the full stop"),
+        Some(Excess::Zeros) => text.push_str(": write numbers without zeros before them"),
+        None => Ok(()),
+    }
+}
+
 /// Appends why a blank is wrong, in words; `word` is its line's.
 ///
 /// # Errors
@@ -226,12 +312,7 @@ pub fn put_reason(text: &mut String, word: &str, reason: &Reason) -> Result<(), 
         Reason::Open => text.push_str("still ?"),
         Reason::Changed => text.push_str("the line is changed"),
         Reason::Gone => text.push_str("the line is gone"),
-        Reason::Form => {
-            text.push_str("an answer of ")?;
-            text.push_str(word)?;
-            text.push_str(" is ")?;
-            put_forms(text, word)
-        }
+        Reason::Form(given, excess) => put_form(text, word, given.as_str(), *excess),
         Reason::Word => text.push_str("another word than the machine's"),
         Reason::Parts(names) => put_names(text, names.as_slice()),
     }

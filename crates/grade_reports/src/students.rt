@@ -1,8 +1,9 @@
 // `students_of`: the students of a list, which has the columns `id` and `file`, and maybe others; `ids_of`: those of one that may have no
-// column `file`.
+// column `file`; `first_row` and `put_repeat`: ids that are there more than once.
 
 ghost use Rattle.std.specs.Prelude.{OnOk, ◌<◌, All, IfOk, IfSome, string_len};
 
+use crate::visible::Visible;
 use csv::{ByteRecord, Reader, ReaderBuilder};
 use memchr::memchr;
 use std::alloc::{AllocError, Global};
@@ -13,6 +14,8 @@ pub struct Student {
     pub id: String,
     /// The path of what was handed in; empty if nothing was.
     pub file: String,
+    /// The number of the row; the one after the names is 1.
+    pub row: usize,
 }
 
 /// Why a list cannot be taken.
@@ -24,6 +27,8 @@ pub enum ListFault {
     Wide,
     /// The id of the row of this number is no UTF-8.
     NotText(usize),
+    /// The file of the row of this number is no UTF-8.
+    FileNotText(usize),
     /// The row of this number has no id; the one after the names is 1.
     NoId(usize),
     /// The host is out of memory.
@@ -52,6 +57,19 @@ pub fn is_wide(text: &[u8]) -> bool {
     text.starts_with(&[0xff, 0xfe]) || text.starts_with(&[0xfe, 0xff]) || memchr(0, text).is_some()
 }
 
+/// Returns a list without the line `sep=;` that some spreadsheets take before the rows, and without the byte order mark before that line.
+fn without_separator(text: &[u8]) -> &[u8] {
+    let bare = text.strip_prefix(b"\xef\xbb\xbf").unwrap_or(text);
+    let (word, rest) = (
+        bare.get(..4).unwrap_or(&[]),
+        bare.get(5..).unwrap_or(&[]),
+    );
+    match rest {
+        [b'\r' | b'\n', ..] if word.eq_ignore_ascii_case(b"sep=") => rest,
+        _ => text,
+    }
+}
+
 /// Returns a reader of rows of any lengths.
 fn reader_of(alloc: Global, text: &[u8], delimiter: u8) -> Reader<&[u8]> {
     ReaderBuilder::new()
@@ -61,11 +79,11 @@ fn reader_of(alloc: Global, text: &[u8], delimiter: u8) -> Reader<&[u8]> {
         .from_reader(alloc, text)
 }
 
-/// Returns the place of a column, by its name.
+/// Returns the place of a column, by its name in capital or small letters.
 fn column(names: &ByteRecord, name: &str) -> Option<usize> {
     'places: for place in 0..names.len() {
         if let Some(field) = names.get(place) {
-            if field.trim_ascii() == name.as_bytes() {
+            if field.trim_ascii().eq_ignore_ascii_case(name.as_bytes()) {
                 return Some(place);
             }
         }
@@ -112,11 +130,12 @@ fn next_row(reader: &mut Reader<&[u8]>, row: &mut ByteRecord) -> Result<bool, Li
     }
 }
 
-/// Returns the student of a row.
+/// Returns the student of a row, which has this number.
 fn student_of(
     alloc: Global,
     row: &ByteRecord,
     columns: Columns,
+    number: usize,
 ) -> Result<Option<Student>, AllocError>
     ensures { IfOk result (λ found. IfSome found (λ s. 0 < string_len s.id)) }
 {
@@ -128,7 +147,22 @@ fn student_of(
         Some(file) => field(alloc, row, file)?,
         None => String::new(alloc),
     };
-    Ok(Some(Student { id, file }))
+    Ok(Some(Student {
+        id,
+        file,
+        row: number,
+    }))
+}
+
+/// Returns what is wrong with a row, which has this number, if a field of it that is read is no UTF-8.
+fn text_fault(row: &ByteRecord, columns: Columns, number: usize) -> Result<(), ListFault> {
+    if !is_text(row, columns.id) {
+        return Err(ListFault::NotText(number));
+    }
+    match columns.file {
+        Some(file) if !is_text(row, file) => Err(ListFault::FileNotText(number)),
+        _ => Ok(()),
+    }
 }
 
 /// Adds a student with an id.
@@ -140,13 +174,18 @@ fn keep(students: &mut Vec<Student>, student: Student) -> Result<(), AllocError>
     Ok(())
 }
 
-/// Returns where the columns of a list are, by the first byte of `DELIMITERS` that parts their names.
+/// Returns where the columns of a list are, by the first byte of `DELIMITERS` that parts their names. `needs_file`: the column `file` is read.
 fn columns_of(alloc: Global, text: &[u8], needs_file: bool) -> Result<Option<Columns>, ListFault> {
     'delimiters: for delimiter in DELIMITERS.as_slice() {
         let mut reader = reader_of(alloc, text, *delimiter);
         let mut row = ByteRecord::new(alloc);
         let _has_names = next_row(&mut reader, &mut row)?;
-        let (id, file) = (column(&row, "id"), column(&row, "file"));
+        let id = column(&row, "id");
+        let file = if needs_file {
+            column(&row, "file")
+        } else {
+            None
+        };
         if file.is_none() && needs_file {
             continue;
         }
@@ -161,13 +200,15 @@ fn columns_of(alloc: Global, text: &[u8], needs_file: bool) -> Result<Option<Col
     Ok(None)
 }
 
-/// Returns the students of a list, in its order; `needs_file`: whether it must have the column `file`. Rows without any text are passed over.
+/// Returns the students of a list, in its order; `needs_file`: whether it must have the column `file`, which is not read else. Rows without any
+/// text are passed over.
 fn rows_of(alloc: Global, text: &[u8], needs_file: bool) -> Result<Vec<Student>, ListFault>
     ensures { IfOk result (λ students. All (λ s. 0 < string_len s.id) students.items) }
 {
     if is_wide(text) {
         return Err(ListFault::Wide);
     }
+    let text = without_separator(text);
     let Some(columns) = columns_of(alloc, text, needs_file)? else {
         return Err(ListFault::Columns);
     };
@@ -182,10 +223,8 @@ fn rows_of(alloc: Global, text: &[u8], needs_file: bool) -> Result<Vec<Student>,
         if is_blank(&row) {
             continue;
         }
-        if !is_text(&row, columns.id) {
-            return Err(ListFault::NotText(number));
-        }
-        match student_of(alloc, &row, columns)? {
+        text_fault(&row, columns, number)?;
+        match student_of(alloc, &row, columns, number)? {
             Some(student) => keep(&mut students, student)?,
             None => return Err(ListFault::NoId(number)),
         }
@@ -193,24 +232,51 @@ fn rows_of(alloc: Global, text: &[u8], needs_file: bool) -> Result<Vec<Student>,
     Ok(students)
 }
 
-/// Returns the students of a list, in its order. Names and fields may have blanks around them; a byte order mark may stand before the
-/// first. Commas, semicolons or tabs part the fields, and any of CR, LF and CR LF the rows.
+/// Returns the students of a list, in its order. Names of columns, in any case, and fields may have blanks around them; a byte order mark may
+/// stand before the first, and a line `sep=;`. Commas, semicolons or tabs part the fields, and any of CR, LF and CR LF the rows.
 ///
 /// # Errors
-/// `Columns`: the first row does not name the columns `id` and `file`. `Wide`: it is UTF-16. `NotText`: an id is no UTF-8. `NoId`: a row has
-/// no id. `Memory`: the host is out of memory.
+/// `Columns`: the first row does not name the columns `id` and `file`. `Wide`: it is UTF-16. `NotText`, `FileNotText`: an id or a path is no
+/// UTF-8. `NoId`: a row has no id. `Memory`: the host is out of memory.
 pub fn students_of(alloc: Global, text: &[u8]) -> Result<Vec<Student>, ListFault>
     ensures { IfOk result (λ students. All (λ s. 0 < string_len s.id) students.items) }
 {
     rows_of(alloc, text, true)
 }
 
-/// Returns the students of a list that may have no column `file`, in its order, as `students_of` does; then their files are empty.
+/// Returns the students of a list as `students_of` does, without their files: it need have no column `file`.
 ///
 /// # Errors
-/// Those of `students_of`.
+/// Those of `students_of`, but `FileNotText`.
 pub fn ids_of(alloc: Global, text: &[u8]) -> Result<Vec<Student>, ListFault>
     ensures { IfOk result (λ students. All (λ s. 0 < string_len s.id) students.items) }
 {
     rows_of(alloc, text, false)
+}
+
+/// Returns the number of the first row with an id.
+pub fn first_row(students: &[Student], id: &str) -> Option<usize> {
+    'students: for student in students {
+        if student.id.as_str() == id {
+            return Some(student.row);
+        }
+    }
+    None
+}
+
+/// Appends a line that says that two rows of a list have one id.
+///
+/// # Errors
+/// `AllocError`: the host is out of memory.
+pub fn put_repeat(
+    out: &mut String,
+    first: usize,
+    row: usize,
+    id: &str,
+) -> Result<(), AllocError> {
+    let id = Visible(id);
+    writeln!(
+        out,
+        "rows {first} and {row} have the id {id}; give each student another"
+    )
 }

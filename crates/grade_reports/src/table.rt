@@ -2,6 +2,7 @@
 
 use crate::file_grade::{FileGrade, Standing};
 use crate::line_notes::put_lines;
+use crate::visible::Visible;
 use std::alloc::{AllocError, Global};
 
 /// The blanks between two columns.
@@ -34,16 +35,25 @@ fn put_note(notes: &mut String, note: &str) -> Result<(), AllocError> {
     notes.push_str(note)
 }
 
+/// Appends which student and which lab a file is for, if these are others than the handout's.
+fn put_others(alloc: Global, notes: &mut String, grade: &FileGrade) -> Result<(), AllocError> {
+    if let Some(id) = &grade.other_id {
+        let id = id.as_str();
+        put_note(notes, format!(in alloc; "made for \"{id}\"")?.as_str())?;
+    }
+    if let Some(lab) = grade.other_lab {
+        put_note(notes, format!(in alloc; "made for lab {lab}")?.as_str())?;
+    }
+    Ok(())
+}
+
 /// Returns what is to be said of a file.
 pub fn notes_of(alloc: Global, grade: &FileGrade) -> Result<String, AllocError> {
     let mut notes = String::new(alloc);
     if !matches!(grade.standing, Standing::Whole) {
         put_note(&mut notes, grade.standing.name())?;
     }
-    if let Some(id) = &grade.other_id {
-        let id = id.as_str();
-        put_note(&mut notes, format!(in alloc; "made for \"{id}\"")?.as_str())?;
-    }
+    put_others(alloc, &mut notes, grade)?;
     match grade.added {
         0 => {}
         1 => put_note(&mut notes, "1 line added")?,
@@ -74,19 +84,21 @@ fn put_wrong(alloc: Global, notes: &mut String, grade: &FileGrade) -> Result<(),
     put_note(notes, format!(in alloc; "line {line}, {reason}")?.as_str())
 }
 
-/// Returns the cells of a file.
+/// Returns the cells of a file. Students chose its name and what its head names.
 fn cells_of(alloc: Global, grade: &FileGrade) -> Result<Cells, AllocError> {
     let (kept, lines) = (grade.kept, grade.lines());
     let (right, blanks) = (grade.right, grade.blanks.len());
     let file = match &grade.id {
-        Some(id) => id.as_str(),
-        None => grade.file.as_str(),
+        Some(id) => Visible(id.as_str()),
+        None => Visible(grade.file.as_str()),
     };
+    let notes = notes_of(alloc, grade)?;
+    let notes = Visible(notes.as_str());
     Ok(Cells {
-        file: String::from_str(alloc, file)?,
+        file: format!(in alloc; "{file}")?,
         lines: format!(in alloc; "{kept}/{lines}")?,
         blanks: format!(in alloc; "{right}/{blanks}")?,
-        notes: notes_of(alloc, grade)?,
+        notes: format!(in alloc; "{notes}")?,
     })
 }
 

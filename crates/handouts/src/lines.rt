@@ -1,5 +1,5 @@
 // `Line`, a struct: a line of a script, its answer (`Answer`, an enum) apart; `lines_of`: the lines of a file that are neither empty nor
-// comments.
+// comments; `student_lines`: those of what a student hands in.
 
 use crate::expected::split;
 use memchr::memmem;
@@ -72,7 +72,40 @@ fn without_mark(text: &[u8]) -> &[u8] {
     }
 }
 
-/// Returns the lines of a file that are neither empty nor comments.
+/// Adds the lines of a text, which end by CR, that are neither empty nor comments; `number` is that of the line before. Returns that of the
+/// last.
+fn put_lines(
+    alloc: Global,
+    lines: &mut Vec<Line>,
+    number: usize,
+    text: &[u8],
+) -> Result<usize, AllocError> {
+    let mut number = number;
+    'lines: for line in text.split(|byte| *byte == b'\r') {
+        number = number.saturating_add(1);
+        if let Some(line) = line_of(alloc, number, line)? {
+            lines.push(line)?;
+        }
+    }
+    Ok(number)
+}
+
+/// Returns the lines of what a student hands in that are neither empty nor comments. They end by LF, CR LF, or CR alone, as old editors write
+/// them.
+///
+/// # Errors
+/// `AllocError`: the host is out of memory.
+pub fn student_lines(alloc: Global, text: &[u8]) -> Result<Vec<Line>, AllocError> {
+    let mut lines = Vec::new(alloc);
+    let mut number = 0usize;
+    'parts: for part in without_mark(text).split(|byte| *byte == b'\n') {
+        let part = part.strip_suffix(b"\r").unwrap_or(part);
+        number = put_lines(alloc, &mut lines, number, part)?;
+    }
+    Ok(lines)
+}
+
+/// Returns the lines of a handout that are neither empty nor comments. They end by LF or CR LF, as those of each script.
 ///
 /// # Errors
 /// `AllocError`: the host is out of memory.

@@ -4,6 +4,7 @@ ghost use Rattle.std.specs.Prelude.{◌≤◌, IfOk};
 
 use crate::screen::Screen;
 use clap::error::ErrorKind;
+use grade_reports::Visible;
 use std::alloc::{AllocError, AllocFailed, Global};
 use std::{fmt, io};
 
@@ -74,6 +75,7 @@ impl fmt::Display for Because<'_> {
             io::ErrorKind::NotFound => write!(f, "No such file or directory"),
             io::ErrorKind::PermissionDenied => write!(f, "Permission denied"),
             io::ErrorKind::IsADirectory => write!(f, "Is a directory"),
+            io::ErrorKind::NotADirectory => write!(f, "Not a directory"),
             _ => {
                 let error = self.0;
                 write!(f, "{error}")
@@ -92,7 +94,7 @@ impl fmt::Display for Fault {
             }
             Fault::Memory => write!(f, "xv6lab: out of memory"),
             Fault::File(name, error) => {
-                let (name, because) = (name.as_str(), Because(error));
+                let (name, because) = (Visible(name.as_str()), Because(error));
                 write!(f, "{name}: {because}")
             }
             Fault::Read(error) | Fault::Io(error) => {

@@ -9,10 +9,11 @@ use crate::handed_in::{Kind, Target, Targets, kind_of};
 use crate::lab::{Host, Reading};
 use crate::screen::Screen;
 use grade_reports::{
-    FileGrade, FileObject, Head, ListFault, ResultsObject, Standing, Student, csv_head, csv_row,
-    ids_of, is_wide, put_summary, put_table, students_of,
+    FileGrade, FileObject, Head, ListFault, ResultsObject, Standing, Student, Visible, csv_head,
+    csv_row, first_row, ids_of, is_wide, other_lab, put_repeat, put_summary, put_table,
+    students_of,
 };
-use handouts::{Asked, Line, lines_of};
+use handouts::{Asked, Line, student_lines};
 use lab_variants::Lab;
 use memchr::memchr;
 use std::alloc::{AllocError, Global};
@@ -92,7 +93,7 @@ impl Content {
     fn lines(&mut self, alloc: Global) -> Result<Vec<Line>, AllocError>
         ensures { self.new.is_read ≡ self.old.is_read }
     {
-        let lines = lines_of(alloc, self.bytes.as_slice())?;
+        let lines = student_lines(alloc, self.bytes.as_slice())?;
         if lines.len() > MOST_LINES {
             self.standing = Standing::TooLong;
             return Ok(Vec::new(alloc));
@@ -111,6 +112,7 @@ fn list_fault(
     columns: &str,
     fault: ListFault,
 ) -> Result<String, AllocError> {
+    let list = Visible(list);
     match fault {
         ListFault::Memory => Err(AllocError),
         ListFault::Columns => {
@@ -119,6 +121,9 @@ fn list_fault(
         ListFault::NoId(row) => format!(in alloc; "{list}: row {row} has no id\n"),
         ListFault::NotText(row) => format!(in alloc;
             "{list}: the id of row {row} is no UTF-8; save the list as UTF-8, a spreadsheet's as CSV UTF-8\n"
+        ),
+        ListFault::FileNotText(row) => format!(in alloc;
+            "{list}: the file of row {row} is no UTF-8; save the list as UTF-8, a spreadsheet's as CSV UTF-8, and rename a file whose name is none\n"
         ),
         ListFault::Wide => format!(in alloc;
             "{list}: this is UTF-16, or no text; save the list as UTF-8, a spreadsheet's as CSV UTF-8\n"
@@ -216,16 +221,62 @@ fn other_id(
     }
 }
 
+/// What a file names in its comments, if it is not what the handout names.
+#[derive(Drop)]
+struct Others {
+    id: Option<String>,
+    /// The number of a lab.
+    lab: Option<u32>,
+}
+
+/// Tells which ids a list has more than once, and returns whether it has none.
+fn tell_repeats<S: Screen>(
+    alloc: Global,
+    screen: &mut S,
+    list: &str,
+    students: &[Student],
+) -> Result<bool, Fault>
+    ensures whole { IfOk result (λ _. S.whole screen.old → S.whole screen.new) }
+{
+    let mut text = String::new(alloc);
+    'students: for student in students {
+        put_if_repeated(&mut text, list, students, student)?;
+    }
+    if text.is_empty() {
+        return Ok(true);
+    }
+    screen.err(text.as_str())?;
+    Ok(false)
+}
+
+/// Appends that an earlier row of a list has the id of this student, if one has.
+fn put_if_repeated(
+    text: &mut String,
+    list: &str,
+    students: &[Student],
+    student: &Student,
+) -> Result<(), AllocError> {
+    let id = student.id.as_str();
+    match first_row(students, id) {
+        Some(first) if first < student.row => {
+            let list = Visible(list);
+            write!(text, "{list}: ")?;
+            put_repeat(text, first, student.row, id)
+        }
+        _ => Ok(()),
+    }
+}
+
 /// What was graded so far.
 #[derive(Drop)]
 struct Grading {
     grades: Vec<FileGrade>,
-    /// Whether none was left out, and each file so far was there and could be read.
+    /// Whether none was left out, no id of a list is there twice, and each file so far was there and could be read.
     is_whole: bool,
 }
 
 impl Grading {
-    /// Returns a grading of no file; `is_whole`: none was left out.
+    /// Returns a grading of no file; `is_whole`: none was left out, and no id of a list is there twice.
     fn new(alloc: Global, is_whole: bool) -> Grading {
         Grading {
             grades: Vec::new(alloc),
@@ -240,7 +291,7 @@ impl Grading {
         handout: &[Asked],
         target: Target,
         mut content: Content,
-        other_id: Option<String>,
+        others: Others,
     ) -> Result<(), AllocError>
         ensures { IfOk result (λ _. self.new.is_whole ≡ true → (self.old.is_whole ≡ true) × (content.is_read ≡ true)) }
     {
@@ -250,7 +301,8 @@ impl Grading {
         let grade = FileGrade::of(alloc, file, content.standing, handout, lines.as_slice())?;
         let grade = FileGrade {
             id,
-            other_id,
+            other_id: others.id,
+            other_lab: others.lab,
             ..grade
         };
         Ok(self.grades.push(grade)?)
@@ -258,10 +310,10 @@ impl Grading {
 }
 
 impl<F: Files, I: Read + Drop> Host<'_, F, I> {
-    /// Returns what there is of a file.
+    /// Returns what there is of a file, and tells why if it is there and cannot be read.
     ///
     /// # Errors
-    /// `Memory`: the host is out of memory.
+    /// `Memory`: the host is out of memory. `Io`: printing failed.
     fn content<S: Screen>(&mut self, screen: &mut S, file: &str) -> Result<Content, Fault>
         ensures whole { IfOk result (λ c. c.is_read ≡ true → S.whole screen.old → S.whole screen.new) }
     {
@@ -270,18 +322,41 @@ impl<F: Files, I: Read + Drop> Host<'_, F, I> {
             bytes: Vec::new(alloc),
             most: MOST_BYTES,
         };
-        match self.give(screen, file, &mut first) {
-            Ok(()) => Ok(Content::of(alloc, first.bytes)),
-            Err(Fault::File(_, error)) => {
-                let standing = match error.kind() {
-                    io::ErrorKind::NotFound => Standing::Missing,
-                    _ => Standing::Unreadable,
-                };
-                Ok(Content::nothing(alloc, standing, false))
+        let fault = match self.give(screen, file, &mut first) {
+            Ok(()) => return Ok(Content::of(alloc, first.bytes)),
+            Err(fault) => fault,
+        };
+        match fault {
+            Fault::File(_, error) if error.kind() == io::ErrorKind::NotFound => {
+                Ok(Content::nothing(alloc, Standing::Missing, false))
             }
-            Err(Fault::Read(_)) => Ok(Content::nothing(alloc, Standing::Unreadable, false)),
-            Err(fault) => Err(fault),
+            Fault::File(..) | Fault::Read(_) => {
+                fault.tell(alloc, screen)?;
+                Ok(Content::nothing(alloc, Standing::Unreadable, false))
+            }
+            fault => Err(fault),
         }
+    }
+
+    /// Returns what there is of the file that a list of students names, and tells why if that cannot be read.
+    ///
+    /// # Errors
+    /// Those of `content`.
+    fn listed_content<S: Screen>(&mut self, screen: &mut S, file: &str) -> Result<Content, Fault>
+        ensures whole { IfOk result (λ c. c.is_read ≡ true → S.whole screen.old → S.whole screen.new) }
+    {
+        let alloc = self.alloc;
+        if file.is_empty() {
+            return Ok(Content::nothing(alloc, Standing::Missing, true));
+        }
+        let why = match kind_of(self.files, file) {
+            Kind::File => return self.content(screen, file),
+            Kind::Folder => "this is a folder; name the file in it",
+            Kind::Other => "no plain file, so reading it might never end; name a file",
+        };
+        let name = Visible(file);
+        screen.err(format!(in alloc; "{name}: {why}\n")?.as_str())?;
+        Ok(Content::nothing(alloc, Standing::Unreadable, false))
     }
 
     /// Returns the bytes of a handout or a list, which may have so many.
@@ -303,7 +378,8 @@ impl<F: Files, I: Read + Drop> Host<'_, F, I> {
         };
         self.give(screen, file, &mut first)?;
         if first.bytes.len() > most {
-            screen.err(format!(in alloc; "{file}: more than {most} bytes\n")?.as_str())?;
+            let name = Visible(file);
+            screen.err(format!(in alloc; "{name}: more than {most} bytes\n")?.as_str())?;
             return Err(Fault::Told);
         }
         Ok(first.bytes)
@@ -356,7 +432,11 @@ impl<F: Files, I: Read + Drop> Host<'_, F, I> {
         let mut grading = Grading::new(alloc, left_out.is_empty());
         'targets: for target in list {
             let content = self.content(screen, target.file.as_str())?;
-            grading.add(alloc, asked.as_slice(), target, content, None)?;
+            let others = Others {
+                id: None,
+                lab: other_lab(text.as_slice(), content.bytes.as_slice()),
+            };
+            grading.add(alloc, asked.as_slice(), target, content, others)?;
         }
         Ok(grading)
     }
@@ -405,17 +485,15 @@ impl<F: Files, I: Read + Drop> Host<'_, F, I> {
         let handout = lab_variants::handout(alloc, lab, id)?;
         let handout = handout.as_str().as_bytes();
         let asked = play_handout(alloc, screen, id, handout)?;
-        let content = if file.is_empty() {
-            Content::nothing(alloc, Standing::Missing, true)
-        } else if kind_of(self.files, file) == Kind::Other {
-            Content::nothing(alloc, Standing::Unreadable, false)
-        } else {
-            self.content(screen, file)?
+        let content = self.listed_content(screen, file)?;
+        let bytes = content.bytes.as_slice();
+        let others = Others {
+            id: other_id(alloc, head, handout, bytes)?,
+            lab: other_lab(handout, bytes),
         };
-        let other = other_id(alloc, head, handout, content.bytes.as_slice())?;
-        let Student { id, file } = student;
+        let Student { id, file, .. } = student;
         let target = Target { file, id: Some(id) };
-        grading.add(alloc, asked.as_slice(), target, content, other)?;
+        grading.add(alloc, asked.as_slice(), target, content, others)?;
         Ok(())
     }
 
@@ -430,9 +508,10 @@ impl<F: Files, I: Read + Drop> Host<'_, F, I> {
     {
         let alloc = self.alloc;
         let students = self.students(screen, list, true)?;
+        let is_whole = tell_repeats(alloc, screen, list, students.as_slice())?;
         let sample = lab_variants::handout(alloc, lab, NO_STUDENT)?;
         let head = Head::of(sample.as_str().as_bytes(), NO_STUDENT.as_bytes());
-        let mut grading = Grading::new(alloc, true);
+        let mut grading = Grading::new(alloc, is_whole);
         'students: for student in students {
             self.grade_student(screen, lab, head, &mut grading, student)?;
         }
@@ -443,8 +522,8 @@ impl<F: Files, I: Read + Drop> Host<'_, F, I> {
     ///
     /// # Errors
     /// `Word`: there is not one file, and results for Gradescope are to be printed. `Told`: the handout or the list is faulty; or a file is
-    /// missing, cannot be read or was left out, after all grades were printed. `File`: the handout, a list or a folder cannot be read. `Memory`: the host is
-    /// out of memory. `Io`: printing failed.
+    /// missing, cannot be read or was left out, or a list has an id twice, after all grades were printed. `File`: the handout, a list or a folder
+    /// cannot be read. `Memory`: the host is out of memory. `Io`: printing failed.
     pub fn grade<S: Screen>(&mut self, screen: &mut S, words: &GradeWords) -> Result<(), Fault>
         ensures whole { IfOk result (λ _. S.whole screen.old → S.whole screen.new) }
     {

@@ -1,6 +1,7 @@
 // `Targets`: what students hand in, by the paths of files, folders and lists of paths: which files are graded, what is left out, and why.
 
 use crate::fault::Fault;
+use grade_reports::Visible;
 use std::alloc::{AllocError, Global};
 use std::rt::Files;
 use std::{fs, io};
@@ -47,6 +48,7 @@ pub fn kind_of<F: Files>(files: &F, path: &str) -> Kind {
 fn put_unnamed(left_out: &mut String, folder: &str, error: io::Error) -> io::Result<()> {
     match error.kind() {
         io::ErrorKind::InvalidFilename => {
+            let folder = Visible(folder);
             writeln!(
                 left_out,
                 "{folder}: left out a file whose name is no UTF-8; rename it"
@@ -98,8 +100,34 @@ impl Targets {
         } else {
             "no plain file, so reading it might never end; hand in a file"
         };
-        let file = file.as_str();
+        self.leave_out(file.as_str(), why)
+    }
+
+    /// Tells that a file is left out, and why.
+    fn leave_out(&mut self, file: &str, why: &str) -> Result<(), AllocError> {
+        let file = Visible(file);
         writeln!(&mut self.left_out, "{file}: left out, {why}")
+    }
+
+    /// Appends what is handed in at a path of a list, or why it is left out.
+    ///
+    /// # Errors
+    /// Those of `add_path`.
+    fn add_listed<F: Files>(
+        &mut self,
+        files: &F,
+        alloc: Global,
+        path: &[u8],
+    ) -> Result<(), Fault> {
+        if path.is_empty() {
+            return Ok(());
+        }
+        if let Ok(path) = std::str::from_utf8(path) {
+            return self.add_path(files, alloc, path, true);
+        }
+        let path = String::from_utf8_lossy(alloc, path)?;
+        self.leave_out(path.as_str(), "its name is no UTF-8; rename the file")?;
+        Ok(())
     }
 
     /// Appends the files of a folder.
@@ -152,10 +180,7 @@ impl Targets {
         list: &[u8],
     ) -> Result<(), Fault> {
         for path in without_mark(list).split(|byte| *byte == b'\n' || *byte == b'\r') {
-            let path = String::from_utf8_lossy(alloc, path.trim_ascii())?;
-            if !path.is_empty() {
-                self.add_path(files, alloc, path.as_str(), true)?;
-            }
+            self.add_listed(files, alloc, path.trim_ascii())?;
         }
         Ok(())
     }

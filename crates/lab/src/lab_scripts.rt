@@ -6,7 +6,7 @@ use crate::fault::Fault;
 use crate::lab::Host;
 use crate::lab_words::LabWords;
 use crate::screen::Screen;
-use grade_reports::{Student, student_row};
+use grade_reports::{Student, Visible, first_row, put_repeat, student_row};
 use lab_variants::{Lab, handout, plain};
 use std::alloc::{AllocError, Global};
 use std::io::{Read, Write};
@@ -55,8 +55,8 @@ fn has(texts: &[String], text: &str) -> bool {
 struct HandedOut {
     /// The path of the list of them.
     list: String,
-    /// The ids so far.
-    ids: Vec<String>,
+    /// The students so far.
+    students: Vec<Student>,
     /// The paths of their files.
     files: Vec<String>,
     /// How many were written.
@@ -80,13 +80,13 @@ impl HandedOut {
         let (folder, name) = (folder.strip_suffix('/').unwrap_or(folder), lab.name());
         let mut given = HandedOut {
             list: format!(in alloc; "{folder}/{name}.csv")?,
-            ids: Vec::new(alloc),
+            students: Vec::new(alloc),
             files: Vec::new(alloc),
             written: 0,
             told: String::new(alloc),
         };
         for student in students {
-            given.add(files, alloc, lab, folder, student.id)?;
+            given.add(files, alloc, lab, folder, student)?;
         }
         given.put_list(files, alloc)?;
         Ok(given)
@@ -120,21 +120,18 @@ impl HandedOut {
         alloc: Global,
         lab: Lab,
         folder: &str,
-        id: String,
+        student: Student,
     ) -> Result<(), AllocError> {
-        if has(self.ids.as_slice(), id.as_str()) {
-            let id = id.as_str();
-            return writeln!(
-                &mut self.told,
-                "the id {id} is there more than once; give each student another"
-            );
+        let id = student.id.as_str();
+        if let Some(first) = first_row(self.students.as_slice(), id) {
+            return put_repeat(&mut self.told, first, student.row, id);
         }
-        let path = self.path_of(alloc, lab, folder, id.as_str())?;
-        let text = handout(alloc, lab, id.as_str())?;
+        let path = self.path_of(alloc, lab, folder, id)?;
+        let text = handout(alloc, lab, id)?;
         if self.put(files, path.as_str(), text.as_str().as_bytes())? {
             self.written = self.written.saturating_add(1);
         }
-        self.ids.push(id)?;
+        self.students.push(student)?;
         Ok(self.files.push(path)?)
     }
 
@@ -143,6 +140,7 @@ impl HandedOut {
         let Err(error) = put_new(files, path, text) else {
             return Ok(true);
         };
+        let path = Visible(path);
         match error.kind() {
             io::ErrorKind::AlreadyExists => writeln!(
                 &mut self.told,
@@ -156,8 +154,8 @@ impl HandedOut {
     /// Writes the list of the handouts, as `grade --seeds` reads it.
     fn put_list<F: Files>(&mut self, files: &F, alloc: Global) -> Result<(), AllocError> {
         let mut text = Vec::from_slice(alloc, b"id,file\n")?;
-        for (id, file) in self.ids.iter().zip(self.files.as_slice()) {
-            let row = student_row(alloc, id.as_str(), file.as_str())?;
+        for (student, file) in self.students.iter().zip(self.files.as_slice()) {
+            let row = student_row(alloc, student.id.as_str(), file.as_str())?;
             text.extend_from_slice(row.as_slice())?;
         }
         let list = String::from_str(alloc, self.list.as_str())?;
@@ -167,7 +165,7 @@ impl HandedOut {
 
     /// Returns how many handouts were written, and where their list is.
     fn summary(&self, alloc: Global) -> Result<String, AllocError> {
-        let (written, list) = (self.written, self.list.as_str());
+        let (written, list) = (self.written, Visible(self.list.as_str()));
         let word = if written == 1 { "script" } else { "scripts" };
         format!(in alloc; "{written} {word} written; their list is {list}\n")
     }
@@ -249,6 +247,7 @@ impl<F: Files, I: Read + Drop> Host<'_, F, I> {
     {
         match error.kind() {
             io::ErrorKind::AlreadyExists => {
+                let out = Visible(out);
                 let text = format!(in self.alloc;
                     "{out} is there already, and stays as it is; name another file after -o\n"
                 )?;
