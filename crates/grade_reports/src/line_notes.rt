@@ -1,4 +1,4 @@
-// `LineNotes`, a struct: which lines of a handout a student's file has changed, left out or more than once; `put_lines`: that in words.
+// `LineNotes`, a struct: which lines of a handout a student's file has changed, left out or answered more than once; `put_lines`: that in words.
 
 use handouts::{Answer, Asked, Found, Line, is_kept};
 use std::alloc::{AllocError, Global};
@@ -13,7 +13,8 @@ pub struct LineNotes {
     pub changed: Vec<usize>,
     /// The lines that are no blanks and are not there, up to the last line that the file has of the handout.
     pub missing: Vec<usize>,
-    /// The blanks whose line the file has more than once. The first answer in the handout's order counts.
+    /// The blanks whose line the file has again further below, with an answer. The first counts, or of copies next to one another the first
+    /// with an answer.
     pub again: Vec<usize>,
 }
 
@@ -60,9 +61,10 @@ fn used_end(found: &[Found]) -> usize {
     end
 }
 
-/// A line of the file that is none of the handout, nor in the place of one.
+/// A line of the file with an answer that is none of the handout, nor in the place of one.
 #[derive(Clone, Copy)]
 struct Copied<'a> {
+    answer: &'a [u8],
     line: &'a Line,
     /// Its number among the lines of the file, from 0.
     place: usize,
@@ -80,11 +82,6 @@ struct Kept<'a> {
     place: usize,
 }
 
-/// Whether a line has an answer.
-fn is_answered(line: &Line) -> bool {
-    matches!(line.answer, Answer::Given(_))
-}
-
 /// Returns a blank of the handout with the line of the file that is it; `None` if it is no blank, or not there.
 fn kept_blank<'a>(asked: &'a Asked, student: &'a [Line], found: Found) -> Option<Kept<'a>> {
     match found {
@@ -98,28 +95,26 @@ fn kept_blank<'a>(asked: &'a Asked, student: &'a [Line], found: Found) -> Option
 }
 
 impl Copied<'_> {
-    /// Whether this line may be a copy of a blank.
-    fn is_equal(self, blank: Kept<'_>) -> bool {
-        is_kept(&blank.asked.line, self.line)
+    /// Whether this line may be a copy of a blank above it.
+    fn is_below(self, blank: Kept<'_>) -> bool {
+        blank.place < self.place && is_kept(&blank.asked.line, self.line)
     }
 
-    /// Whether one of this line and a blank has the answer that the other lacks: this one, below all of the handout; or the blank, further
-    /// below.
+    /// Whether this line is below all of the handout, and has the answer that a blank lacks.
     fn is_for(self, blank: Kept<'_>) -> bool {
-        if is_answered(self.line) {
-            self.is_past && !is_answered(blank.line)
-        } else {
-            self.place < blank.place && is_answered(blank.line)
+        self.is_past && !matches!(blank.line.answer, Answer::Given(_))
+    }
+
+    /// Whether this line and a blank have one answer.
+    fn is_same(self, blank: Kept<'_>) -> bool {
+        match &blank.line.answer {
+            Answer::Given(other) => self.answer == other.as_slice(),
+            _ => false,
         }
     }
 
-    /// Whether this line has an answer, and a blank is above it.
-    fn is_below(self, blank: Kept<'_>) -> bool {
-        is_answered(self.line) && blank.place < self.place
-    }
-
-    /// Returns the number of the blank that this line is a copy of. Of equal ones it is the first that it is for; else the nearest above, or,
-    /// below all of the handout and not next to that one, the first. Of both the first is meant that is not among `numbers`.
+    /// Returns the number of the blank that this line is a copy of: of equal ones above the first that it is for and that is not among `numbers`,
+    /// else the one that `chosen` says.
     fn blank_of(
         self,
         handout: &[Asked],
@@ -127,12 +122,12 @@ impl Copied<'_> {
         found: &[Found],
         numbers: &[usize],
     ) -> Option<usize> {
-        let (mut first, mut nearest) = (None, None);
+        let mut above = Above::NOTHING;
         'lines: for (asked, found) in handout.iter().zip(found) {
             let Some(blank) = kept_blank(asked, student, *found) else {
                 continue;
             };
-            if !self.is_equal(blank) {
+            if !self.is_below(blank) {
                 continue;
             }
             let number = asked.line.number;
@@ -140,24 +135,59 @@ impl Copied<'_> {
             if is_new && self.is_for(blank) {
                 return Some(number);
             }
-            if self.is_below(blank) {
-                if is_new && first.is_none() {
-                    first = Some(number);
-                }
-                nearest = Some((number, blank.place));
-            }
+            above.add(number, blank.place, is_new, self.is_same(blank));
         }
-        self.chosen(first, nearest)
+        self.chosen(above)
     }
 
-    /// Returns the first of equal blanks or the nearest above, whose place in the file is given with it.
-    fn chosen(self, first: Option<usize>, nearest: Option<(usize, usize)>) -> Option<usize> {
-        let (number, place) = nearest?;
-        if self.is_past && place.saturating_add(1) < self.place {
-            Some(first.unwrap_or(number))
-        } else {
-            Some(number)
+    /// Returns the number of the nearest of equal blanks above. If this line is below all of the handout: of the first with its answer; else
+    /// the nearest, if it is next to that; else of the first.
+    fn chosen(self, above: Above) -> Option<usize> {
+        let nearest = above.nearest?;
+        if !self.is_past {
+            return Some(nearest);
         }
+        if above.same.is_some() {
+            return above.same;
+        }
+        if above.place.saturating_add(1) == self.place {
+            return Some(nearest);
+        }
+        Some(above.first.unwrap_or(nearest))
+    }
+}
+
+/// The numbers of blanks above a line that may be a copy of them.
+#[derive(Clone, Copy)]
+struct Above {
+    /// The first, of those that no other copy is of.
+    first: Option<usize>,
+    /// The first that has the line's answer, of those.
+    same: Option<usize>,
+    /// The last.
+    nearest: Option<usize>,
+    /// Where the file has the last.
+    place: usize,
+}
+
+impl Above {
+    const NOTHING: Above = Above {
+        first: None,
+        same: None,
+        nearest: None,
+        place: 0,
+    };
+
+    /// Adds the blank of this number, which the file has at this place; `is_new`: no other copy is of it; `is_same`: it has the line's answer.
+    fn add(&mut self, number: usize, place: usize, is_new: bool, is_same: bool) {
+        if is_new && self.first.is_none() {
+            self.first = Some(number);
+        }
+        if is_new && is_same && self.same.is_none() {
+            self.same = Some(number);
+        }
+        self.nearest = Some(number);
+        self.place = place;
     }
 }
 
@@ -171,7 +201,7 @@ fn has_number(numbers: &[usize], number: usize) -> bool {
     false
 }
 
-/// Returns the numbers of the blanks whose line the file has more than once.
+/// Returns the numbers of the blanks that the file answers again.
 fn again_of(
     alloc: Global,
     handout: &[Asked],
@@ -181,10 +211,14 @@ fn again_of(
     let mut numbers = Vec::new(alloc);
     let end = used_end(found);
     'lines: for (place, line) in student.iter().enumerate() {
+        let Answer::Given(answer) = &line.answer else {
+            continue;
+        };
         if is_used(found, place) {
             continue;
         }
         let copied = Copied {
+            answer: answer.as_slice(),
             line,
             place,
             is_past: end <= place,
@@ -200,7 +234,7 @@ fn again_of(
 }
 
 impl LineNotes {
-    /// Returns which lines of a handout a file has changed, left out or more than once; `found` is where each is.
+    /// Returns which lines of a handout a file has changed, left out or answered more than once; `found` is where each is.
     ///
     /// # Errors
     /// `AllocError`: the host is out of memory.
@@ -266,7 +300,7 @@ fn put_some(
     text.push_str(if numbers.len() == 1 { one } else { several })
 }
 
-/// Appends which lines a file has changed, left out or more than once, in words.
+/// Appends which lines a file has changed, left out or answered more than once, in words.
 ///
 /// # Errors
 /// `AllocError`: the host is out of memory.
@@ -286,7 +320,7 @@ pub fn put_lines(text: &mut String, notes: &LineNotes) -> Result<(), AllocError>
     put_some(
         text,
         notes.again.as_slice(),
-        " is there more than once, and the first answer in the handout's order counts",
-        " are there more than once, and the first answer in the handout's order counts",
+        " is there more than once, and the first counts",
+        " are there more than once, and the first counts",
     )
 }

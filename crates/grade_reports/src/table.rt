@@ -92,8 +92,8 @@ fn cells_of(alloc: Global, grade: &FileGrade) -> Result<Cells, AllocError> {
         Some(id) => Visible(id.as_str()),
         None => Visible(grade.file.as_str()),
     };
-    let notes = notes_of(alloc, grade)?;
-    let notes = Visible(notes.as_str());
+    let text = notes_of(alloc, grade)?;
+    let notes = Visible(text.as_str());
     Ok(Cells {
         file: format!(in alloc; "{file}")?,
         lines: format!(in alloc; "{kept}/{lines}")?,

@@ -1,5 +1,4 @@
-// `align`: finds the lines of a handout in a student's file, as many as can be found in order, and of these as many as can be with answers.
-// `Found`, an enum: where one is.
+// `align`: finds the lines of a handout in a student's file, as many as can be found in order. `Found`, an enum: where one is.
 
 ghost use Rattle.std.specs.Prelude.{◌≡◌, IfOk, length, vec_len};
 
@@ -18,33 +17,15 @@ pub enum Found {
     Missing,
 }
 
-/// What a line of the handout that is found counts: more than 65,535 answers.
-const FOUND: u32 = 65_536;
-
-/// What an answer to a blank counts beside that.
-const ANSWERED: u32 = 1;
-
-/// Returns what a line of the file counts for a line of the handout; `None` if it is another.
-fn worth(asked: &Asked, written: &Line) -> Option<u32> {
-    if !is_kept(&asked.line, written) {
-        return None;
-    }
-    match written.answer {
-        Answer::Given(_) if asked.is_blank() => Some(FOUND.saturating_add(ANSWERED)),
-        _ => Some(FOUND),
-    }
-}
-
-/// For the last `a` lines of a handout and the last `b` of a file, at `[a][b]`: the most that lines of the handout count which can be found
-/// in order.
+/// For the last `a` lines of a handout and the last `b` of a file, at `[a][b]`: how many lines of the handout can be found in order.
 #[derive(Drop)]
 struct Table {
-    rows: Vec<Vec<u32>>,
+    rows: Vec<Vec<u16>>,
 }
 
 impl Table {
-    /// Returns the most that those of the last lines of the handout count which can be found in so many last lines of the file.
-    fn at(&self, handout: usize, student: usize) -> u32 {
+    /// Returns how many of the last lines of the handout can be found in so many last lines of the file.
+    fn at(&self, handout: usize, student: usize) -> u16 {
         match self.rows.get(handout) {
             Some(row) => match row.get(student) {
                 Some(most) => *most,
@@ -60,16 +41,16 @@ fn next_row(
     alloc: Global,
     asked: &Asked,
     student: &[Line],
-    above: &[u32],
-) -> Result<Vec<u32>, AllocError> {
+    above: &[u16],
+) -> Result<Vec<u16>, AllocError> {
     let mut row = Vec::with_capacity(alloc, above.len())?;
-    let (mut left, mut corner) = (0u32, 0u32);
+    let (mut left, mut corner) = (0u16, 0u16);
     row.push(0)?;
     'lines: for (written, up) in student.iter().rev().zip(above.iter().skip(1)) {
-        let without = left.max(*up);
-        let most = match worth(asked, written) {
-            Some(value) => without.max(corner.saturating_add(value)),
-            None => without,
+        let most = if is_kept(&asked.line, written) {
+            corner.saturating_add(1)
+        } else {
+            left.max(*up)
         };
         row.push(most)?;
         left = most;
@@ -79,7 +60,7 @@ fn next_row(
 }
 
 /// Returns the row of no line of the handout.
-fn first_row(alloc: Global, student: &[Line]) -> Result<Vec<u32>, AllocError> {
+fn first_row(alloc: Global, student: &[Line]) -> Result<Vec<u16>, AllocError> {
     let mut row = Vec::new(alloc);
     row.push(0)?;
     'lines: for _ in student {
@@ -88,7 +69,7 @@ fn first_row(alloc: Global, student: &[Line]) -> Result<Vec<u32>, AllocError> {
     Ok(row)
 }
 
-/// Returns what lines count that can be found, for all ends of both.
+/// Returns how many lines can be found, for all ends of both.
 fn table_of(alloc: Global, handout: &[Asked], student: &[Line]) -> Result<Table, AllocError> {
     let mut rows = Vec::new(alloc);
     rows.push(first_row(alloc, student)?)?;
@@ -103,8 +84,8 @@ fn table_of(alloc: Global, handout: &[Asked], student: &[Line]) -> Result<Table,
     Ok(Table { rows })
 }
 
-/// Returns the first line of the file, from `next` on, that is the handout's and with which lines count the most; `after` is how many lines of
-/// the handout come after this one.
+/// Returns the first line of the file, from `next` on, that is the handout's and leaves as many lines to be found as can be, or a copy next to
+/// it that has an answer; `after` is how many lines of the handout come after this one.
 fn place_of(
     table: &Table,
     asked: &Asked,
@@ -115,20 +96,36 @@ fn place_of(
     let most = table.at(after.saturating_add(1), student.len().saturating_sub(next));
     'lines: for (place, written) in student.iter().enumerate().skip(next) {
         let rest = table.at(after, student.len().saturating_sub(place).saturating_sub(1));
-        let least = rest.saturating_add(FOUND);
-        if least.saturating_add(ANSWERED) < most {
+        if rest.saturating_add(1) < most {
             return None;
         }
-        if least > most {
-            continue;
-        }
-        if let Some(value) = worth(asked, written)
-            && rest.saturating_add(value) == most
-        {
-            return Some(place);
+        if rest.saturating_add(1) == most && is_kept(&asked.line, written) {
+            return Some(answered_place(table, asked, after, student, place));
         }
     }
     None
+}
+
+/// Returns the first line of the file with an answer among those from `place` on that are the handout's, next to one another, and leave as many
+/// lines to be found; `place` if there is none.
+fn answered_place(
+    table: &Table,
+    asked: &Asked,
+    after: usize,
+    student: &[Line],
+    place: usize,
+) -> usize {
+    let most = table.at(after, student.len().saturating_sub(place).saturating_sub(1));
+    'lines: for (next, written) in student.iter().enumerate().skip(place) {
+        let rest = table.at(after, student.len().saturating_sub(next).saturating_sub(1));
+        if rest < most || !is_kept(&asked.line, written) {
+            break;
+        }
+        if matches!(written.answer, Answer::Given(_)) {
+            return next;
+        }
+    }
+    place
 }
 
 /// Returns for each line of the handout the line of the file that is it, if one is.
@@ -163,8 +160,9 @@ fn first_place(places: &[Option<usize>], end: usize) -> usize {
     end
 }
 
-/// Finds each line of the handout in a student's file. As many as can be are kept, in order, and of these as many as can be with answers.
-/// Between two that are kept, the lines of the handout that are not, and those of the file, stand in one another's place one by one.
+/// Finds each line of the handout in a student's file. As many as can be are kept, in order: each the first that may be it, or, if that has no
+/// answer, the first copy next to it that has one. Between two that are kept, the lines of the handout that are not, and those of the file,
+/// stand in one another's place one by one.
 ///
 /// # Errors
 /// `AllocError`: the host is out of memory.

@@ -102,6 +102,14 @@ impl Content {
     }
 }
 
+/// Whether a file could not be opened since there is none.
+fn is_missing(fault: &Fault) -> bool {
+    match fault {
+        Fault::File(_, error) => matches!(error.kind(), io::ErrorKind::NotFound),
+        _ => false,
+    }
+}
+
 /// Returns what is wrong with a list of students, for people; `columns`: those that it must have.
 ///
 /// # Errors
@@ -326,16 +334,14 @@ impl<F: Files, I: Read + Drop> Host<'_, F, I> {
             Ok(()) => return Ok(Content::of(alloc, first.bytes)),
             Err(fault) => fault,
         };
-        match fault {
-            Fault::File(_, error) if error.kind() == io::ErrorKind::NotFound => {
-                Ok(Content::nothing(alloc, Standing::Missing, false))
-            }
-            Fault::File(..) | Fault::Read(_) => {
-                fault.tell(alloc, screen)?;
-                Ok(Content::nothing(alloc, Standing::Unreadable, false))
-            }
-            fault => Err(fault),
+        if is_missing(&fault) {
+            return Ok(Content::nothing(alloc, Standing::Missing, false));
         }
+        match fault {
+            Fault::File(..) | Fault::Read(..) => fault.tell(alloc, screen)?,
+            _ => return Err(fault),
+        }
+        Ok(Content::nothing(alloc, Standing::Unreadable, false))
     }
 
     /// Returns what there is of the file that a list of students names, and tells why if that cannot be read.

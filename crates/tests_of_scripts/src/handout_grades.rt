@@ -1,7 +1,7 @@
 // Tests that lines are found in order, as many as can be, also if some are alike; and what is said of each wrong answer.
 
-use grade_reports::{Head, put_reason, reason_of, word_of};
-use handouts::{Asked, Mark, grade_lines, lines_of};
+use grade_reports::{Head, other_lab, put_reason, reason_of, word_of};
+use handouts::{Asked, Mark, grade_lines, lines_of, student_lines};
 use std::alloc::{AllocError, Global};
 use std::test::Fail;
 
@@ -54,6 +54,30 @@ fn lines_are_found(rt: HostRuntime) -> Result<(), Fail> {
             (9, 0, 0, 0),
             "RRRR",
         ),
+        // the same, whose lines end by carriage returns alone
+        (
+            "image  0x1000:0x1000:rw:61\rboot 1 64 2 full=>ok\r\r# mine\rstart 0 => slot 0 # why\raudit =>\tfree 1\ron 0 0 => ok\renter 0 => ok\raudit => free 2\rleave 0 => ok\rload 0 0x1000 1 =>  value 0x61",
+            (9, 0, 0, 0),
+            "RRRR",
+        ),
+        // a line is copied, and the copy answered; another is answered in both
+        (
+            "image 0x1000:0x1000:rw:61\nboot 1 64 2 full => ok\nstart 0 => ?\nstart 0 => slot 0\naudit => free 1\naudit => free 3\non 0 0 => ok\nenter 0 => ok\naudit => free 2\nleave 0 => ok\nload 0 0x1000 1 => value 0x61\n",
+            (9, 0, 0, 2),
+            "RRRR",
+        ),
+        // a copy is the last line
+        (
+            "image 0x1000:0x1000:rw:61\nboot 1 64 2 full => ok\nstart 0 => slot 0\naudit => free 1\non 0 0 => ok\nenter 0 => ok\naudit => free 2\nleave 0 => ok\nload 0 0x1000 1 => ?\nload 0 0x1000 1 => value 0x61\n",
+            (9, 0, 0, 1),
+            "RRRR",
+        ),
+        // a copy is not next to its line
+        (
+            "image 0x1000:0x1000:rw:61\nboot 1 64 2 full => ok\nstart 0 => ?\naudit => free 1\non 0 0 => ok\nenter 0 => ok\naudit => free 2\nleave 0 => ok\nload 0 0x1000 1 => value 0x61\nstart 0 => slot 0\n",
+            (9, 0, 0, 1),
+            "ORRR",
+        ),
         // the first of two lines that are alike is gone
         (
             "image 0x1000:0x1000:rw:61\nboot 1 64 2 full => ok\nstart 0 => slot 1\non 0 0 => ok\nenter 0 => ok\naudit => free 2\nleave 0 => ok\nload 0 0x1000 1 => value 0x61\n",
@@ -83,7 +107,7 @@ fn lines_are_found(rt: HostRuntime) -> Result<(), Fail> {
     ];
     let asked = handout(alloc)?;
     for (text, counts, marks) in rows {
-        let student = lines_of(alloc, text.as_bytes())?;
+        let student = student_lines(alloc, text.as_bytes())?;
         let graded = grade_lines(alloc, asked.as_slice(), student.as_slice())?;
         let there = (graded.kept, graded.changed, graded.missing, graded.added);
         assert_eq!(rt; there, counts, "{text}");
@@ -107,7 +131,7 @@ fn files_end_early(rt: HostRuntime) -> Result<(), Fail> {
         ("", true),
     ];
     for (text, is_cut) in rows {
-        let student = lines_of(alloc, text.as_bytes())?;
+        let student = student_lines(alloc, text.as_bytes())?;
         let graded = grade_lines(alloc, asked.as_slice(), student.as_slice())?;
         assert_eq!(rt; graded.is_cut, is_cut, "{text}");
     }
@@ -122,7 +146,25 @@ fn reasons_are_told(rt: HostRuntime) -> Result<(), Fail> {
         ("start 0 => slot 1\n", Some("start: slot is wrong")),
         (
             "start 0 => slot\n",
-            Some("start: an answer of start is `slot N` or `refused N NAME ..`"),
+            Some("start: an answer of start is `slot N` or `refused N NAME ..`, not \"slot\""),
+        ),
+        (
+            "start 0 => refused 010 NoSlot\n",
+            Some(
+                "start: an answer of start is `slot N` or `refused N NAME ..`, not \"refused 010 NoSlot\": write numbers without zeros before them",
+            ),
+        ),
+        (
+            "start 0 => slot 0 ?\n",
+            Some(
+                "start: an answer of start is `slot N` or `refused N NAME ..`, not \"slot 0 ?\": write it without the ?",
+            ),
+        ),
+        (
+            "start 0 => a\u{a0}\\b\u{1b} and all that is in a line of more than forty\n",
+            Some(
+                "start: an answer of start is `slot N` or `refused N NAME ..`, not \"a\\u{a0}\\\\b\\u{1b} and all that is in a line of more ..\"",
+            ),
         ),
         (
             "start 0 => refused 10 NoSlot\n",
@@ -134,7 +176,7 @@ fn reasons_are_told(rt: HostRuntime) -> Result<(), Fail> {
         ("start 0 => slot 0\n", Some("audit: the line is gone")),
     ];
     for (text, wanted) in rows {
-        let student = lines_of(alloc, text.as_bytes())?;
+        let student = student_lines(alloc, text.as_bytes())?;
         let graded = grade_lines(alloc, asked.as_slice(), student.as_slice())?;
         let mut told = None;
         if let Some(blank) = graded.first_wrong() {
@@ -177,5 +219,25 @@ fn heads_name_students(rt: HostRuntime) -> Result<(), Fail> {
         };
         assert_eq!(rt; head.id_of(text.as_bytes()), wanted, "{text}");
     }
+    Ok(())
+}
+
+#[test]
+fn heads_name_labs(rt: HostRuntime) -> Result<(), Fail> {
+    let handout = b"image 0x1000:0x1000:rw:61\n# Lab 4, of six.\n# Lab 5.\n";
+    let rows = [
+        ("# Lab 4, of six.\n", None),
+        ("# Lab 3, of six.\n", Some(3)),
+        ("image 0x1000:0x1000:rw:61\r# Lab 12: mine\r", Some(12)),
+        ("\u{feff}# Lab 2.\n# Lab 4.\n", Some(2)),
+        ("# mine\n# Lab 2.\n", None),
+        ("# Lab\n", None),
+        ("# Lab 99999999999\n", None),
+        ("", None),
+    ];
+    for (text, lab) in rows {
+        assert_eq!(rt; other_lab(handout, text.as_bytes()), lab, "{text}");
+    }
+    assert_eq!(rt; other_lab(b"# mine\n", b"# Lab 2.\n"), None);
     Ok(())
 }
