@@ -1,8 +1,9 @@
-// The word `lab`: prints the handout of a lab, or writes it to a new file; or writes those of the students of a list to a folder.
+// The word `lab`: prints the handout of a lab, or its key, or writes it to a new file; or writes those of the students of a list to a folder.
 
 ghost use Rattle.std.specs.Prelude.{IfOk};
 
 use crate::fault::Fault;
+use crate::keys::key;
 use crate::lab::Host;
 use crate::lab_words::LabWords;
 use crate::screen::Screen;
@@ -50,6 +51,39 @@ fn has(texts: &[String], text: &str) -> bool {
     false
 }
 
+/// Returns the handout of a lab for a seed, or that of its page if there is none; `answers`: with the machine's answers in place of its blanks.
+///
+/// # Errors
+/// Those of `key`.
+fn script_of<S: Screen>(
+    alloc: Global,
+    screen: &mut S,
+    lab: Lab,
+    seed: Option<&str>,
+    answers: bool,
+) -> Result<String, Fault>
+    ensures whole { IfOk result (λ _. S.whole screen.old → S.whole screen.new) }
+{
+    let text = match seed {
+        Some(seed) => handout(alloc, lab, seed)?,
+        None => plain(alloc, lab)?,
+    };
+    if answers {
+        key(alloc, screen, lab.name(), text.as_str())
+    } else {
+        Ok(text)
+    }
+}
+
+/// Which scripts students get, and where.
+#[derive(Clone, Copy)]
+struct Order<'a> {
+    lab: Lab,
+    /// Whether the machine's answers stand in place of the blanks.
+    answers: bool,
+    folder: &'a str,
+}
+
 /// The handouts that were written for the students of a list.
 #[derive(Drop)]
 struct HandedOut {
@@ -66,41 +100,43 @@ struct HandedOut {
 }
 
 impl HandedOut {
-    /// Writes the handouts of students to a folder, and a list of them.
-    ///
-    /// # Errors
-    /// `AllocError`: the host is out of memory.
-    fn of<F: Files>(
-        files: &F,
-        alloc: Global,
-        lab: Lab,
-        folder: &str,
-        students: Vec<Student>,
-    ) -> Result<HandedOut, AllocError> {
-        let (folder, name) = (folder.strip_suffix('/').unwrap_or(folder), lab.name());
-        let mut given = HandedOut {
+    /// Returns that none was written so far.
+    fn nothing(alloc: Global, order: Order<'_>) -> Result<HandedOut, AllocError> {
+        let (folder, name) = (order.folder, order.lab.name());
+        Ok(HandedOut {
             list: format!(in alloc; "{folder}/{name}.csv")?,
             students: Vec::new(alloc),
             files: Vec::new(alloc),
             written: 0,
             told: String::new(alloc),
-        };
-        for student in students {
-            given.add(files, alloc, lab, folder, student)?;
+        })
+    }
+
+    /// Writes the handouts of students to a folder, and a list of them.
+    ///
+    /// # Errors
+    /// Those of `key`.
+    fn of<F: Files, S: Screen>(
+        files: &F,
+        alloc: Global,
+        screen: &mut S,
+        order: Order<'_>,
+        students: Vec<Student>,
+    ) -> Result<HandedOut, Fault>
+        ensures whole { IfOk result (λ _. S.whole screen.old → S.whole screen.new) }
+    {
+        let mut given = HandedOut::nothing(alloc, order)?;
+        'students: for student in students {
+            given.add(files, alloc, screen, order, student)?;
         }
         given.put_list(files, alloc)?;
         Ok(given)
     }
 
     /// Returns the path of a student's file, another than those so far.
-    fn path_of(
-        &self,
-        alloc: Global,
-        lab: Lab,
-        folder: &str,
-        id: &str,
-    ) -> Result<String, AllocError> {
-        let (mut safe_id, name) = (String::new(alloc), lab.name());
+    fn path_of(&self, alloc: Global, order: Order<'_>, id: &str) -> Result<String, AllocError> {
+        let (folder, name) = (order.folder, order.lab.name());
+        let mut safe_id = String::new(alloc);
         for letter in id.chars().take(LONGEST_NAME) {
             safe_id.push(safe(letter))?;
         }
@@ -114,21 +150,37 @@ impl HandedOut {
     }
 
     /// Writes the handout of a student.
-    fn add<F: Files>(
+    fn add<F: Files, S: Screen>(
         &mut self,
         files: &F,
         alloc: Global,
-        lab: Lab,
-        folder: &str,
+        screen: &mut S,
+        order: Order<'_>,
         student: Student,
-    ) -> Result<(), AllocError> {
+    ) -> Result<(), Fault>
+        ensures whole { IfOk result (λ _. S.whole screen.old → S.whole screen.new) }
+    {
         let id = student.id.as_str();
         if let Some(first) = first_row(self.students.as_slice(), id) {
-            return put_repeat(&mut self.told, first, student.row, id);
+            put_repeat(&mut self.told, first, student.row, id)?;
+            return Ok(());
         }
-        let path = self.path_of(alloc, lab, folder, id)?;
-        let text = handout(alloc, lab, id)?;
-        if self.put(files, path.as_str(), text.as_str().as_bytes())? {
+        let text = script_of(alloc, screen, order.lab, Some(id), order.answers)?;
+        self.add_text(files, alloc, order, student, text.as_str())?;
+        Ok(())
+    }
+
+    /// Writes the script of a student.
+    fn add_text<F: Files>(
+        &mut self,
+        files: &F,
+        alloc: Global,
+        order: Order<'_>,
+        student: Student,
+        text: &str,
+    ) -> Result<(), AllocError> {
+        let path = self.path_of(alloc, order, student.id.as_str())?;
+        if self.put(files, path.as_str(), text.as_bytes())? {
             self.written = self.written.saturating_add(1);
         }
         self.students.push(student)?;
@@ -172,17 +224,19 @@ impl HandedOut {
 }
 
 impl<F: Files, I: Read + Drop> Host<'_, F, I> {
-    /// Prints the handout of a lab for a seed, or that of its page if there is none; or writes it to a new file; or writes those of a list.
+    /// Prints the handout of a lab for a seed, or that of its page if there is none, or its key; or writes it to a new file; or writes those of
+    /// a list.
     pub fn hand_out<S: Screen>(&mut self, screen: &mut S, words: &LabWords) -> Result<(), Fault>
         ensures whole { IfOk result (λ _. S.whole screen.old → S.whole screen.new) }
     {
         if let Some(list) = &words.seeds {
             return self.hand_out_all(screen, words, list.as_str());
         }
-        let text = match &words.seed {
-            Some(seed) => handout(self.alloc, words.lab, seed.as_str())?,
-            None => plain(self.alloc, words.lab)?,
+        let seed = match &words.seed {
+            Some(seed) => Some(seed.as_str()),
+            None => None,
         };
+        let text = script_of(self.alloc, screen, words.lab, seed, words.answers)?;
         let out = words.out.as_str();
         if out == "-" {
             return screen.out(text.as_str());
@@ -224,7 +278,12 @@ impl<F: Files, I: Read + Drop> Host<'_, F, I> {
         if let Err(error) = fs::create_dir_all(self.files, folder) {
             return Err(Fault::File(String::from_str(alloc, folder)?, error));
         }
-        let given = HandedOut::of(self.files, alloc, words.lab, folder, students)?;
+        let order = Order {
+            lab: words.lab,
+            answers: words.answers,
+            folder: folder.strip_suffix('/').unwrap_or(folder),
+        };
+        let given = HandedOut::of(self.files, alloc, screen, order, students)?;
         screen.out(given.summary(alloc)?.as_str())?;
         if given.told.is_empty() {
             return Ok(());

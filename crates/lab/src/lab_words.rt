@@ -1,5 +1,6 @@
 // `LabWords`: a struct, what a command line of `lab` says; `labs` has its form.
 
+use crate::options::flag;
 use clap::{Arg, ArgAction, ArgMatches, Command};
 use lab_variants::Lab;
 use std::alloc::{AllocError, Global};
@@ -22,6 +23,8 @@ pub struct LabWords {
     pub seed: Option<String>,
     /// The path of a list of students, each of whom gets a handout.
     pub seeds: Option<String>,
+    /// Whether the machine's answers stand in place of the blanks.
+    pub answers: bool,
     /// The path of the file or folder that is written; `-` is standard output.
     pub out: String,
 }
@@ -48,6 +51,11 @@ pub fn labs<'a>(alloc: Global) -> Result<Command<'a>, AllocError> {
             "A list with the column id: a script for each student is written to the folder after -o, and a list of them; - is standard input",
         )
         .conflicts_with("TEXT")?;
+    let answers = flag(
+        alloc,
+        "answers",
+        "Write the machine's answers in place of the blanks",
+    );
     let out = Arg::new(alloc, "OUT")
         .short('o')
         .long("out")
@@ -60,6 +68,7 @@ pub fn labs<'a>(alloc: Global) -> Result<Command<'a>, AllocError> {
         .arg(name)?
         .arg(seed)?
         .arg(seeds)?
+        .arg(answers)?
         .arg(out)
 }
 
@@ -84,6 +93,7 @@ impl LabWords {
             lab: lab.unwrap_or(Lab::PageTables),
             seed,
             seeds,
+            answers: given.get_flag("answers"),
             out: String::from_str(alloc, out)?,
         })
     }

@@ -21,6 +21,7 @@ mod grade_words;
 mod handed_in;
 mod inspect;
 mod inspect_words;
+mod keys;
 mod lab;
 mod lab_scripts;
 mod lab_words;
