@@ -123,8 +123,8 @@ impl Copied<'_> {
         numbers: &[usize],
     ) -> Option<usize> {
         let mut above = Above::NOTHING;
-        'lines: for (asked, found) in handout.iter().zip(found) {
-            let Some(blank) = kept_blank(asked, student, *found) else {
+        'lines: for (asked, one) in handout.iter().zip(found) {
+            let Some(blank) = kept_blank(asked, student, *one) else {
                 continue;
             };
             if !self.is_below(blank) {
