@@ -59,7 +59,10 @@ impl<'a> Head<'a> {
 /// Returns the number of the lab that a comment names, as `# Lab 4, copy-on-write fork.` does.
 fn lab_in(comment: &[u8]) -> Option<u32> {
     let rest = comment.strip_prefix(b"# Lab ")?;
-    let count = rest.iter().take_while(|byte| (**byte).is_ascii_digit()).count();
+    let count = rest
+        .iter()
+        .take_while(|byte| (**byte).is_ascii_digit())
+        .count();
     let digits = rest.get(..count)?;
     std::str::from_utf8(digits).ok()?.parse::<u32>().ok()
 }

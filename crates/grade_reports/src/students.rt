@@ -60,10 +60,7 @@ pub fn is_wide(text: &[u8]) -> bool {
 /// Returns a list without the line `sep=;` that some spreadsheets take before the rows, and without the byte order mark before that line.
 fn without_separator(text: &[u8]) -> &[u8] {
     let bare = text.strip_prefix(b"\xef\xbb\xbf").unwrap_or(text);
-    let (word, rest) = (
-        bare.get(..4).unwrap_or(&[]),
-        bare.get(5..).unwrap_or(&[]),
-    );
+    let (word, rest) = (bare.get(..4).unwrap_or(&[]), bare.get(5..).unwrap_or(&[]));
     match rest {
         [b'\r' | b'\n', ..] if word.eq_ignore_ascii_case(b"sep=") => rest,
         _ => text,
@@ -268,12 +265,7 @@ pub fn first_row(students: &[Student], id: &str) -> Option<usize> {
 ///
 /// # Errors
 /// `AllocError`: the host is out of memory.
-pub fn put_repeat(
-    out: &mut String,
-    first: usize,
-    row: usize,
-    id: &str,
-) -> Result<(), AllocError> {
+pub fn put_repeat(out: &mut String, first: usize, row: usize, id: &str) -> Result<(), AllocError> {
     let id = Visible(id);
     writeln!(
         out,

@@ -9,6 +9,7 @@ use crate::mistakes::{Place, tell_end};
 use crate::plain::plain_line;
 use crate::play::played;
 use crate::screen::Screen;
+use grade_reports::Visible;
 use handouts::{Answer, Asked, Line, blank_count, lines_of};
 use line_player::{LinePlayer, LineReply};
 use std::alloc::Global;
@@ -124,10 +125,11 @@ pub fn play_handout<S: Screen>(
     ensures whole { IfOk result (λ _. S.whole screen.old → S.whole screen.new) }
 {
     let lines = lines_of(alloc, text)?;
+    let name = Visible(file);
     if lines.len() > LONGEST_HANDOUT {
         tell(
             screen,
-            format!(in alloc; "{file}: a handout has at most {LONGEST_HANDOUT} lines\n")?.as_str(),
+            format!(in alloc; "{name}: a handout has at most {LONGEST_HANDOUT} lines\n")?.as_str(),
         )?;
     }
     let handout = play_lines(alloc, screen, file, lines)?;
@@ -135,7 +137,7 @@ pub fn play_handout<S: Screen>(
         tell(
             screen,
             format!(in alloc;
-                "{file}: no line ends with => ?, so there is nothing to grade\n"
+                "{name}: no line ends with => ?, so there is nothing to grade\n"
             )?.as_str(),
         )?;
     }

@@ -113,12 +113,7 @@ impl Targets {
     ///
     /// # Errors
     /// Those of `add_path`.
-    fn add_listed<F: Files>(
-        &mut self,
-        files: &F,
-        alloc: Global,
-        path: &[u8],
-    ) -> Result<(), Fault> {
+    fn add_listed<F: Files>(&mut self, files: &F, alloc: Global, path: &[u8]) -> Result<(), Fault> {
         if path.is_empty() {
             return Ok(());
         }

@@ -7,6 +7,7 @@ ghost use Rattle.line_player.specs.PlayedLines.{Played};
 use crate::fault::Fault;
 use crate::screen::Screen;
 use fault_texts::{explain, explain_end};
+use grade_reports::Visible;
 use line_fields::Mistake;
 use line_player::LinePlayer;
 use script_language::Cause;
@@ -24,7 +25,7 @@ pub struct Place<'a> {
 
 impl fmt::Display for Place<'_> {
     fn fmt<W: fmt::Write>(&self, f: &mut fmt::Formatter<W>) -> fmt::Result {
-        let (file, line) = (self.file, self.line);
+        let (file, line) = (Visible(self.file), self.line);
         write!(f, "{file}:{line}")
     }
 }
