@@ -15,9 +15,13 @@ use crate::threads::{begins_for_threads, judge, read_rest};
 use handouts::split;
 use line_player::{LinePlayer, LineReply};
 use line_traces::{Before, explain_answer};
+use quiz_answers::is_right;
 use std::alloc::{AllocError, Global};
 use std::fmt;
 use std::io::{BufReader, Read};
+
+/// What is told of an expected answer that has the machine's values in another form.
+const OTHER_FORM: &str = "only the form differs: check compares answers letter by letter";
 
 /// How many files, answers and differences there were.
 #[derive(Clone, Copy)]
@@ -119,7 +123,7 @@ impl<'a> CheckLines<'a> {
         }
     }
 
-    /// Returns why an answer is no plain success, if it is none and another than the expected one.
+    /// Returns, of an answer that is another than the expected one, that only its form differs, or why it is no plain success, if it is none.
     fn note(
         &self,
         player: &LinePlayer,
@@ -132,6 +136,9 @@ impl<'a> CheckLines<'a> {
     {
         if reply != LineReply::Text || player.answer() == expected {
             return Ok(None);
+        }
+        if is_right(self.alloc, expected, player.answer())? {
+            return Ok(Some(String::from_str(self.alloc, OTHER_FORM)?));
         }
         explain_answer(self.alloc, player, before, line)
     }

@@ -8,10 +8,12 @@ use crate::fault::Fault;
 use crate::play::{Listener, each_line, is_among};
 use crate::screen::Screen;
 use line_player::LinePlayer;
-use line_traces::{put_trace, trace_line};
+use line_traces::{Ledger, put_trace, trace_line};
 use mmu_lines::{Answer, MmuPlayer, put_answer};
 use pictures::{QuizQuestion, put_picture};
-use quiz_answers::{OUTCOME_FORM, Script, choose, form_of, has_form, is_right, plain_parts};
+use quiz_answers::{
+    OUTCOME_FORM, OUTCOMES, Script, choose, form_of, has_form, is_right, missed_parts, plain_parts,
+};
 use quizzes::{Quiz, Subject, Teller, make};
 use script_reader::{first_field, number};
 use std::alloc::{AllocError, Global};
@@ -23,6 +25,8 @@ use usertest_text::{PlayFault, compare, predicted_answers};
 struct Seen {
     alloc: Global,
     draws: bool,
+    /// What was taken and given back since the last audit.
+    ledger: Ledger,
     traces: Vec<String>,
     pictures: Vec<String>,
 }
@@ -51,7 +55,8 @@ impl Listener for Seen {
         number: u64,
         line: &[u8],
     ) -> Result<(), Fault> {
-        let trace = trace_line(self.alloc, player, number, line)?;
+        let mut trace = trace_line(self.alloc, player, number, line)?;
+        self.ledger.add(&mut trace, player.machine())?;
         let mut text = String::new(self.alloc);
         put_trace(&mut text, &trace)?;
         let picture = self.drawing(player)?;
@@ -161,6 +166,15 @@ fn put_reason(
         }
         Some(Answer::Permitted(_)) => { writeln!(out, "  {outcome}: permitted") }
         _ => Ok(()),
+    }
+}
+
+/// Returns why an outcome that a guess lacks is permitted, by the word with which a reference MMU begins it.
+fn why_permitted(outcome: &[u8]) -> &'static str {
+    if outcome.starts_with(b"held") {
+        "the hart may still hold what it read before, since no fence after that covers it"
+    } else {
+        "a walk may end so now"
     }
 }
 
@@ -304,6 +318,7 @@ impl Game {
         let mut seen = Seen {
             alloc,
             draws,
+            ledger: Ledger::new(alloc),
             traces: Vec::new(alloc),
             pictures: Vec::new(alloc),
         };
@@ -351,6 +366,14 @@ impl Game {
         }
     }
 
+    /// Returns what a guess at a line is to say: the form of the answers to it; of a reference MMU all outcomes.
+    pub fn wanted(&self, at: usize) -> &'static str {
+        match self.quiz.teller {
+            Teller::Machine => self.form(at),
+            Teller::Mmu => OUTCOMES,
+        }
+    }
+
     /// Returns whether a guess is right, or at least of the form of the answers to a line.
     pub fn is_formed(&self, at: usize, guess: &[u8]) -> Result<bool, AllocError> {
         if is_right(self.alloc, guess, self.answer(at).as_bytes())? {
@@ -368,19 +391,38 @@ impl Game {
         Ok(player)
     }
 
-    /// Returns what the reference MMU says of the outcomes in a wrong guess, one a line; empty of other quizzes.
+    /// Appends the outcomes that a guess lacks, one a line, with why they are permitted too.
+    fn put_missed(&self, out: &mut String, at: usize, guess: &[u8]) -> Result<(), AllocError> {
+        let missed = missed_parts(self.alloc, guess, self.answer(at).as_bytes())?;
+        'parts: for part in missed.as_slice() {
+            let part = part.as_slice();
+            let outcome = std::str::from_utf8(part).unwrap_or("?");
+            let why = why_permitted(part);
+            writeln!(out, "  missed: {outcome}: {why}")?;
+        }
+        Ok(())
+    }
+
+    /// Returns what the reference MMU says of the outcomes in a wrong guess, and those that it lacks, one a line; empty of other quizzes.
     pub fn reasons(&self, at: usize, guess: &[u8]) -> Result<String, AllocError> {
         let mut text = String::new(self.alloc);
         if self.quiz.teller == Teller::Machine {
             return Ok(text);
         }
+        self.put_reasons(&mut text, at, guess)?;
+        self.put_missed(&mut text, at, guess)?;
+        Ok(text)
+    }
+
+    /// Appends what the reference MMU says of the outcomes in a guess, one a line.
+    fn put_reasons(&self, out: &mut String, at: usize, guess: &[u8]) -> Result<(), AllocError> {
         let mut player = self.mmu_before(at)?;
         let parts = plain_parts(self.alloc, guess)?;
         'parts: for part in parts.as_slice() {
             let outcome = told_outcome(self.alloc, part.as_slice())?;
-            put_reason(&mut text, &mut player, self.line(at), outcome.as_str())?;
+            put_reason(out, &mut player, self.line(at), outcome.as_str())?;
         }
-        Ok(text)
+        Ok(())
     }
 
     /// Returns the lines of questions that were missed, each with its number and its right answer; empty if none were.

@@ -9,7 +9,7 @@ use crate::screen::Screen;
 use pictures::{put_question, put_quiz_end, put_quiz_start};
 use quiz_answers::is_right;
 use quizzes::Teller;
-use std::alloc::{AllocError, Global};
+use std::alloc::AllocError;
 use std::fmt;
 use std::io::{BufReader, Read};
 
@@ -39,20 +39,30 @@ impl Score {
     }
 }
 
-/// Reads a guess; `None` at the end of the input.
-fn read_guess<R: Read + Drop>(
-    alloc: Global,
-    reader: &mut BufReader<R>,
-) -> Result<Option<Vec<u8>>, Fault> {
-    let mut line = Vec::new(alloc);
-    if read_line(reader, &mut line)? == 0 {
-        return Ok(None);
-    }
-    let guess = without_feed(line.as_slice()).trim_ascii();
-    Ok(Some(Vec::from_slice(alloc, guess)?))
-}
-
 impl Game {
+    /// Returns a guess; `;` for each comma between outcomes of a reference MMU.
+    fn parted(&self, guess: &[u8]) -> Result<Vec<u8>, AllocError> {
+        let of_mmu = self.quiz.teller == Teller::Mmu;
+        let mut text = Vec::with_capacity(self.alloc, guess.len())?;
+        for byte in guess {
+            text.push(if of_mmu && *byte == b',' { b';' } else { *byte })?;
+        }
+        Ok(text)
+    }
+
+    /// Reads a guess; `None` at the end of the input.
+    fn read_guess<R: Read + Drop>(
+        &self,
+        reader: &mut BufReader<R>,
+    ) -> Result<Option<Vec<u8>>, Fault> {
+        let mut line = Vec::new(self.alloc);
+        if read_line(reader, &mut line)? == 0 {
+            return Ok(None);
+        }
+        let guess = without_feed(line.as_slice()).trim_ascii();
+        Ok(Some(self.parted(guess)?))
+    }
+
     /// Prints a question: the lines since the question before, and its line.
     fn print_question<S: Screen>(
         &self,
@@ -67,12 +77,12 @@ impl Game {
         screen.out(format!(in self.alloc; "{line}\n")?.as_str())
     }
 
-    /// Prints, on standard error, that a guess may be typed: the line's number, and the form of its answers.
+    /// Prints, on standard error, that a guess may be typed: the line's number, and what the guess is to say.
     fn print_prompt<S: Screen>(&self, screen: &mut S, at: usize) -> Result<(), Fault>
         ensures whole { IfOk result (λ _. S.whole screen.old → S.whole screen.new) }
     {
-        let (number, form) = (at.saturating_add(1), self.form(at));
-        screen.err(format!(in self.alloc; "line {number}: {form}? ")?.as_str())
+        let (number, wanted) = (at.saturating_add(1), self.wanted(at));
+        screen.err(format!(in self.alloc; "line {number}: {wanted}? ")?.as_str())
     }
 
     /// Reads a guess, `None` at the end of the input; of one that has not the form of the answers, tells that and reads once more.
@@ -85,17 +95,29 @@ impl Game {
         ensures whole { IfOk result (λ _. S.whole screen.old → S.whole screen.new) }
     {
         self.print_prompt(screen, at)?;
-        let Some(guess) = read_guess(self.alloc, reader)? else {
+        let Some(guess) = self.read_guess(reader)? else {
             return Ok(None);
         };
         if self.is_formed(at, guess.as_slice())? {
             return Ok(Some(guess));
         }
-        let form = self.form(at);
-        let text = format!(in self.alloc; "no answer: once more, in the form {form}\n")?;
+        let wanted = self.wanted(at);
+        let text = format!(in self.alloc; "no answer: once more, in the form {wanted}\n")?;
         screen.out(text.as_str())?;
         self.print_prompt(screen, at)?;
-        read_guess(self.alloc, reader)
+        self.read_guess(reader)
+    }
+
+    /// Prints the answer to a line beside a guess that is not right, and why that is none.
+    fn print_wrong<S: Screen>(&self, screen: &mut S, at: usize, guess: &[u8]) -> Result<(), Fault>
+        ensures whole { IfOk result (λ _. S.whole screen.old → S.whole screen.new) }
+    {
+        let answer = self.answer(at);
+        if !self.is_formed(at, guess)? {
+            return screen.out(format!(in self.alloc; "not understood: it is {answer}\n")?.as_str());
+        }
+        screen.out(format!(in self.alloc; "wrong: it is {answer}\n")?.as_str())?;
+        screen.out(self.reasons(at, guess)?.as_str())
     }
 
     /// Prints whether a guess is right, and what happens on the line. Returns whether it is.
@@ -112,8 +134,7 @@ impl Game {
         if right {
             screen.out(format!(in self.alloc; "right: {answer}\n")?.as_str())?;
         } else {
-            screen.out(format!(in self.alloc; "wrong: it is {answer}\n")?.as_str())?;
-            screen.out(self.reasons(at, guess)?.as_str())?;
+            self.print_wrong(screen, at, guess)?;
         }
         screen.out(self.trace(at))?;
         screen.out("\n")?;

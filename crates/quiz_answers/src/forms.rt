@@ -7,6 +7,9 @@ use std::alloc::{AllocError, Global};
 /// The form of an outcome of a reference MMU.
 pub const OUTCOME_FORM: &str = "pa 0x.. or fault N";
 
+/// What a guess at a line for a reference MMU is to say.
+pub const OUTCOMES: &str = "each permitted outcome, with ; between: pa 0x.. or fault N";
+
 /// Forms that several lines have.
 const VALUE: &str = "value 0x.. or fault N or refused N NAME";
 

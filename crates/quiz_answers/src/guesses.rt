@@ -120,6 +120,43 @@ fn are_among(parts: &[Vec<u8>], others: &[Vec<u8>]) -> bool {
     true
 }
 
+/// Returns the outcomes of an answer as they stand there, with what is in parentheses.
+fn whole_parts(alloc: Global, answer: &[u8]) -> Result<Vec<Vec<u8>>, AllocError> {
+    let (mut parts, mut part) = (Vec::new(alloc), Vec::new(alloc));
+    let mut inside = false;
+    for byte in answer {
+        if *byte == b';' && !inside {
+            parts.push(Vec::from_slice(alloc, part.as_slice().trim_ascii())?)?;
+            part.clear();
+            continue;
+        }
+        inside = *byte == b'(' || (inside && *byte != b')');
+        part.push(*byte)?;
+    }
+    parts.push(Vec::from_slice(alloc, part.as_slice().trim_ascii())?)?;
+    Ok(parts)
+}
+
+/// Returns the outcomes of an answer of a reference MMU, as they stand there, that a guess does not have.
+///
+/// # Errors
+/// `AllocError`: the host is out of memory.
+pub fn missed_parts(
+    alloc: Global,
+    guess: &[u8],
+    answer: &[u8],
+) -> Result<Vec<Vec<u8>>, AllocError> {
+    let guessed = plain_parts(alloc, guess)?;
+    let mut missed = Vec::new(alloc);
+    'parts: for part in whole_parts(alloc, answer)? {
+        let plain = plain_parts(alloc, part.as_slice())?;
+        if !are_among(plain.as_slice(), guessed.as_slice()) {
+            missed.push(part)?;
+        }
+    }
+    Ok(missed)
+}
+
 /// Returns whether a guess is an answer. Letter case and blanks do not count, a number may be decimal or hexadecimal, and of outcomes of a
 /// reference MMU what stands in parentheses, by what each is known, its level and their order do not count.
 ///
