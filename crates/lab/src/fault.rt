@@ -3,7 +3,7 @@
 ghost use Rattle.std.specs.Prelude.{◌≤◌, IfOk};
 
 use crate::screen::Screen;
-use clap::error::ErrorKind;
+use command_words::{Misuse, Usage};
 use grade_reports::Visible;
 use std::alloc::{AllocError, AllocFailed, Global};
 use std::{fmt, io};
@@ -12,7 +12,7 @@ use std::{fmt, io};
 #[derive(Drop)]
 pub enum Fault {
     /// The command line is wrong, or asks for help or the version.
-    CommandLine(clap::Error),
+    CommandLine(Usage),
     /// A word of the command line is wrong, and how.
     Word(String),
     /// The host is out of memory.
@@ -41,7 +41,7 @@ impl Fault {
         ensures { result ≤ 2 }
     {
         match self {
-            Fault::CommandLine(error) if error.exit_code() == 0 => 0,
+            Fault::CommandLine(usage) if usage.is_asked() => 0,
             Fault::CommandLine(_) | Fault::Word(_) => 2,
             Fault::Memory | Fault::File(_, _) | Fault::Read(_) | Fault::Io(_) | Fault::Told => 1,
         }
@@ -56,10 +56,10 @@ impl Fault {
     {
         match self {
             Fault::Told => Ok(()),
-            Fault::CommandLine(error) if error.exit_code() == 0 => {
-                screen.out(format!(in alloc; "{error}")?.as_str())
+            Fault::CommandLine(usage) if usage.is_asked() => {
+                screen.out(format!(in alloc; "{usage}")?.as_str())
             }
-            Fault::CommandLine(error) => screen.err(format!(in alloc; "{error}")?.as_str()),
+            Fault::CommandLine(usage) => screen.err(format!(in alloc; "{usage}")?.as_str()),
             fault => screen.err(format!(in alloc; "{fault}\n")?.as_str()),
         }
     }
@@ -87,7 +87,7 @@ impl fmt::Display for Because<'_> {
 impl fmt::Display for Fault {
     fn fmt<W: fmt::Write>(&self, f: &mut fmt::Formatter<W>) -> fmt::Result {
         match self {
-            Fault::CommandLine(error) => write!(f, "{error}"),
+            Fault::CommandLine(usage) => write!(f, "{usage}"),
             Fault::Word(text) => {
                 let text = text.as_str();
                 write!(f, "xv6lab: {text}")
@@ -128,11 +128,12 @@ impl From<io::Error> for Fault {
     }
 }
 
-impl From<clap::Error> for Fault {
-    fn from(error: clap::Error) -> Fault {
-        match error.kind() {
-            ErrorKind::OutOfMemory => Fault::Memory,
-            _ => Fault::CommandLine(error),
+impl From<Misuse> for Fault {
+    fn from(misuse: Misuse) -> Fault {
+        match misuse {
+            Misuse::Usage(usage) => Fault::CommandLine(usage),
+            Misuse::Word(text) => Fault::Word(text),
+            Misuse::Memory => Fault::Memory,
         }
     }
 }

@@ -4,10 +4,10 @@ ghost use Rattle.std.specs.Prelude.{◌≡◌, IfOk, true};
 
 use crate::fault::Fault;
 use crate::grade::play_handout;
-use crate::grade_words::{Form, GradeWords, Source};
 use crate::handed_in::{Kind, Target, Targets, kind_of};
 use crate::lab::{Host, Reading};
 use crate::screen::Screen;
+use command_words::{GradeForm, GradeWords, Source};
 use grade_reports::{
     FileGrade, FileObject, Head, ListFault, ResultsObject, Standing, Student, Visible, csv_head,
     csv_row, first_row, ids_of, is_wide, other_lab, put_repeat, put_summary, put_table,
@@ -143,16 +143,16 @@ fn list_fault(
 fn print_grades<S: Screen>(
     alloc: Global,
     screen: &mut S,
-    form: Form,
+    form: GradeForm,
     grades: &[FileGrade],
 ) -> Result<(), Fault>
     ensures whole { IfOk result (λ _. S.whole screen.old → S.whole screen.new) }
 {
     match form {
-        Form::Table => print_table(alloc, screen, grades),
-        Form::Csv => print_csv(alloc, screen, grades),
-        Form::Json => print_objects(alloc, screen, grades),
-        Form::Gradescope => print_results(alloc, screen, grades),
+        GradeForm::Table => print_table(alloc, screen, grades),
+        GradeForm::Csv => print_csv(alloc, screen, grades),
+        GradeForm::Json => print_objects(alloc, screen, grades),
+        GradeForm::Gradescope => print_results(alloc, screen, grades),
     }
 }
 
@@ -545,7 +545,7 @@ impl<F: Files, I: Read + Drop> Host<'_, F, I> {
                 self.grade_all(screen, handout.as_str(), targets)?
             }
         };
-        if matches!(words.form, Form::Gradescope) && grading.grades.len() != 1 {
+        if matches!(words.form, GradeForm::Gradescope) && grading.grades.len() != 1 {
             return Err(Fault::Word(String::from_str(
                 alloc,
                 "--gradescope takes exactly one FILE",

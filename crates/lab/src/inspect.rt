@@ -3,9 +3,9 @@
 ghost use Rattle.std.specs.Prelude.{IfOk};
 
 use crate::fault::Fault;
-use crate::inspect_words::InspectWords;
 use crate::lab::Reading;
 use crate::screen::Screen;
+use command_words::InspectWords;
 use std::alloc::{AllocError, Global};
 use std::io::Read;
 use sv39_entry::Satp;

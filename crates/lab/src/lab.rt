@@ -3,18 +3,13 @@
 ghost use Rattle.std.specs.Prelude.{◌≡◌, ◌≤◌, IfOk};
 
 use crate::check::{BareLines, CheckLines, Tally};
-use crate::check_words::CheckWords;
 use crate::chosen_line::ChosenLine;
-use crate::command_line::Task;
 use crate::draw::{DrawLines, KeptLines, PageLines, Paper};
-use crate::draw_words::DrawWords;
 use crate::elf::ElfLine;
 use crate::fault::Fault;
 use crate::inspect::InspectDump;
-use crate::mmu_words::MmuWords;
 use crate::play::{Listener, each_line};
 use crate::quiz::{Game, Order};
-use crate::quiz_words::{Form, QuizWords};
 use crate::reference::AnswerLines;
 use crate::repl::ReplLines;
 use crate::run::RunLines;
@@ -22,9 +17,10 @@ use crate::screen::Screen;
 use crate::show::ShowLines;
 use crate::shrink::ShrinkLines;
 use crate::trace::TraceLines;
-use crate::trace_words::TraceWords;
-use crate::usertest::{Program, Tests};
-use crate::usertest_words::UsertestWords;
+use crate::usertest::{Program, script_of};
+use command_words::{
+    CheckWords, DrawWords, MmuWords, QuizForm, QuizWords, Task, Tests, TraceWords, UsertestWords,
+};
 use line_traces::Ledger;
 use pictures::PageHead;
 use std::alloc::Global;
@@ -282,7 +278,7 @@ impl<F: Files, I: Read + Drop> Host<'_, F, I> {
     {
         let (tests, out) = (words.tests, words.out.as_str());
         if tests.script {
-            return screen.out(tests.script(self.alloc)?.as_str());
+            return screen.out(script_of(self.alloc, tests)?.as_str());
         }
         let title = tests.title(self.alloc)?;
         let title = title.as_str();
@@ -335,17 +331,21 @@ impl<F: Files, I: Read + Drop> Host<'_, F, I> {
             subject: words.subject,
             seed: words.seed,
             count: words.count,
-            draws: words.form == Form::Page,
+            draws: words.form == QuizForm::Page,
         };
         let game = Game::play(self.alloc, screen, order)?;
         match words.form {
-            Form::Ask => match self.input.take() {
+            QuizForm::Ask => match self.input.take() {
                 Some(input) => game.ask(screen, input),
                 None => game.ask(screen, b"".as_slice()),
             },
-            Form::Page => self.write(screen, words.out.as_str(), game.page()?.as_str().as_bytes()),
-            Form::Script => screen.out(game.script(false)?.as_str()),
-            Form::Answers => screen.out(game.script(true)?.as_str()),
+            QuizForm::Page => self.write(
+                screen,
+                words.out.as_str(),
+                game.page()?.as_str().as_bytes(),
+            ),
+            QuizForm::Script => screen.out(game.script(false)?.as_str()),
+            QuizForm::Answers => screen.out(game.script(true)?.as_str()),
         }
     }
 
@@ -411,7 +411,7 @@ pub fn do_words<F: Files, I: Read + Drop, S: Screen>(
     let alloc = host.alloc;
     let task = match Task::parse(alloc, words) {
         Ok(task) => task,
-        Err(fault) => return told(alloc, screen, &fault),
+        Err(misuse) => return told(alloc, screen, &Fault::from(misuse)),
     };
     match host.do_task(screen, &task) {
         Ok(()) => 0,

@@ -8,44 +8,32 @@
 #![tactic(auto)]
 
 mod check;
-mod check_words;
 mod chosen_line;
-mod command_line;
 mod draw;
-mod draw_words;
 mod elf;
 mod fault;
 mod grade;
 mod grade_files;
-mod grade_words;
 mod handed_in;
 mod inspect;
-mod inspect_words;
 mod keys;
 mod lab;
 mod lab_scripts;
-mod lab_words;
 mod looks;
 mod mistakes;
-mod mmu_words;
-mod options;
 mod plain;
 mod play;
 mod quiz;
 mod quiz_terminal;
-mod quiz_words;
 mod reference;
 mod repl;
 mod run;
-mod run_words;
 mod screen;
 mod show;
 mod shrink;
 mod threads;
 mod trace;
-mod trace_words;
 mod usertest;
-mod usertest_words;
 
 pub use fault::Fault;
 pub use lab::{Host, do_words};

@@ -8,20 +8,12 @@ use crate::fault::Fault;
 use crate::mistakes::{Place, tell_end, tell_refused};
 use crate::play::Listener;
 use crate::screen::Screen;
+use command_words::Telling;
 use handouts::{Expected, split};
 use line_player::{LinePlayer, LineReply};
 use line_traces::{Before, explain_answer};
 use script_reader::trim_return;
 use std::alloc::Global;
-
-/// What `run` prints of answers beside them.
-#[derive(Clone, Copy)]
-pub struct Telling {
-    /// Whether it is told why an answer is no plain success; else that is told of images alone.
-    pub explain: bool,
-    /// Whether a refusal that no line expects is an error.
-    pub strict: bool,
-}
 
 /// Nothing is told beside answers but what is wrong with an image.
 pub const ANSWERS_ALONE: Telling = Telling {

@@ -1,32 +1,13 @@
-// `Tests`: programs in C that test a kernel, and the scripts beside them.
+// `Program`: a program in C that tests a kernel, made test by test; `script_of`, the script of its first test.
 
 ghost use Rattle.std.specs.Prelude.{IfOk};
 
 use crate::fault::Fault;
 use crate::screen::Screen;
+use command_words::Tests;
 use std::alloc::{AllocError, Global};
-use usertest_rows::Kind;
 use usertest_text::{Names, PlayFault, put_head, put_main, put_test};
 use usertests::{Test, make};
-
-/// The names of the kinds of tests.
-pub static KINDS: [&str; 4] = ["cow", "lazy", "mmap", "mixed"];
-
-/// The tests of a C program.
-#[derive(Clone, Copy)]
-pub struct Tests {
-    pub kind: Kind,
-    /// The seed of the first.
-    pub seed: u64,
-    /// How many there are, with the seeds that follow.
-    pub count: u64,
-    /// The steps of a test, but for its beginning and its end.
-    pub steps: u32,
-    /// Whether mmap is asked with other offsets than 0.
-    pub offsets: bool,
-    /// Whether the script of the first is printed, and nothing written.
-    pub script: bool,
-}
 
 /// Returns the text of a script.
 fn script_text(alloc: Global, test: &Test) -> Result<String, AllocError> {
@@ -57,28 +38,15 @@ fn tell_difference<S: Screen>(
     }
 }
 
-impl Tests {
-    /// Returns what the program is called, as `cow-17`, or `cow-17-19` if there are several tests.
-    pub fn title(&self, alloc: Global) -> Result<String, AllocError> {
-        let (kind, first) = (self.kind.name(), self.seed);
-        let last = first.saturating_add(self.count.saturating_sub(1));
-        if last > first {
-            format!(in alloc; "{kind}-{first}-{last}")
-        } else {
-            format!(in alloc; "{kind}-{first}")
-        }
-    }
+/// Returns the test of a seed. Earlier tests of the program have so many functions that go on after an exec.
+fn test_of(alloc: Global, tests: Tests, seed: u64, parts: usize) -> Result<Test, AllocError> {
+    make(alloc, tests.kind, seed, tests.steps, tests.offsets, parts)
+}
 
-    /// Returns the test of a seed. Earlier tests of the program have so many functions that go on after an exec.
-    fn test(&self, alloc: Global, seed: u64, parts: usize) -> Result<Test, AllocError> {
-        make(alloc, self.kind, seed, self.steps, self.offsets, parts)
-    }
-
-    /// Returns the script of the first test.
-    pub fn script(&self, alloc: Global) -> Result<String, AllocError> {
-        let test = self.test(alloc, self.seed, 0)?;
-        script_text(alloc, &test)
-    }
+/// Returns the script of the first test.
+pub fn script_of(alloc: Global, tests: Tests) -> Result<String, AllocError> {
+    let test = test_of(alloc, tests, tests.seed, 0)?;
+    script_text(alloc, &test)
 }
 
 /// A C program that is being made.
@@ -113,7 +81,7 @@ impl Program {
         ensures whole { IfOk result (λ _. S.whole screen.old → S.whole screen.new) }
     {
         let alloc = self.alloc;
-        let test = self.tests.test(alloc, seed, self.names.parts_count)?;
+        let test = test_of(alloc, self.tests, seed, self.names.parts_count)?;
         let (lines, lives) = (test.lines.as_slice(), test.lives.as_slice());
         if let Err(fault) = put_test(alloc, &mut self.text, lines, lives) {
             tell_difference(alloc, screen, test.name.as_str(), &fault)?;

@@ -10,7 +10,7 @@ static SUBJECTS: [&str; 5] = ["cow", "lazy", "mmap", "tlb", "walk"];
 
 /// What is done with a quiz.
 #[derive(Clone, Copy)]
-pub enum Form {
+pub enum QuizForm {
     /// Its questions are asked in the terminal.
     Ask,
     /// It is written as a page.
@@ -28,7 +28,7 @@ pub struct QuizWords {
     pub seed: u64,
     /// How many lines are asked at most.
     pub count: usize,
-    pub form: Form,
+    pub form: QuizForm,
     /// The path of the page; `-` is standard output.
     pub out: String,
 }
@@ -96,15 +96,15 @@ fn subject_of(given: &ArgMatches<'_>) -> Subject {
 }
 
 /// Returns what is done with the quiz.
-fn form_of(given: &ArgMatches<'_>) -> Form {
+fn form_of(given: &ArgMatches<'_>) -> QuizForm {
     if given.get_flag("page") {
-        Form::Page
+        QuizForm::Page
     } else if given.get_flag("answers") {
-        Form::Answers
+        QuizForm::Answers
     } else if given.get_flag("script") {
-        Form::Script
+        QuizForm::Script
     } else {
-        Form::Ask
+        QuizForm::Ask
     }
 }
 

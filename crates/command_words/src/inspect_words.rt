@@ -1,6 +1,6 @@
 // `InspectWords`: a struct, what a command line of `inspect` says.
 
-use crate::fault::Fault;
+use crate::misuse::Misuse;
 use crate::options::{file, file_of, flag, json, number_of};
 use clap::{Arg, ArgAction, ArgMatches, Command};
 use std::alloc::{AllocError, Global};
@@ -63,14 +63,14 @@ pub fn inspect<'a>(alloc: Global) -> Result<Command<'a>, AllocError> {
 ///
 /// # Errors
 /// `Word`: `--at` is no number, or no multiple of 4,096. `Memory`: the host is out of memory.
-fn base_of(alloc: Global, given: &ArgMatches<'_>) -> Result<u64, Fault> {
+fn base_of(alloc: Global, given: &ArgMatches<'_>) -> Result<u64, Misuse> {
     let address = match given.get_str("at") {
         Some(word) => number_of(alloc, "--at", word)?,
         None => KERNBASE,
     };
     if address % PAGE_SIZE != 0 {
         let text = format!(in alloc; "--at: 0x{address:x} is no multiple of {PAGE_SIZE}")?;
-        return Err(Fault::Word(text));
+        return Err(Misuse::Word(text));
     }
     Ok(address / PAGE_SIZE)
 }
@@ -79,7 +79,7 @@ fn base_of(alloc: Global, given: &ArgMatches<'_>) -> Result<u64, Fault> {
 ///
 /// # Errors
 /// `Word`: one is no number. `Memory`: the host is out of memory.
-fn satps_of(alloc: Global, given: &ArgMatches<'_>) -> Result<Vec<u64>, Fault> {
+fn satps_of(alloc: Global, given: &ArgMatches<'_>) -> Result<Vec<u64>, Misuse> {
     let mut satps = Vec::new(alloc);
     if let Some(words) = given.get_strs("satp") {
         for word in words {
@@ -95,7 +95,7 @@ impl InspectWords {
     ///
     /// # Errors
     /// `Word`: a number is wrong. `Memory`: the host is out of memory.
-    pub fn of(alloc: Global, given: &ArgMatches<'_>) -> Result<InspectWords, Fault> {
+    pub fn of(alloc: Global, given: &ArgMatches<'_>) -> Result<InspectWords, Misuse> {
         Ok(InspectWords {
             file: file_of(alloc, given)?,
             base: base_of(alloc, given)?,

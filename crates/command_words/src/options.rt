@@ -1,6 +1,6 @@
 // Options that several words of the program have, and what is read of them.
 
-use crate::fault::Fault;
+use crate::misuse::Misuse;
 use clap::{Arg, ArgAction, ArgMatches, value_parser};
 use line_fields::wrong_number;
 use script_reader::number;
@@ -81,13 +81,13 @@ pub fn strict<'a>(alloc: Global) -> Arg<'a> {
 ///
 /// # Errors
 /// `Word`: it is none. `Memory`: the host is out of memory.
-pub fn number_of(alloc: Global, name: &str, word: &str) -> Result<u64, Fault> {
+pub fn number_of(alloc: Global, name: &str, word: &str) -> Result<u64, Misuse> {
     match number(word.as_bytes()) {
         Some(number) => Ok(number),
         None => {
             let wrong = wrong_number(alloc, word.as_bytes())?;
             let text = wrong.as_str();
-            Err(Fault::Word(format!(in alloc; "{name}: {text}")?))
+            Err(Misuse::Word(format!(in alloc; "{name}: {text}")?))
         }
     }
 }

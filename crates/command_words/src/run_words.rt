@@ -1,9 +1,17 @@
-// `RunWords`: a struct, what a command line of `run` says.
+// `RunWords`: a struct, what a command line of `run` says; `Telling`, what is told beside the answers.
 
 use crate::options::{SCRIPT, file, file_of, flag, strict};
-use crate::run::Telling;
 use clap::{ArgMatches, Command};
 use std::alloc::{AllocError, Global};
+
+/// What `run` prints of answers beside them.
+#[derive(Clone, Copy)]
+pub struct Telling {
+    /// Whether it is told why an answer is no plain success; else that is told of images alone.
+    pub explain: bool,
+    /// Whether a refusal that no line expects is an error.
+    pub strict: bool,
+}
 
 /// A script is played, and each line printed with its answer.
 #[derive(Drop)]

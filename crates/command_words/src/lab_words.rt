@@ -6,7 +6,7 @@ use lab_variants::Lab;
 use std::alloc::{AllocError, Global};
 
 /// The names of the labs, as `Lab::of_name` takes them.
-static NAMES: [&str; 6] = [
+pub static LABS: [&str; 6] = [
     "page_tables",
     "traps",
     "lazy_growth",
@@ -34,7 +34,7 @@ pub fn labs<'a>(alloc: Global) -> Result<Command<'a>, AllocError> {
     let name = Arg::new(alloc, "NAME")
         .required(true)
         .action(ArgAction::Set)
-        .value_parser(NAMES.as_slice())
+        .value_parser(LABS.as_slice())
         .help("The lab");
     let seed = Arg::new(alloc, "TEXT")
         .long("seed")

@@ -3,10 +3,10 @@
 
 use crate::check_words::{CheckWords, check};
 use crate::draw_words::{DrawWords, draw};
-use crate::fault::Fault;
 use crate::grade_words::{GradeWords, grade};
 use crate::inspect_words::{InspectWords, inspect};
 use crate::lab_words::{LabWords, labs};
+use crate::misuse::Misuse;
 use crate::mmu_words::{MmuWords, mmu};
 use crate::options::{SCRIPT, file, file_of};
 use crate::quiz_words::{QuizWords, quiz};
@@ -107,7 +107,7 @@ fn command<'a>(alloc: Global) -> Result<Command<'a>, AllocError> {
 }
 
 /// Returns what a word says that makes something, or else what `repl` says.
-fn maker_of(alloc: Global, name: &str, given: &ArgMatches<'_>) -> Result<Task, Fault> {
+fn maker_of(alloc: Global, name: &str, given: &ArgMatches<'_>) -> Result<Task, Misuse> {
     Ok(match name {
         "usertest" => Task::Usertest(UsertestWords::of(alloc, given)?),
         "lab" => Task::Lab(LabWords::of(alloc, given)?),
@@ -117,7 +117,7 @@ fn maker_of(alloc: Global, name: &str, given: &ArgMatches<'_>) -> Result<Task, F
 }
 
 /// Returns what a word says that judges others, or makes something.
-fn judge_of(alloc: Global, name: &str, given: &ArgMatches<'_>) -> Result<Task, Fault> {
+fn judge_of(alloc: Global, name: &str, given: &ArgMatches<'_>) -> Result<Task, Misuse> {
     Ok(match name {
         "mmu" => Task::Mmu(MmuWords::of(alloc, given)?),
         "inspect" => Task::Inspect(InspectWords::of(alloc, given)?),
@@ -130,7 +130,7 @@ fn judge_of(alloc: Global, name: &str, given: &ArgMatches<'_>) -> Result<Task, F
 ///
 /// # Errors
 /// `Word`: a number among its options is wrong. `Memory`: the host is out of memory.
-fn task_of(alloc: Global, name: &str, given: &ArgMatches<'_>) -> Result<Task, Fault> {
+fn task_of(alloc: Global, name: &str, given: &ArgMatches<'_>) -> Result<Task, Misuse> {
     Ok(match name {
         "run" => Task::Run(RunWords::of(alloc, given)?),
         "check" => Task::Check(CheckWords::of(alloc, given)?),
@@ -146,8 +146,8 @@ impl Task {
     /// Returns what a command line says, by its words, the program's name first.
     ///
     /// # Errors
-    /// `CommandLine`: they are wrong, or ask for help or the version. `Word`: a number among them is wrong. `Memory`: the host is out of memory.
-    pub fn parse(alloc: Global, words: &[String]) -> Result<Task, Fault> {
+    /// `Usage`: they are wrong, or ask for help or the version. `Word`: a number among them is wrong. `Memory`: the host is out of memory.
+    pub fn parse(alloc: Global, words: &[String]) -> Result<Task, Misuse> {
         let matches = command(alloc)?.try_get_matches_from(words)?;
         match matches.subcommand() {
             Some((name, given)) => task_of(alloc, name, given),

@@ -1,23 +1,14 @@
 // `GradeWords`, a struct: what a command line says of the word `grade`; `grade` has its form.
 
+use crate::lab_words::LABS;
 use crate::options::{files_of, flag};
 use clap::{Arg, ArgAction, ArgMatches, Command};
 use lab_variants::Lab;
 use std::alloc::{AllocError, Global};
 
-/// The names of the labs.
-static LABS: [&str; 6] = [
-    "page_tables",
-    "traps",
-    "lazy_growth",
-    "copy_on_write",
-    "mmap",
-    "stale_entries",
-];
-
 /// As what the grades are printed.
 #[derive(Clone, Copy)]
-pub enum Form {
+pub enum GradeForm {
     Table,
     Csv,
     /// JSON objects, one a line.
@@ -41,7 +32,7 @@ pub struct GradeWords {
     pub source: Source,
     /// The paths of what was handed in, in the command line.
     pub files: Vec<String>,
-    pub form: Form,
+    pub form: GradeForm,
 }
 
 /// Returns an option with a value.
@@ -149,15 +140,15 @@ pub fn grade<'a>(alloc: Global) -> Result<Command<'a>, AllocError> {
 }
 
 /// Returns as what the grades are printed.
-fn form_of(given: &ArgMatches<'_>) -> Form {
+fn form_of(given: &ArgMatches<'_>) -> GradeForm {
     if given.get_flag("csv") {
-        Form::Csv
+        GradeForm::Csv
     } else if given.get_flag("json") {
-        Form::Json
+        GradeForm::Json
     } else if given.get_flag("gradescope") {
-        Form::Gradescope
+        GradeForm::Gradescope
     } else {
-        Form::Table
+        GradeForm::Table
     }
 }
 

@@ -1,10 +1,41 @@
-// `UsertestWords`: a struct, what a command line of `usertest` says.
+// `UsertestWords`: a struct, what a command line of `usertest` says; `Tests`, which tests a program has.
 
 use crate::options::{flag, number_option};
-use crate::usertest::{KINDS, Tests};
 use clap::{Arg, ArgAction, ArgMatches, Command, value_parser};
 use std::alloc::{AllocError, Global};
 use usertest_rows::Kind;
+
+/// The names of the kinds of tests.
+static KINDS: [&str; 4] = ["cow", "lazy", "mmap", "mixed"];
+
+/// The tests of a C program.
+#[derive(Clone, Copy)]
+pub struct Tests {
+    pub kind: Kind,
+    /// The seed of the first.
+    pub seed: u64,
+    /// How many there are, with the seeds that follow.
+    pub count: u64,
+    /// The steps of a test, but for its beginning and its end.
+    pub steps: u32,
+    /// Whether mmap is asked with other offsets than 0.
+    pub offsets: bool,
+    /// Whether the script of the first is printed, and nothing written.
+    pub script: bool,
+}
+
+impl Tests {
+    /// Returns what the program is called, as `cow-17`, or `cow-17-19` if there are several tests.
+    pub fn title(&self, alloc: Global) -> Result<String, AllocError> {
+        let (kind, first) = (self.kind.name(), self.seed);
+        let last = first.saturating_add(self.count.saturating_sub(1));
+        if last > first {
+            format!(in alloc; "{kind}-{first}-{last}")
+        } else {
+            format!(in alloc; "{kind}-{first}")
+        }
+    }
+}
 
 /// A C program that tests a kernel is written, and the scripts of its tests.
 #[derive(Drop)]
