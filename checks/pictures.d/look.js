@@ -121,7 +121,8 @@ function go() {
     if (quiz && was && steps[now].trace.answer !== undefined && open) say('the answer is shown at once');
     if (quiz && !open && at('lines').textContent.includes('⇒ ' + steps[now].trace.answer) && steps.filter(it => it.trace.answer === steps[now].trace.answer).length === 1) say('the answer can be read');
     if (!quiz && steps[now].trace.answer === undefined && now < steps.length - 1 && steps[now + 1].trace.answer === undefined) say('stops within lines without answers');
-    if (location.hash.slice(1).split(',')[0] !== String(now + 1)) say('the fragment is ' + location.hash);
+    // Chromium ignores more than 200 changes of a fragment in some seconds.
+    if (counts.looks + counts.keys < 180 && location.hash.slice(1).split(',')[0] !== String(now + 1)) say('the fragment is ' + location.hash);
   }
   if (now !== steps.length - 1) say('PageDown does not come to the last line');
   for (let more = 0; more < steps.length && now > 0; more++) key('PageUp');
