@@ -333,7 +333,14 @@ def judge_lines(rng, item, texts):
     """Questions about outcomes of an access: one that is permitted, and one that mostly is not; with the answers."""
     first, *_ = item.player.split(maxsplit=1)[1:]
     for text in (rng.choice(texts), changed(rng, rng.choice(texts))):
-        yield f"judge {first} {fields_of(text)}", "yes" if text in texts else "no"
+        known = None if is_of_a_part(first, text) else "yes" if text in texts else "no"
+        yield f"judge {first} {fields_of(text)}", known
+
+
+def is_of_a_part(asked, text):
+    """A fault that the first or last byte of a misaligned access may have, and that is not among its outcomes."""
+    address, width, access, _ = (int(it, 16) for it in asked.split())
+    return address % width != 0 and text in (f"fault {PAGE_FAULTS[access]}", f"fault {ACCESS_FAULTS[access]}")
 
 
 def changed(rng, text):
