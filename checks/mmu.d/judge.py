@@ -259,11 +259,19 @@ class Talk:
             return self.judged(Access(name, int(rest[0], 0), int(rest[1]), rest[2]), " ".join(rest[4:]))
         return "ok"
 
+    def of_parts(self, access):
+        """The faults of the first and of the last byte of a misaligned access."""
+        if not access.va % access.width:
+            return set()
+        ends = access.va, access.va + access.width - 1 & (1 << 64) - 1
+        each = [self.judge.outcomes(access._replace(va=va, width=1)) for va in ends]
+        return {it for outcomes in each for it in outcomes if it.startswith("fault")}
+
     def judged(self, access, claim):
         found = self.judge.outcomes(access)
         if not claim:
             return "; ".join(sorted(found))
-        if not any(matches(claim, it) for it in found):
+        if not any(matches(claim, it) for it in found | self.of_parts(access)):
             return f"NOT permitted: not found. Permitted: {'; '.join(sorted(found))}"
         if " set " in claim:
             self.judge.store(*(int(it, 0) for it in claim.split()[-2:]))

@@ -240,17 +240,28 @@ class Writer:
         self.reached["reached" if claimed in permitted else "outside"] += 1
         self.reached["outcomes"] += len(permitted)
         self.reached["ways"] += len(permitted) > 1
-        others = sorted(self.false_claims(access, permitted) - permitted)
+        partly = self.of_parts(access)
+        others = sorted(self.false_claims(access, permitted) - permitted - partly)
         for false in rng.sample(others, min(len(others), 2)):
             self.say(f"{line} => {false}", Wanted("refused", None, permitted, seen))
         quiet = sorted(it for it in permitted if " set " not in it and it != claimed)
         for it in rng.sample(quiet, min(len(quiet), 2)):
             self.say(f"{line} => {it}", Wanted("permitted", None, permitted, seen))
         self.say(f"{line} => {claimed}", Wanted("permitted", None, permitted, seen))
+        for it in sorted(it for it in partly if " set " not in it):
+            self.say(f"{line} => {it}", Wanted("permitted", None, partly, None))
         if " set " in claimed:
             place, word = (int(it, 16) for it in claimed.split(" set ")[1].split())
             for hart in self.each():
                 hart.store(place, word)
+
+    def of_parts(self, access):
+        """The faults of the first or last byte of a misaligned access, which may come before its exception: they are not listed."""
+        if not access.va % access.width:
+            return frozenset()
+        ends = access.va, access.va + access.width - 1 & (1 << 64) - 1
+        each = [self.all.outcomes(access._replace(va=va, width=1)) for va in ends]
+        return frozenset(it for outcomes in each for it in outcomes if it.startswith("fault"))
 
     def false_claims(self, access, permitted):
         """Outcomes of a hart that heeds no fence, and of accesses and modes near by; some invented."""
