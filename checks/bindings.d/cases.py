@@ -280,8 +280,13 @@ class History:
         if self.rng.random() < 0.1:
             address = BASE + 8 * self.rng.randrange(WORDS)
         mode = self.rng.choice([0, 0, 1, 1, 3] if self.moded else [0, 1])
+        if address % width:
+            # a fault of its first or last byte is permitted too: of a fetch that of the two bytes around it
+            for byte in (address, address + width - 1 & (1 << 64) - 1):
+                part = f"{byte & ~1:#x} 2" if access == 0 else f"{byte:#x} 1"
+                yield Item(None, f"{ACCESSES[access]} {part} {MODES[mode]}", "part")
         program = f"{ACCESSES[access]} {address:#x} {width} {MODES[mode]}"
-        return Item(f"outcomes {address:x} {width} {access} {mode}", program, "outcomes")
+        yield Item(f"outcomes {address:x} {width} {access} {mode}", program, "outcomes")
 
 
 def history_case(rng, events):
@@ -290,7 +295,7 @@ def history_case(rng, events):
     for at in range(events):
         yield history.happen()
         if at % 4 == 3:
-            yield history.ask()
+            yield from history.ask()
     yield Item("events", None, "alike")
 
 
@@ -329,18 +334,12 @@ def expected(item, answer):
     return item.known if item.kind in ("known", "by", "gap") else None if item.kind == "alike" else "ok"
 
 
-def judge_lines(rng, item, texts):
-    """Questions about outcomes of an access: one that is permitted, and one that mostly is not; with the answers."""
+def judge_lines(rng, item, texts, parts):
+    """Questions about outcomes of an access: one that is permitted, one that mostly is not, and each of `parts`, the faults of a part of a
+    misaligned access; with the answers."""
     first, *_ = item.player.split(maxsplit=1)[1:]
-    for text in (rng.choice(texts), changed(rng, rng.choice(texts))):
-        known = None if is_of_a_part(first, text) else "yes" if text in texts else "no"
-        yield f"judge {first} {fields_of(text)}", known
-
-
-def is_of_a_part(asked, text):
-    """A fault that the first or last byte of a misaligned access may have, and that is not among its outcomes."""
-    address, width, access, _ = (int(it, 16) for it in asked.split())
-    return address % width != 0 and text in (f"fault {PAGE_FAULTS[access]}", f"fault {ACCESS_FAULTS[access]}")
+    for text in (rng.choice(texts), changed(rng, rng.choice(texts)), *sorted(parts)):
+        yield f"judge {first} {fields_of(text)}", "yes" if text in texts or text in parts else "no"
 
 
 def changed(rng, text):

@@ -10,8 +10,8 @@ import re
 import sys
 
 from rules import ACCESS_FAULT, MISALIGNED, PAGE_FAULT, TYPES, Access, Profile, Status, aged, allows, asid_of, effective, index_of
-from rules import is_address_locked, is_canonical, is_global, is_locked, is_napot, kind_of, leads_to, pmp_permits, ppn_of, reach_of, root_of
-from rules import top_of, with_entry
+from rules import is_address_locked, is_canonical, is_global, is_locked, is_napot, kind_of, leads_to, of_parts, pmp_permits, ppn_of, reach_of
+from rules import root_of, top_of, with_entry
 
 MODES = {"sv39": 8, "sv48": 9, "sv57": 10}
 # A word that satp had, the last fence of its ASID then, and its last moment since that fence
@@ -259,19 +259,11 @@ class Talk:
             return self.judged(Access(name, int(rest[0], 0), int(rest[1]), rest[2]), " ".join(rest[4:]))
         return "ok"
 
-    def of_parts(self, access):
-        """The faults of the first and of the last byte of a misaligned access."""
-        if not access.va % access.width:
-            return set()
-        ends = access.va, access.va + access.width - 1 & (1 << 64) - 1
-        each = [self.judge.outcomes(access._replace(va=va, width=1)) for va in ends]
-        return {it for outcomes in each for it in outcomes if it.startswith("fault")}
-
     def judged(self, access, claim):
         found = self.judge.outcomes(access)
         if not claim:
             return "; ".join(sorted(found))
-        if not any(matches(claim, it) for it in found | self.of_parts(access)):
+        if not any(matches(claim, it) for it in found | of_parts(self.judge.outcomes, access)):
             return f"NOT permitted: not found. Permitted: {'; '.join(sorted(found))}"
         if " set " in claim:
             self.judge.store(*(int(it, 0) for it in claim.split()[-2:]))

@@ -130,6 +130,15 @@ def pmp_permits(entries, privilege, kind, pa, width):
     return privilege == "M" or not entries
 
 
+def of_parts(outcomes, access):
+    """3.1.15: the faults of the first or last byte of a misaligned access, which may come before its exception; they are not listed. `outcomes` are
+    those of an access."""
+    if not access.va % access.width:
+        return frozenset()
+    ends = access.va, access.va + access.width - 1 & (1 << 64) - 1
+    return frozenset(it for va in ends for it in outcomes(access._replace(va=va, width=1)) if it.startswith("fault"))
+
+
 def is_locked(entries, number):
     """3.7.1: an entry with L is not written."""
     return bool(entries[number][0] & 0x80)

@@ -3,7 +3,7 @@ import collections
 
 from harts import HartOfAll, RandomHart, uses_of
 from rules import ACCESS_FAULT, MISALIGNED, PAGE_FAULT, TOPS, Access, Profile, Status, asid_of, effective, index_of, is_address_locked
-from rules import is_canonical, is_locked, root_of, top_of, words_of
+from rules import is_canonical, is_locked, of_parts, root_of, top_of, words_of
 
 BASE = 0x80000  # a frame
 MODES = {"sv39": 8, "sv48": 9, "sv57": 10}
@@ -240,7 +240,7 @@ class Writer:
         self.reached["reached" if claimed in permitted else "outside"] += 1
         self.reached["outcomes"] += len(permitted)
         self.reached["ways"] += len(permitted) > 1
-        partly = self.of_parts(access)
+        partly = of_parts(self.all.outcomes, access)
         others = sorted(self.false_claims(access, permitted) - permitted - partly)
         for false in rng.sample(others, min(len(others), 2)):
             self.say(f"{line} => {false}", Wanted("refused", None, permitted, seen))
@@ -254,14 +254,6 @@ class Writer:
             place, word = (int(it, 16) for it in claimed.split(" set ")[1].split())
             for hart in self.each():
                 hart.store(place, word)
-
-    def of_parts(self, access):
-        """The faults of the first or last byte of a misaligned access, which may come before its exception: they are not listed."""
-        if not access.va % access.width:
-            return frozenset()
-        ends = access.va, access.va + access.width - 1 & (1 << 64) - 1
-        each = [self.all.outcomes(access._replace(va=va, width=1)) for va in ends]
-        return frozenset(it for outcomes in each for it in outcomes if it.startswith("fault"))
 
     def false_claims(self, access, permitted):
         """Outcomes of a hart that heeds no fence, and of accesses and modes near by; some invented."""
