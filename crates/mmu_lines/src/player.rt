@@ -22,7 +22,9 @@ use crate::writes::{cut_asid, lock_of, satp_written};
 use access_history::{Outcome, Update};
 use access_judge::{Findings, Log, Told, Way, faulting_part, outcomes};
 use line_fields::Mistake;
-use mmu_reasons::{Answer, By, Lock, OutcomeLine, Recorded, Telling, Witness, seek, seek_refusal};
+use mmu_reasons::{
+    Answer, By, Lock, OutcomeLine, Recorded, Telling, Witness, put_walk_steps, seek, seek_refusal,
+};
 use mmu_requests::{Claim, End, Profile, Refusal, Request, read_line};
 use std::alloc::{AllocError, Global};
 use sv39_entry::{Entry, Satp, Va};
@@ -146,6 +148,19 @@ impl MmuPlayer {
         Ok(Answer::mistake(Mistake::of_line(text)))
     }
 
+    /// Appends the walk for an address over memory, satp and PMP as they are: for each PTE that it reads a line, after eight blanks, with the PTE's
+    /// place, its word and to what it leads. Nothing under Bare, or of an address that is not canonical.
+    ///
+    /// # Errors
+    /// `AllocError`: the host is out of memory.
+    pub fn put_walk_steps(&self, out: &mut String, va: u64) -> Result<(), AllocError> {
+        let va = Va(va);
+        if !self.is_address(va) {
+            return Ok(());
+        }
+        put_walk_steps(out, &self.recorded, self.profile.extensions, va, "        ")
+    }
+
     /// Whether an address is valid under satp: canonical, or any under Bare.
     fn is_address(&self, va: Va) -> bool
         ensures { result ≡ is_address_under (top_of (satp_of (state_of self.now).past)) va.0 }
@@ -212,22 +227,26 @@ impl MmuPlayer {
         text
     }
 
-    /// Appends why no PTE gives a physical address to an access.
-    fn put_not_granted(
+    /// Appends that a leaf gives a physical address to an access, and why the access is refused all the same; returns whether one does.
+    fn put_refused(
         &self,
         out: &mut String,
         request: access_history::Request,
         pa: u64,
-    ) -> Result<(), AllocError>
+    ) -> Result<bool, AllocError>
         requires { 1 ≤ request.width }
     {
         let extensions = self.profile.extensions;
-        if let Some(told) = seek_refusal(&self.recorded.unit, extensions, request, pa) {
-            if let Some(text) = self.telling(request, &[]).refused_text(&told)? {
-                return out.push_str(text.as_str());
+        let Some(told) = seek_refusal(&self.recorded.unit, extensions, request, pa) else {
+            return Ok(false);
+        };
+        match self.telling(request, &[]).refused_text(&told)? {
+            Some(text) => {
+                out.push_str(text.as_str())?;
+                Ok(true)
             }
+            None => Ok(false),
         }
-        out.push_str("no PTE that the hart may hold leads there")
     }
 
     /// Appends what is known of a claim that no history permits.
@@ -242,10 +261,12 @@ impl MmuPlayer {
         if let Some(text) = self.near_miss(claim) {
             return out.push_str(text);
         }
-        match claim.end {
-            End::Granted { pa, .. } => self.put_not_granted(out, request, pa),
-            End::Refused(_) => out.push_str("nothing that the hart may hold faults so"),
+        if let End::Granted { pa, .. } = claim.end {
+            if self.put_refused(out, request, pa)? {
+                return Ok(());
+            }
         }
+        self.telling(request, &[]).put_walk(out, claim)
     }
 
     /// Appends why an outcome is not permitted.
@@ -257,16 +278,31 @@ impl MmuPlayer {
     ) -> Result<(), AllocError>
         requires { 1 ≤ request.width }
     {
-        match self.telling(request, &[]).by_address() {
+        let telling = self.telling(request, &[]);
+        match telling.by_address() {
             Some(By::Misaligned) => return out.push_str("the address is misaligned"),
             Some(By::NotCanonical) => return out.push_str("the address is not canonical"),
             _ => {}
         }
+        let (is_overlooked, mut older) = (
+            telling.put_overlooked(out, claim)?,
+            String::new(self.alloc),
+        );
         let extensions = self.profile.extensions;
-        if self.witness.put_reason(out, extensions, request, claim)? {
-            return Ok(());
+        if !self
+            .witness
+            .put_reason(&mut older, extensions, request, claim)?
+        {
+            return if is_overlooked {
+                Ok(())
+            } else {
+                self.put_mismatch(out, request, claim)
+            };
         }
-        self.put_mismatch(out, request, claim)
+        if is_overlooked {
+            out.push_str("; or ")?;
+        }
+        out.push_str(older.as_str())
     }
 
     /// The outcomes of an access, as they are shown.

@@ -6,6 +6,7 @@ ghost use Rattle.mmu_lines.specs.Playing.{IsDenied};
 use crate::line::Line;
 use crate::player::MmuPlayer;
 use crate::playing::{denies, is_fine, play};
+use line_fields::field_at;
 use mmu_reasons::Answer;
 use std::alloc::{AllocError, Global};
 
@@ -68,6 +69,38 @@ fn fine_lines(alloc: Global, lines: &[Line]) -> Result<Option<Vec<bool>>, AllocE
         }
     }
     Ok(None)
+}
+
+/// Whether the first word of a line is this one.
+fn begins_with(line: &Line, word: &[u8]) -> bool {
+    match field_at(line.text.as_slice(), 0) {
+        Some(place) => place.bytes == word,
+        None => false,
+    }
+}
+
+/// The last line that has this first word, of those that are kept.
+fn last_with(lines: &[Line], keeps: &[bool], word: &[u8]) -> Option<usize> {
+    let mut last = None;
+    'lines: for (n, line) in lines.iter().enumerate() {
+        if keeps.get(n) == Some(&true) && begins_with(line, word) {
+            last = Some(n);
+        }
+    }
+    last
+}
+
+/// Which lines are kept, without those that a later `reset` or `profile` makes void: of those before it the last `profile` stays.
+fn since_reset(alloc: Global, lines: &[Line], keeps: &[bool]) -> Result<Vec<bool>, AllocError> {
+    let profile = last_with(lines, keeps, b"profile");
+    let first = last_with(lines, keeps, b"reset")
+        .unwrap_or(0)
+        .max(profile.unwrap_or(0));
+    let mut kept = Vec::new(alloc);
+    'keeps: for (n, keep) in keeps.iter().enumerate() {
+        kept.push(*keep && (n >= first || Some(n) == profile))?;
+    }
+    Ok(kept)
 }
 
 /// The numbers of the lines that are kept.
@@ -186,6 +219,22 @@ impl Search {
     }
 }
 
+/// Returns what is left without the lines that a later `reset` or `profile` makes void, if the answer is the same.
+fn begun(alloc: Global, lines: &[Line], found: Shrunk) -> Result<Shrunk, AllocError>
+    requires { IsDenied lines.now found.keeps.items found.answer }
+    ensures { IfOk result (λ s. IsDenied lines.now s.keeps.items s.answer) }
+{
+    let keeps = since_reset(alloc, lines, found.keeps.as_slice())?;
+    match play(alloc, lines, keeps.as_slice())? {
+        Some(answer) if is_same(&found.answer, &answer) => Ok(Shrunk {
+            keeps,
+            answer,
+            is_cut: false,
+        }),
+        _ => Ok(found),
+    }
+}
+
 /// Returns the fewest lines by which the first line that is not permitted stays so, for the same reason: no single line more can be removed, unless
 /// the search was cut. `None` if no line is not permitted.
 ///
@@ -200,15 +249,20 @@ pub fn shrink(alloc: Global, lines: &[Line]) -> Result<Option<Shrunk>, AllocErro
     let Some(answer) = play(alloc, lines, keeps.as_slice())? else {
         return Ok(None);
     };
-    let places = places_of(alloc, keeps.as_slice())?;
-    let mut search = Search {
-        size: places.len() - places.len() / 2,
-        is_done: places.is_empty(),
-        found: Shrunk {
+    let found = begun(
+        alloc,
+        lines,
+        Shrunk {
             keeps,
             answer,
             is_cut: false,
         },
+    )?;
+    let places = places_of(alloc, found.keeps.as_slice())?;
+    let mut search = Search {
+        size: places.len() - places.len() / 2,
+        is_done: places.is_empty(),
+        found,
         places,
         at: 0,
         has_removed: false,

@@ -10,7 +10,8 @@ use sv39_entry::Access;
 use walk_lines::Hex;
 use walk_rules::{has_ad, leads_to};
 
-fn access_text(access: Access) -> &'static str {
+/// The name of an access.
+pub(crate) fn access_text(access: Access) -> &'static str {
     match access {
         Access::Fetch => "fetch",
         Access::Load => "load",
@@ -27,7 +28,7 @@ impl Telling<'_> {
     }
 
     /// Why the access is refused at a physical address.
-    fn fault_at(&self, pa: u64) -> Result<String, AllocError> {
+    pub(crate) fn fault_at(&self, pa: u64) -> Result<String, AllocError> {
         let (hex, access) = (Hex(pa), access_text(self.request.kind));
         if self.has_byte(pa) {
             format!(in self.alloc; "PMP refuses the {access} at {hex}")
@@ -53,7 +54,7 @@ impl Telling<'_> {
     }
 
     /// Why a table's PTE is not read.
-    fn fault_below(&self, level: u32, table: u64) -> Result<String, AllocError> {
+    pub(crate) fn fault_below(&self, level: u32, table: u64) -> Result<String, AllocError> {
         let index = self.index(level);
         let hex = Hex(place_at(table, index));
         if self.recorded.unit.word(table, index).is_some() {
@@ -73,7 +74,7 @@ impl Telling<'_> {
     }
 
     /// The step of the walk (the standard, 4.3.2) at which a PTE is a page fault, and what is wrong there.
-    fn wrong_in(&self, step: &Step) -> Option<(u32, &'static str)> {
+    pub(crate) fn wrong_in(&self, step: &Step) -> Option<(u32, &'static str)> {
         let request = &self.request;
         let why = why_fault(
             self.extensions,

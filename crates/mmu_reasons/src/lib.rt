@@ -5,6 +5,7 @@
 
 mod answers;
 mod causes;
+mod mismatch;
 mod objects;
 mod outcomes;
 mod present;
@@ -22,4 +23,5 @@ pub use outcomes::{By, OutcomeLine};
 pub use recorded::Recorded;
 pub use seeking::{seek, seek_refusal};
 pub use telling::Telling;
+pub use walking::put_walk_steps;
 pub use witness::Witness;

@@ -104,6 +104,15 @@ impl Telling<'_> {
         outcome == self.access_fault(update) || outcome == self.access_fault(None)
     }
 
+    /// What a hart stores that sets A and D in a leaf.
+    pub(crate) fn update_of(&self, step: &Step) -> Update {
+        Update {
+            table: step.ppn,
+            index: self.index(step.level),
+            word: with_ad(self.request.kind, step.entry).to_word(),
+        }
+    }
+
     /// Whether an outcome is by a hart that sets A and D in a leaf.
     fn sets_so(&self, step: &Step, pa: u64, memory_type: MemoryType, outcome: Outcome) -> bool {
         if !self.extensions.ad.may_update() || self.recorded.is_old(self.request.va, step) {
@@ -112,12 +121,7 @@ impl Telling<'_> {
         if !self.may_set(step) {
             return outcome == self.access_fault(None);
         }
-        let update = Update {
-            table: step.ppn,
-            index: self.index(step.level),
-            word: with_ad(self.request.kind, step.entry).to_word(),
-        };
-        self.ends_so(pa, memory_type, Some(update), outcome)
+        self.ends_so(pa, memory_type, Some(self.update_of(step)), outcome)
     }
 
     /// Whether an outcome is by a leaf that allows the access.

@@ -10,7 +10,7 @@ use access_judge::{Log, Step, Told};
 use mmu::Mmu;
 use std::alloc::{AllocError, Global};
 use sv39_entry::{Satp, Va};
-use walk_rules::{Extensions, PmpEntry};
+use walk_rules::{Extensions, PmpEntry, top_level};
 
 /// A write of satp.
 #[derive(Clone, Copy)]
@@ -31,6 +31,8 @@ pub struct Recorded {
     first_asid: u16,
     /// The line of the last write of a PMP entry.
     pmp_line: u64,
+    /// The number of the event since which addresses are translated, or were. 0: from the first.
+    translated: Option<usize>,
 }
 
 impl Recorded {
@@ -43,6 +45,7 @@ impl Recorded {
             writings: Vec::new(alloc),
             first_asid: 0,
             pmp_line: 0,
+            translated: None,
         }
     }
 
@@ -55,6 +58,7 @@ impl Recorded {
         self.writings.clear();
         self.first_asid = 0;
         self.pmp_line = 0;
+        self.translated = None;
     }
 
     pub fn add(&mut self, address: u64, end: u64) -> Result<(), AllocError>
@@ -77,6 +81,9 @@ impl Recorded {
         self.unit.write_satp(satp)?;
         self.lines.push(line)?;
         let event = self.lines.len();
+        if self.translated.is_none() && top_level(satp).is_some() {
+            self.translated = Some(event);
+        }
         Ok(self.writings.push(Writing { event, asid })?)
     }
 
@@ -106,6 +113,9 @@ impl Recorded {
     {
         if let Some(writing) = self.writings.last() {
             self.first_asid = writing.asid;
+        }
+        if self.translated.is_some() {
+            self.translated = Some(0);
         }
         self.lines.clear();
         self.writings.clear();
@@ -144,6 +154,16 @@ impl Recorded {
     /// Whether the place of a PTE has another word now than it had on the way of a walk.
     pub(crate) fn is_old(&self, va: Va, step: &Step) -> bool {
         self.unit.word(step.ppn, va.page().index(step.level)) != Some(step.entry.to_word())
+    }
+
+    /// Whether a PTE of a walk was there when addresses were translated.
+    pub(crate) fn was_walked(&self, step: &Step) -> bool {
+        let gone = self.unit.next_change(step.ppn, step.index, step.last);
+        match (self.translated, gone) {
+            (Some(first), Some(gone)) => gone > first,
+            (Some(_), None) => true,
+            (None, _) => false,
+        }
     }
 
     /// Appends which PTE a walk went by that is not in memory now.

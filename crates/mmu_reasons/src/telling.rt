@@ -57,6 +57,11 @@ impl Telling<'_> {
         self.privilege().translation_mode()
     }
 
+    /// The walk over memory, satp and PMP as they are; `None`: the address is not translated.
+    pub(crate) fn walk(&self) -> Option<&Way> {
+        self.walk.as_ref()
+    }
+
     /// What the access is judged by before any walk, if something is.
     pub fn by_address(&self) -> Option<By> {
         if self.request.va.0 % self.request.width.max(1) != 0 {

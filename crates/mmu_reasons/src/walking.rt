@@ -1,13 +1,16 @@
-// The walk over memory, satp and PMP as they are (`walk_now`), which may be the way to an outcome that was found (`walk_among`).
+// The walk over memory, satp and PMP as they are (`walk_now`; `put_walk_steps`: in words), which may be the way to an outcome that was found
+// (`walk_among`).
 
 ghost use Rattle.std.specs.Prelude.{◌≤◌};
 
 use crate::recorded::Recorded;
-use crate::ways::{LEVELS, end_of, place_at, step_at};
+use crate::ways::{LEVELS, end_of, kind_text, place_at, step_at};
 use access_judge::{Log, PastSatp, Step, Told, Way};
 use bitflags::Flags;
+use std::alloc::AllocError;
 use sv39_entry::{Entry, EntryFlags, Kind, Va};
-use walk_rules::{Extensions, pmp_permits_read, top_level};
+use walk_lines::Hex;
+use walk_rules::{Extensions, leads_to, pmp_permits_read, reach, top_level};
 
 /// Reads the PTE for an address in a table, to which a global pointer led or not; `None`: it is outside the memory, or PMP refuses.
 fn read(recorded: &Recorded, va: Va, table: u64, level: u32, global: bool) -> Option<Step> {
@@ -61,6 +64,61 @@ fn walk_now(recorded: &Recorded, extensions: Extensions, va: Va) -> Option<Way> 
         root: Some(root),
         steps: steps_now(recorded, extensions, va, top),
     })
+}
+
+/// Appends a PTE of a walk with where it is read, and to what it leads.
+fn put_read(
+    out: &mut String,
+    extensions: Extensions,
+    va: Va,
+    step: &Step,
+) -> Result<(), AllocError> {
+    let level = step.level.min(4);
+    let (table, index) = (Hex(place_at(step.ppn, 0)), step.index);
+    let (kind, word) = (kind_text(extensions, step), Hex(step.entry.to_word()));
+    write!(
+        out,
+        "level {level}: at {table} + 8 x {index}, {kind} {word}"
+    )?;
+    let (number, to) = (Hex(step.entry.ppn()), Hex(place_at(step.entry.ppn(), 0)));
+    match extensions.kind(step.entry, level) {
+        Kind::Pointer => write!(out, ": PPN {number}, so the table at {to}"),
+        Kind::Leaf => {
+            let (pa, last) = (
+                Hex(leads_to(step.entry, level, va)),
+                reach(step.entry, level).saturating_sub(1),
+            );
+            write!(
+                out,
+                ": PPN {number}, and with bits {last} to 0 of the address {pa}"
+            )
+        }
+        Kind::Invalid => Ok(()),
+    }
+}
+
+/// Appends the walk for an address over memory, satp and PMP as they are, a line for each PTE that it reads, with `lead` before it.
+///
+/// # Errors
+/// `AllocError`: the host is out of memory.
+pub fn put_walk_steps(
+    out: &mut String,
+    recorded: &Recorded,
+    extensions: Extensions,
+    va: Va,
+    lead: &str,
+) -> Result<(), AllocError> {
+    let Some(way) = walk_now(recorded, extensions, va) else {
+        return Ok(());
+    };
+    'levels: for n in 0..LEVELS {
+        if let Some(step) = step_at(&way, LEVELS - 1 - n) {
+            out.push_str(lead)?;
+            put_read(out, extensions, va, &step)?;
+            out.push_str("\n")?;
+        }
+    }
+    Ok(())
 }
 
 /// Whether a PTE is the one that the walk for an address reads in its table.

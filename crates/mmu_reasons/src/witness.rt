@@ -241,7 +241,7 @@ impl Witness {
         }
     }
 
-    /// Appends which fence excludes which PTE of a way, if one does.
+    /// Appends which fence excludes which PTE of a way that was there when addresses were translated, and is there no more, if one does.
     fn put_excluded(
         &self,
         out: &mut String,
@@ -251,7 +251,7 @@ impl Witness {
     ) -> Result<bool, AllocError> {
         'levels: for n in 0..LEVELS {
             if let Some(step) = step_at(&told.way, LEVELS - 1 - n) {
-                if self.unfenced.is_old(va, &step) {
+                if self.unfenced.is_old(va, &step) && self.unfenced.was_walked(&step) {
                     if let Some(fence) = self.fence_of(extensions, va, &step) {
                         put_fence_line(out, &fence)?;
                         out.push_str(" excludes ")?;
