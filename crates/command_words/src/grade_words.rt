@@ -22,8 +22,10 @@ pub enum GradeForm {
 pub enum Source {
     /// A handout, by its path; of a list of files, if one is named, the path too.
     Handout(String, Option<String>),
-    /// The variants of a lab, and the path of a list of ids and files.
+    /// The variants of a lab, and the path of a list of ids: each file by the student whom it names; if there is none, the list has their paths.
     Variants(Lab, String),
+    /// The variants of a lab, each file by the student whom it names; of a list of files, if one is named, the path too.
+    Named(Lab, Option<String>),
 }
 
 /// What a command line says of `grade`.
@@ -93,16 +95,14 @@ fn with_variants<'a>(alloc: Global, word: Command<'a>) -> Result<Command<'a>, Al
         alloc,
         "lab",
         "LAB",
-        "The lab whose variants are graded, in place of HANDOUT",
+        "The lab whose variants are graded, in place of HANDOUT: each FILE by the student whom it names, or those of --seeds",
     )
-    .value_parser(LABS.as_slice())
-    .conflicts_with("HANDOUT")?
-    .requires_arg("seeds")?;
+    .value_parser(LABS.as_slice());
     let seeds = option(
         alloc,
         "seeds",
         "LIST.csv",
-        "A list with the columns id and file: each student's id, and the path of what was handed in, or nothing",
+        "A list of students, with the column id; without a FILE with the column file too, the path of what each handed in, or nothing",
     )
     .requires_arg("lab")?
     .conflicts_with("list")?;
@@ -152,28 +152,55 @@ fn form_of(given: &ArgMatches<'_>) -> GradeForm {
     }
 }
 
+/// Returns the value of an option, if it has one.
+fn value_of(alloc: Global, given: &ArgMatches<'_>, id: &str) -> Result<Option<String>, AllocError> {
+    match given.get_str(id) {
+        Some(value) => Ok(Some(String::from_str(alloc, value)?)),
+        None => Ok(None),
+    }
+}
+
 /// Returns what is graded.
 fn source_of(alloc: Global, given: &ArgMatches<'_>) -> Result<Source, AllocError> {
-    if let Some(name) = given.get_str("lab") {
-        // clap took one of the names of the labs
-        let lab = Lab::of_name(name).unwrap_or(Lab::CopyOnWrite);
-        let list = String::from_str(alloc, given.get_str("seeds").unwrap_or("-"))?;
-        return Ok(Source::Variants(lab, list));
-    }
-    let handout = String::from_str(alloc, given.get_str("HANDOUT").unwrap_or("-"))?;
-    let list = match given.get_str("list") {
-        Some(list) => Some(String::from_str(alloc, list)?),
-        None => None,
+    let list = value_of(alloc, given, "list")?;
+    let Some(name) = given.get_str("lab") else {
+        let handout = String::from_str(alloc, given.get_str("HANDOUT").unwrap_or("-"))?;
+        return Ok(Source::Handout(handout, list));
     };
-    Ok(Source::Handout(handout, list))
+    // clap took one of the names of the labs
+    let lab = Lab::of_name(name).unwrap_or(Lab::CopyOnWrite);
+    match value_of(alloc, given, "seeds")? {
+        Some(seeds) => Ok(Source::Variants(lab, seeds)),
+        None => Ok(Source::Named(lab, list)),
+    }
+}
+
+/// Returns the paths of what was handed in; where no handout is taken, the first stands in its place.
+fn handed_in(
+    alloc: Global,
+    given: &ArgMatches<'_>,
+    source: &Source,
+) -> Result<Vec<String>, AllocError> {
+    let mut files = Vec::new(alloc);
+    let takes_none = matches!(source, Source::Named(..) | Source::Variants(..));
+    if let Some(first) = given.get_str("HANDOUT") {
+        if takes_none {
+            files.push(String::from_str(alloc, first)?)?;
+        }
+    }
+    'files: for file in files_of(alloc, given)? {
+        files.push(file)?;
+    }
+    Ok(files)
 }
 
 impl GradeWords {
     /// Returns what the word is told.
     pub fn of(alloc: Global, given: &ArgMatches<'_>) -> Result<GradeWords, AllocError> {
+        let source = source_of(alloc, given)?;
         Ok(GradeWords {
-            source: source_of(alloc, given)?,
-            files: files_of(alloc, given)?,
+            files: handed_in(alloc, given, &source)?,
+            source,
             form: form_of(given),
         })
     }

@@ -25,6 +25,10 @@ pub enum Standing {
     TooLong,
     /// It has a byte 0.
     Binary,
+    /// It is UTF-16.
+    Wide,
+    /// It is to be graded by the student that it names, and names none.
+    Unnamed,
 }
 
 impl Standing {
@@ -38,6 +42,8 @@ impl Standing {
             Standing::Unreadable => "unreadable",
             Standing::TooLong => "too long",
             Standing::Binary => "binary",
+            Standing::Wide => "UTF-16",
+            Standing::Unnamed => "names no student",
         }
     }
 }
@@ -64,6 +70,10 @@ pub struct FileGrade {
     pub other_id: Option<String>,
     /// The number of the lab that the file names, if it is another.
     pub other_lab: Option<u32>,
+    /// Whether it is made from the script of the lab's page, and the handout is another.
+    pub is_of_page: bool,
+    /// Why it cannot be read, or what is to be said of it else; empty if nothing is.
+    pub why: String,
     pub standing: Standing,
     /// How many lines of the handout the file has.
     pub kept: usize,
@@ -144,6 +154,8 @@ impl FileGrade {
             id: None,
             other_id: None,
             other_lab: None,
+            is_of_page: false,
+            why: String::new(alloc),
             standing,
             kept: grade.kept,
             changed: grade.changed,

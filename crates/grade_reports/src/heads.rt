@@ -1,4 +1,5 @@
-// `Head`, a struct: the comment by which a variant of a handout names its student; `other_lab`: whether a file names another lab.
+// `Head`, a struct: the comment by which a variant of a handout names its student; `other_lab`: whether a file names another lab; `is_of_page`:
+// whether it is the script of a lab's page.
 
 use memchr::memmem;
 
@@ -83,4 +84,17 @@ fn lab_of(text: &[u8]) -> Option<u32> {
 pub fn other_lab(handout: &[u8], file: &[u8]) -> Option<u32> {
     let (own, other) = (lab_of(handout)?, lab_of(file)?);
     if own == other { None } else { Some(other) }
+}
+
+/// What the script of a lab's page has in a comment at its head.
+const OF_PAGE: &[u8] = b"# Its numbers are those of the page.";
+
+/// Returns whether a file is made from the script of a lab's page, by its head.
+pub fn is_of_page(file: &[u8]) -> bool {
+    'lines: for line in file.split(|byte| is_end(*byte)) {
+        if line.trim_ascii().starts_with(OF_PAGE) {
+            return true;
+        }
+    }
+    false
 }

@@ -17,10 +17,10 @@ mod visible;
 
 pub use csv_rows::{csv_head, csv_row, student_row};
 pub use file_grade::{BlankText, FileGrade, Standing};
-pub use heads::{Head, other_lab};
+pub use heads::{Head, is_of_page, other_lab};
 pub use line_notes::LineNotes;
 pub use objects::{FileObject, MarkObject, ResultsObject, TestObject};
-pub use reasons::{Excess, Reason, put_reason, reason_of, word_of};
+pub use reasons::{Excess, Reason, put_reason, reason_of, reason_of_text, word_of};
 pub use students::{ListFault, Student, first_row, ids_of, is_wide, put_repeat, students_of};
 pub use table::{notes_of, put_summary, put_table};
 pub use visible::{Visible, put_quoted};

@@ -31,8 +31,14 @@ pub struct FileObject {
     /// The number of the lab that the file names, if it is another.
     #[serde(skip_serializing_if = "Option::is_none")]
     pub made_for_lab: Option<u32>,
-    /// `"graded"`, `"truncated"`, `"empty"`, `"missing"`, `"unreadable"`, `"too long"` or `"binary"`.
+    /// `true` if it is made from the script of the lab's page, and the handout is another; else left out.
+    #[serde(skip_serializing_if = "Option::is_none")]
+    pub made_for_page: Option<bool>,
+    /// `"graded"`, `"truncated"`, `"empty"`, `"missing"`, `"unreadable"`, `"too long"`, `"binary"`, `"UTF-16"` or `"names no student"`.
     pub status: &'static str,
+    /// Why it cannot be read, or what is to be said of it else, a text; left out if nothing is.
+    #[serde(skip_serializing_if = "Option::is_none")]
+    pub why: Option<String>,
     /// How many lines the handout has.
     pub lines: usize,
     pub kept: usize,
@@ -92,6 +98,14 @@ fn again(alloc: Global, text: &Option<String>) -> Result<Option<String>, AllocEr
     }
 }
 
+/// Returns a text again, if it is not empty.
+fn some_text(alloc: Global, text: &str) -> Result<Option<String>, AllocError> {
+    if text.is_empty() {
+        return Ok(None);
+    }
+    Ok(Some(String::from_str(alloc, text)?))
+}
+
 /// Returns numbers again, if there are some.
 fn some_numbers(alloc: Global, numbers: &[usize]) -> Result<Option<Vec<usize>>, AllocError> {
     if numbers.is_empty() {
@@ -119,7 +133,9 @@ impl FileObject {
             id: again(alloc, &grade.id)?,
             made_for: again(alloc, &grade.other_id)?,
             made_for_lab: grade.other_lab,
+            made_for_page: if grade.is_of_page { Some(true) } else { None },
             status: grade.standing.name(),
+            why: some_text(alloc, grade.why.as_str())?,
             lines: grade.lines(),
             kept: grade.kept,
             changed: grade.changed,

@@ -2,7 +2,7 @@
 // words.
 
 use crate::forms::{Part, form_of, put_forms};
-use crate::visible::put_quoted;
+use crate::visible::{is_unseen, put_quoted};
 use handouts::{Answer, Asked, BlankMark, Found, Line, Mark};
 use script_reader::first_field;
 use std::alloc::{AllocError, Global};
@@ -18,6 +18,12 @@ pub enum Excess {
     Stop,
     /// Zeros before a number.
     Zeros,
+    /// Characters that cannot be seen, as a no-break space.
+    Unseen,
+    /// Capital letters.
+    Capitals,
+    /// Something in parentheses after it.
+    Remark,
 }
 
 /// Why a blank does not have the machine's answer.
@@ -128,14 +134,41 @@ fn without_quotes(text: &str) -> &str {
     bare
 }
 
-/// Returns what an answer that has no form has too much, if without that it has one; `word` is its line's.
-fn excess_of(word: &str, answer: &str) -> Option<Excess> {
-    if has_form(word, answer.trim_matches('?').trim(), false) {
+/// Returns a text without blanks and `?` around it.
+fn without_question(text: &str) -> &str {
+    text.trim_matches('?').trim_matches(' ')
+}
+
+/// Returns an answer with a blank in place of what cannot be seen, and one blank between its fields.
+fn seen(alloc: Global, answer: &str) -> Result<String, AllocError> {
+    let mut text = String::new(alloc);
+    'characters: for character in answer.chars() {
+        text.push(if is_unseen(character) { ' ' } else { character })?;
+    }
+    let fields = joined(alloc, text.as_bytes())?;
+    String::from_utf8_lossy(alloc, fields.as_slice())
+}
+
+/// Returns an answer in small letters.
+fn in_small(alloc: Global, answer: &str) -> Result<String, AllocError> {
+    let letters = answer.as_bytes().to_ascii_lowercase(alloc)?;
+    String::from_utf8_lossy(alloc, letters.as_slice())
+}
+
+/// Returns what an answer that has no form has around it, if without that it has one; `word` is its line's.
+fn around(word: &str, answer: &str) -> Option<Excess> {
+    let bare = match answer.split_once(" (") {
+        Some((bare, _)) => bare,
+        None => answer,
+    };
+    if has_form(word, without_question(answer), false) {
         Some(Excess::Question)
-    } else if has_form(word, without_quotes(answer).trim(), false) {
+    } else if has_form(word, without_quotes(answer).trim_matches(' '), false) {
         Some(Excess::Quotes)
-    } else if has_form(word, answer.trim_end_matches('.').trim(), false) {
+    } else if has_form(word, answer.trim_end_matches('.').trim_matches(' '), false) {
         Some(Excess::Stop)
+    } else if has_form(word, bare, false) {
+        Some(Excess::Remark)
     } else if has_form(word, answer, true) {
         Some(Excess::Zeros)
     } else {
@@ -143,10 +176,24 @@ fn excess_of(word: &str, answer: &str) -> Option<Excess> {
     }
 }
 
+/// Returns what an answer that has no form has too much, if without that it has one; `word` is its line's.
+fn excess_of(alloc: Global, word: &str, answer: &str) -> Result<Option<Excess>, AllocError> {
+    if let Some(excess) = around(word, answer) {
+        return Ok(Some(excess));
+    }
+    if has_form(word, seen(alloc, answer)?.as_str(), false) {
+        return Ok(Some(Excess::Unseen));
+    }
+    if has_form(word, in_small(alloc, answer)?.as_str(), false) {
+        return Ok(Some(Excess::Capitals));
+    }
+    Ok(None)
+}
+
 /// Returns that no answer to a line has the form of this one; `word` is the line's.
 fn no_form(alloc: Global, word: &str, answer: &str) -> Result<Reason, AllocError> {
     let given = String::from_str(alloc, answer)?;
-    Ok(Reason::Form(given, excess_of(word, answer)))
+    Ok(Reason::Form(given, excess_of(alloc, word, answer)?))
 }
 
 /// Whether there is a part, and it is this text.
@@ -187,8 +234,11 @@ fn wrong_parts(
     Ok(names)
 }
 
-/// Returns why an answer to a line is wrong; `word` is the line's.
-fn reason_of_text(
+/// Returns why an answer to a line is wrong, with one blank between the fields of both; `word` is the line's.
+///
+/// # Errors
+/// `AllocError`: the host is out of memory.
+pub fn reason_of_text(
     alloc: Global,
     word: &str,
     given: &[u8],
@@ -297,6 +347,11 @@ fn put_form(
         Some(Excess::Quotes) => text.push_str(": write it without the quotes"),
         Some(Excess::Stop) => text.push_str(": write it without the full stop"),
         Some(Excess::Zeros) => text.push_str(": write numbers without zeros before them"),
+        Some(Excess::Unseen) => text.push_str(
+            ": write it without the characters that cannot be seen",
+        ),
+        Some(Excess::Capitals) => text.push_str(": write it in small letters"),
+        Some(Excess::Remark) => text.push_str(": write nothing after it"),
         None => Ok(()),
     }
 }

@@ -14,7 +14,7 @@ pub struct Student {
     pub id: String,
     /// The path of what was handed in; empty if nothing was.
     pub file: String,
-    /// The number of the row; the one after the names is 1.
+    /// The number of the row, as a spreadsheet counts: that with the names is 1.
     pub row: usize,
 }
 
@@ -29,7 +29,7 @@ pub enum ListFault {
     NotText(usize),
     /// The file of the row of this number is no UTF-8.
     FileNotText(usize),
-    /// The row of this number has no id; the one after the names is 1.
+    /// The row of this number has no id; that with the names is 1.
     NoId(usize),
     /// The host is out of memory.
     Memory,
@@ -213,7 +213,7 @@ fn rows_of(alloc: Global, text: &[u8], needs_file: bool) -> Result<Vec<Student>,
     let mut row = ByteRecord::new(alloc);
     let _has_names = next_row(&mut reader, &mut row)?;
     let mut students = Vec::new(alloc);
-    'rows: for number in 1..text.len().saturating_add(1) {
+    'rows: for number in 2..text.len().saturating_add(2) {
         if !next_row(&mut reader, &mut row)? {
             break;
         }

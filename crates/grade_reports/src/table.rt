@@ -35,6 +35,19 @@ fn put_note(notes: &mut String, note: &str) -> Result<(), AllocError> {
     notes.push_str(note)
 }
 
+/// Appends that a file could not be read to the handout's last line, if so, and why, or what to do.
+fn put_standing(alloc: Global, notes: &mut String, grade: &FileGrade) -> Result<(), AllocError> {
+    let (name, why) = (grade.standing.name(), grade.why.as_str());
+    match grade.standing {
+        Standing::Whole if why.is_empty() => Ok(()),
+        Standing::Whole => put_note(notes, why),
+        Standing::Wide => put_note(notes, "UTF-16: save it as UTF-8"),
+        Standing::Truncated if grade.other_lab.is_some() || grade.is_of_page => Ok(()),
+        _ if why.is_empty() => put_note(notes, name),
+        _ => put_note(notes, format!(in alloc; "{name}: {why}")?.as_str()),
+    }
+}
+
 /// Appends which student and which lab a file is for, if these are others than the handout's.
 fn put_others(alloc: Global, notes: &mut String, grade: &FileGrade) -> Result<(), AllocError> {
     if let Some(id) = &grade.other_id {
@@ -43,6 +56,11 @@ fn put_others(alloc: Global, notes: &mut String, grade: &FileGrade) -> Result<()
     }
     if let Some(lab) = grade.other_lab {
         put_note(notes, format!(in alloc; "made for lab {lab}")?.as_str())?;
+    } else if grade.is_of_page {
+        put_note(
+            notes,
+            "made from the page's script, whose numbers are others",
+        )?;
     }
     Ok(())
 }
@@ -50,9 +68,7 @@ fn put_others(alloc: Global, notes: &mut String, grade: &FileGrade) -> Result<()
 /// Returns what is to be said of a file.
 pub fn notes_of(alloc: Global, grade: &FileGrade) -> Result<String, AllocError> {
     let mut notes = String::new(alloc);
-    if !matches!(grade.standing, Standing::Whole) {
-        put_note(&mut notes, grade.standing.name())?;
-    }
+    put_standing(alloc, &mut notes, grade)?;
     put_others(alloc, &mut notes, grade)?;
     match grade.added {
         0 => {}

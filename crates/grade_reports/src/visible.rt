@@ -3,15 +3,20 @@
 use std::alloc::AllocError;
 use std::fmt;
 
-/// The most characters of a text that are quoted.
-const LONGEST_QUOTE: usize = 40;
+/// The most characters of a text that is quoted whole.
+const LONGEST_QUOTE: usize = 60;
+
+/// How many characters of a longer text are quoted: the first ones, and the last ones.
+const QUOTED_FIRST: usize = 40;
+
+const QUOTED_LAST: usize = 12;
 
 /// A text that others wrote, as the name of a file: what cannot be seen, or would move what is shown, is `\u{..}` with its number.
 #[derive(Clone, Copy)]
 pub struct Visible<'a>(pub &'a str);
 
 /// Whether a character cannot be seen or told from a blank, ends a line, or turns the direction of the text.
-fn is_unseen(character: char) -> bool {
+pub(crate) fn is_unseen(character: char) -> bool {
     match character {
         '\u{a0}' | '\u{ad}' | '\u{1680}' | '\u{3000}' | '\u{feff}' => true,
         '\u{2000}'..='\u{200f}' | '\u{2028}'..='\u{202f}' | '\u{205f}'..='\u{206f}' => true,
@@ -46,17 +51,20 @@ fn put_character(out: &mut String, character: char) -> Result<(), AllocError> {
     }
 }
 
-/// Appends a text between quotes; of one with more than 40 characters the first 40, and two dots.
+/// Appends a text between quotes; of one with more than 60 characters the first 40 and the last 12, and two dots between them.
 ///
 /// # Errors
 /// `AllocError`: the host is out of memory.
 pub fn put_quoted(out: &mut String, text: &str) -> Result<(), AllocError> {
     out.push('"')?;
-    'characters: for character in text.chars().take(LONGEST_QUOTE) {
-        put_character(out, character)?;
-    }
-    if text.chars().count() > LONGEST_QUOTE {
-        out.push_str("..")?;
+    let count = text.chars().count();
+    let is_short = count <= LONGEST_QUOTE;
+    'characters: for (place, character) in text.chars().enumerate() {
+        if is_short || place < QUOTED_FIRST || place.saturating_add(QUOTED_LAST) >= count {
+            put_character(out, character)?;
+        } else if place == QUOTED_FIRST {
+            out.push_str("..")?;
+        }
     }
     out.push('"')
 }

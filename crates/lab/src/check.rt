@@ -12,16 +12,52 @@ use crate::play::{Listener, each_line};
 use crate::run::tell_unexpected;
 use crate::screen::Screen;
 use crate::threads::{begins_for_threads, judge, read_rest};
+use grade_reports::{Reason, put_reason, reason_of_text, word_of};
 use handouts::split;
 use line_player::{LinePlayer, LineReply};
 use line_traces::{Before, explain_answer};
 use quiz_answers::is_right;
+use script_reader::first_field;
 use std::alloc::{AllocError, Global};
 use std::fmt;
 use std::io::{BufReader, Read};
 
 /// What is told of an expected answer that has the machine's values in another form.
 const OTHER_FORM: &str = "only the form differs: check compares answers letter by letter";
+
+/// Returns an answer with one blank between its fields.
+fn joined(alloc: Global, answer: &[u8]) -> Result<Vec<u8>, AllocError> {
+    let (mut text, mut rest) = (Vec::new(alloc), answer);
+    'fields: for _ in 0..answer.len() {
+        let Some((field, after)) = first_field(rest) else {
+            break;
+        };
+        if !text.is_empty() {
+            text.push(b' ')?;
+        }
+        text.extend_from_slice(field)?;
+        rest = after;
+    }
+    Ok(text)
+}
+
+/// Returns that an expected answer has the form of no answer to a line, and what would be right; `None` if it has one.
+fn form_note(
+    alloc: Global,
+    line: &[u8],
+    expected: &[u8],
+    answer: &[u8],
+) -> Result<Option<String>, AllocError> {
+    let word = word_of(line);
+    let given = joined(alloc, expected)?;
+    let reason = reason_of_text(alloc, word, given.as_slice(), answer)?;
+    if !matches!(reason, Reason::Form(..)) {
+        return Ok(None);
+    }
+    let mut text = String::new(alloc);
+    put_reason(&mut text, word, &reason)?;
+    Ok(Some(text))
+}
 
 /// How many files, answers and differences there were.
 #[derive(Clone, Copy)]
@@ -137,6 +173,9 @@ impl<'a> CheckLines<'a> {
         if reply != LineReply::Text || player.answer() == expected {
             return Ok(None);
         }
+        if let Some(note) = form_note(self.alloc, line, expected, player.answer())? {
+            return Ok(Some(note));
+        }
         if is_right(self.alloc, expected, player.answer())? {
             return Ok(Some(String::from_str(self.alloc, OTHER_FORM)?));
         }
@@ -148,7 +187,9 @@ impl<'a> CheckLines<'a> {
         ensures whole { IfOk result (λ _. S.whole screen.old → S.whole screen.new) }
     {
         match note {
-            Some(note) => screen.out(format!(in self.alloc; "  why      {note}\n")?.as_str()),
+            Some(note) => screen.out(format!(in self.alloc;
+                "  why              {note}\n"
+            )?.as_str()),
             None => Ok(()),
         }
     }
@@ -183,7 +224,7 @@ impl<'a> CheckLines<'a> {
         let answer = String::from_utf8_lossy(self.alloc, answer)?;
         let (expected, answer) = (expected.as_str(), answer.as_str());
         screen.out(format!(in self.alloc;
-            "{place}: {line}\n  expected {expected}\n  answered {answer}\n"
+            "{place}: {line}\n  the file says    {expected}\n  the machine says {answer}\n"
         )?.as_str())?;
         self.tell_why(screen, note)
     }

@@ -47,6 +47,17 @@ impl Fault {
         }
     }
 
+    /// Returns why a file cannot be opened or read; empty of other faults.
+    pub fn because(&self, alloc: Global) -> Result<String, AllocError> {
+        match self {
+            Fault::File(_, error) | Fault::Read(error) => {
+                let because = Because(error);
+                format!(in alloc; "{because}")
+            }
+            _ => Ok(String::new(alloc)),
+        }
+    }
+
     /// Tells why the program ends, unless it was told.
     ///
     /// # Errors

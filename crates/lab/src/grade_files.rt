@@ -2,105 +2,33 @@
 
 ghost use Rattle.std.specs.Prelude.{◌≡◌, IfOk, true};
 
+use crate::class_order::{in_order, note_repeats};
+use crate::content::{Content, FirstBytes, MOST_BYTES};
 use crate::fault::Fault;
 use crate::grade::play_handout;
 use crate::handed_in::{Kind, Target, Targets, kind_of};
-use crate::lab::{Host, Reading};
+use crate::lab::Host;
+use crate::named::{named_id, other_id};
+use crate::printed::print_grades;
 use crate::screen::Screen;
 use command_words::{GradeForm, GradeWords, Source};
 use grade_reports::{
-    FileGrade, FileObject, Head, ListFault, ResultsObject, Standing, Student, Visible, csv_head,
-    csv_row, first_row, ids_of, is_wide, other_lab, put_repeat, put_summary, put_table,
-    students_of,
+    FileGrade, Head, ListFault, Standing, Student, Visible, first_row, ids_of, is_of_page, is_wide,
+    other_lab, put_repeat, students_of,
 };
-use handouts::{Asked, Line, student_lines};
+use handouts::Asked;
 use lab_variants::Lab;
-use memchr::memchr;
 use std::alloc::{AllocError, Global};
 use std::io;
 use std::io::Read;
 use std::rt::Files;
 
-/// The most bytes that a handout, or what a student hands in, may have.
-const MOST_BYTES: usize = 1_048_576;
-
-/// The most lines that what a student hands in may have that are neither empty nor comments.
-const MOST_LINES: usize = 2000;
+/// What is wrong with a command line that names nothing to be graded.
+const NO_FILES: &str =
+    "grade --lab takes FILEs, each graded by the student whom it names, or --seeds LIST.csv";
 
 /// An id that no variant's text has but where it names its student.
 const NO_STUDENT: &str = "zq0student0qz";
-
-/// The bytes of a file, at most so many and one more.
-#[derive(Drop)]
-struct FirstBytes {
-    bytes: Vec<u8>,
-    most: usize,
-}
-
-impl Reading for FirstBytes {
-    fn read<R: Read + Drop, S: Screen>(
-        &mut self,
-        _alloc: Global,
-        reader: R,
-        _screen: &mut S,
-    ) -> Result<(), Fault> {
-        let most = (self.most as u64).saturating_add(1);
-        let read = reader.take(most).read_to_end(&mut self.bytes);
-        match read {
-            Ok(_) => Ok(()),
-            Err(error) => Err(Fault::of_reading(error)),
-        }
-    }
-}
-
-/// What was read of a file.
-#[derive(Drop)]
-struct Content {
-    standing: Standing,
-    bytes: Vec<u8>,
-    /// Whether the file was there and could be read.
-    is_read: bool,
-}
-
-impl Content {
-    /// Returns what there is of a file that cannot be graded.
-    fn nothing(alloc: Global, standing: Standing, is_read: bool) -> Content
-        ensures { result.is_read ≡ is_read }
-    {
-        Content {
-            standing,
-            bytes: Vec::new(alloc),
-            is_read,
-        }
-    }
-
-    /// Returns what there is of a file with these bytes.
-    fn of(alloc: Global, bytes: Vec<u8>) -> Content {
-        if bytes.len() > MOST_BYTES {
-            return Content::nothing(alloc, Standing::TooLong, true);
-        }
-        if memchr(0, bytes.as_slice()).is_some() {
-            return Content::nothing(alloc, Standing::Binary, true);
-        }
-        Content {
-            standing: Standing::Whole,
-            bytes,
-            is_read: true,
-        }
-    }
-
-    /// Returns its lines, none if there are too many.
-    fn lines(&mut self, alloc: Global) -> Result<Vec<Line>, AllocError>
-        ensures { self.new.is_read ≡ self.old.is_read }
-    {
-        let lines = student_lines(alloc, self.bytes.as_slice())?;
-        if lines.len() > MOST_LINES {
-            self.standing = Standing::TooLong;
-            return Ok(Vec::new(alloc));
-        }
-        Ok(lines)
-    }
-}
 
 /// Whether a file could not be opened since there is none.
 fn is_missing(fault: &Fault) -> bool {
@@ -139,102 +67,25 @@ fn list_fault(
     }
 }
 
-/// Prints grades.
-fn print_grades<S: Screen>(
-    alloc: Global,
-    screen: &mut S,
-    form: GradeForm,
-    grades: &[FileGrade],
-) -> Result<(), Fault>
-    ensures whole { IfOk result (λ _. S.whole screen.old → S.whole screen.new) }
-{
-    match form {
-        GradeForm::Table => print_table(alloc, screen, grades),
-        GradeForm::Csv => print_csv(alloc, screen, grades),
-        GradeForm::Json => print_objects(alloc, screen, grades),
-        GradeForm::Gradescope => print_results(alloc, screen, grades),
-    }
-}
-
-/// Prints grades as a table, and what is counted of all.
-fn print_table<S: Screen>(alloc: Global, screen: &mut S, grades: &[FileGrade]) -> Result<(), Fault>
-    ensures whole { IfOk result (λ _. S.whole screen.old → S.whole screen.new) }
-{
-    let mut text = String::new(alloc);
-    put_table(alloc, &mut text, grades)?;
-    put_summary(&mut text, grades)?;
-    screen.out(text.as_str())
-}
-
-/// Prints grades as CSV.
-fn print_csv<S: Screen>(alloc: Global, screen: &mut S, grades: &[FileGrade]) -> Result<(), Fault>
-    ensures whole { IfOk result (λ _. S.whole screen.old → S.whole screen.new) }
-{
-    screen.out(csv_head())?;
-    'grades: for grade in grades {
-        screen.out_bytes(csv_row(alloc, grade)?.as_slice())?;
-    }
-    Ok(())
-}
-
-/// Prints grades as JSON objects, one a line.
-fn print_objects<S: Screen>(
-    alloc: Global,
-    screen: &mut S,
-    grades: &[FileGrade],
-) -> Result<(), Fault>
-    ensures whole { IfOk result (λ _. S.whole screen.old → S.whole screen.new) }
-{
-    'grades: for grade in grades {
-        let object = FileObject::of(alloc, grade)?;
-        let mut text = serde_json::to_string(alloc, &object)?;
-        text.push_str("\n")?;
-        screen.out(text.as_str())?;
-    }
-    Ok(())
-}
-
-/// Prints the grade of the first file as Gradescope takes it.
-fn print_results<S: Screen>(
-    alloc: Global,
-    screen: &mut S,
-    grades: &[FileGrade],
-) -> Result<(), Fault>
-    ensures whole { IfOk result (λ _. S.whole screen.old → S.whole screen.new) }
-{
-    let Some(grade) = grades.first() else {
-        return Ok(());
-    };
-    let object = ResultsObject::of(alloc, grade)?;
-    let mut text = serde_json::to_string(alloc, &object)?;
-    text.push_str("\n")?;
-    screen.out(text.as_str())
-}
-
-/// Returns the id that a file names, if it is not the one that the handout names.
-fn other_id(
-    alloc: Global,
-    head: Option<Head<'_>>,
-    handout: &[u8],
-    file: &[u8],
-) -> Result<Option<String>, AllocError> {
-    let Some(head) = head else {
-        return Ok(None);
-    };
-    match (head.id_of(handout), head.id_of(file)) {
-        (Some(own), Some(other)) if own != other => {
-            Ok(Some(String::from_utf8_lossy(alloc, other)?))
-        }
-        _ => Ok(None),
-    }
-}
-
 /// What a file names in its comments, if it is not what the handout names.
 #[derive(Drop)]
 struct Others {
     id: Option<String>,
     /// The number of a lab.
     lab: Option<u32>,
+    /// Whether it names the lab's page, and the handout does not.
+    is_of_page: bool,
+}
+
+impl Others {
+    /// Returns what a file names; `id`: the id that it names, if that is not the handout's.
+    fn of(handout: &[u8], file: &[u8], id: Option<String>) -> Others {
+        Others {
+            id,
+            lab: other_lab(handout, file),
+            is_of_page: is_of_page(file) && !is_of_page(handout),
+        }
+    }
 }
 
 /// Tells which ids a list has more than once, and returns whether it has none.
@@ -275,6 +126,17 @@ fn put_if_repeated(
     }
 }
 
+/// By what files are graded that name no student.
+#[derive(Clone, Copy)]
+struct Unnamed<'a> {
+    lab: Lab,
+    /// How a variant names its student.
+    head: Option<Head<'a>>,
+    /// A variant of no student.
+    handout: &'a [u8],
+    asked: &'a [Asked],
+}
+
 /// What was graded so far.
 #[derive(Drop)]
 struct Grading {
@@ -306,11 +168,14 @@ impl Grading {
         self.is_whole = self.is_whole && content.is_read;
         let lines = content.lines(alloc)?;
         let Target { file, id } = target;
-        let grade = FileGrade::of(alloc, file, content.standing, handout, lines.as_slice())?;
+        let Content { standing, why, .. } = content;
+        let grade = FileGrade::of(alloc, file, standing, handout, lines.as_slice())?;
         let grade = FileGrade {
             id,
             other_id: others.id,
             other_lab: others.lab,
+            is_of_page: others.is_of_page,
+            why,
             ..grade
         };
         Ok(self.grades.push(grade)?)
@@ -337,11 +202,15 @@ impl<F: Files, I: Read + Drop> Host<'_, F, I> {
         if is_missing(&fault) {
             return Ok(Content::nothing(alloc, Standing::Missing, false));
         }
+        let why = fault.because(alloc)?;
         match fault {
             Fault::File(..) | Fault::Read(..) => fault.tell(alloc, screen)?,
             _ => return Err(fault),
         }
-        Ok(Content::nothing(alloc, Standing::Unreadable, false))
+        Ok(Content {
+            why,
+            ..Content::nothing(alloc, Standing::Unreadable, false)
+        })
     }
 
     /// Returns what there is of the file that a list of students names, and tells why if that cannot be read.
@@ -362,7 +231,10 @@ impl<F: Files, I: Read + Drop> Host<'_, F, I> {
         };
         let name = Visible(file);
         screen.err(format!(in alloc; "{name}: {why}\n")?.as_str())?;
-        Ok(Content::nothing(alloc, Standing::Unreadable, false))
+        Ok(Content {
+            why: String::from_str(alloc, why)?,
+            ..Content::nothing(alloc, Standing::Unreadable, false)
+        })
     }
 
     /// Returns the bytes of a handout or a list, which may have so many.
@@ -438,10 +310,7 @@ impl<F: Files, I: Read + Drop> Host<'_, F, I> {
         let mut grading = Grading::new(alloc, left_out.is_empty());
         'targets: for target in list {
             let content = self.content(screen, target.file.as_str())?;
-            let others = Others {
-                id: None,
-                lab: other_lab(text.as_slice(), content.bytes.as_slice()),
-            };
+            let others = Others::of(text.as_slice(), content.bytes.as_slice(), None);
             grading.add(alloc, asked.as_slice(), target, content, others)?;
         }
         Ok(grading)
@@ -493,10 +362,7 @@ impl<F: Files, I: Read + Drop> Host<'_, F, I> {
         let asked = play_handout(alloc, screen, id, handout)?;
         let content = self.listed_content(screen, file)?;
         let bytes = content.bytes.as_slice();
-        let others = Others {
-            id: other_id(alloc, head, handout, bytes)?,
-            lab: other_lab(handout, bytes),
-        };
+        let others = Others::of(handout, bytes, other_id(alloc, head, handout, bytes)?);
         let Student { id, file, .. } = student;
         let target = Target { file, id: Some(id) };
         grading.add(alloc, asked.as_slice(), target, content, others)?;
@@ -524,27 +390,132 @@ impl<F: Files, I: Read + Drop> Host<'_, F, I> {
         Ok(grading)
     }
 
+    /// Grades files of a list, each by the variant of a lab that was made for the student whom it names.
+    fn grade_named<S: Screen>(
+        &mut self,
+        screen: &mut S,
+        lab: Lab,
+        targets: Targets,
+    ) -> Result<Grading, Fault>
+        ensures whole { IfOk result (λ g. g.is_whole ≡ true → S.whole screen.old → S.whole screen.new) }
+    {
+        let alloc = self.alloc;
+        let sample = lab_variants::handout(alloc, lab, NO_STUDENT)?;
+        let sample = sample.as_str().as_bytes();
+        let asked = play_handout(alloc, screen, NO_STUDENT, sample)?;
+        let unnamed = Unnamed {
+            lab,
+            head: Head::of(sample, NO_STUDENT.as_bytes()),
+            handout: sample,
+            asked: asked.as_slice(),
+        };
+        let Targets { list, left_out } = targets;
+        let mut grading = Grading::new(alloc, left_out.is_empty());
+        'targets: for target in list {
+            self.grade_by_head(screen, unnamed, &mut grading, target.file)?;
+        }
+        note_repeats(alloc, &mut grading.grades)?;
+        Ok(grading)
+    }
+
+    /// Grades files, each by the variant of a lab that was made for the student whom it names, in the order of a list of students, with those
+    /// who handed in nothing.
+    fn grade_class<S: Screen>(
+        &mut self,
+        screen: &mut S,
+        lab: Lab,
+        list: &str,
+        targets: Targets,
+    ) -> Result<Grading, Fault>
+        ensures whole { IfOk result (λ g. g.is_whole ≡ true → S.whole screen.old → S.whole screen.new) }
+    {
+        let alloc = self.alloc;
+        let students = self.students(screen, list, false)?;
+        let is_listed = tell_repeats(alloc, screen, list, students.as_slice())?;
+        let sample = lab_variants::handout(alloc, lab, NO_STUDENT)?;
+        let asked = play_handout(alloc, screen, NO_STUDENT, sample.as_str().as_bytes())?;
+        let grading = self.grade_named(screen, lab, targets)?;
+        let Grading { grades, is_whole } = grading;
+        Ok(Grading {
+            grades: in_order(alloc, grades, students.as_slice(), asked.as_slice())?,
+            is_whole: is_whole && is_listed,
+        })
+    }
+
+    /// Grades a file by the variant that was made for the student whom it names.
+    fn grade_by_head<S: Screen>(
+        &mut self,
+        screen: &mut S,
+        unnamed: Unnamed<'_>,
+        grading: &mut Grading,
+        file: String,
+    ) -> Result<(), Fault>
+        ensures whole { IfOk result (λ _. grading.new.is_whole ≡ true → (grading.old.is_whole ≡ true) × (S.whole screen.old → S.whole screen.new)) }
+    {
+        let alloc = self.alloc;
+        let content = self.content(screen, file.as_str())?;
+        let Some(id) = named_id(alloc, unnamed.head, content.bytes.as_slice())? else {
+            let others = Others::of(unnamed.handout, content.bytes.as_slice(), None);
+            let target = Target { file, id: None };
+            grading.add(
+                alloc,
+                unnamed.asked,
+                target,
+                content.unnamed(alloc)?,
+                others,
+            )?;
+            return Ok(());
+        };
+        let handout = lab_variants::handout(alloc, unnamed.lab, id.as_str())?;
+        let handout = handout.as_str().as_bytes();
+        let asked = play_handout(alloc, screen, id.as_str(), handout)?;
+        let others = Others::of(handout, content.bytes.as_slice(), None);
+        let target = Target { file, id: Some(id) };
+        grading.add(alloc, asked.as_slice(), target, content, others)?;
+        Ok(())
+    }
+
+    /// Grades what a command line names.
+    ///
+    /// # Errors
+    /// Those of `grade`.
+    fn grading<S: Screen>(&mut self, screen: &mut S, words: &GradeWords) -> Result<Grading, Fault>
+        ensures whole { IfOk result (λ g. g.is_whole ≡ true → S.whole screen.old → S.whole screen.new) }
+    {
+        let (files, has_none) = (words.files.as_slice(), words.files.is_empty());
+        match (&words.source, has_none) {
+            (Source::Variants(lab, list), true) => {
+                self.grade_variants(screen, *lab, list.as_str())
+            }
+            (Source::Variants(lab, list), false) => {
+                let targets = self.targets(screen, files, None)?;
+                self.grade_class(screen, *lab, list.as_str(), targets)
+            }
+            (Source::Named(_, None), true) => {
+                Err(Fault::Word(String::from_str(self.alloc, NO_FILES)?))
+            }
+            (Source::Named(lab, list), _) => {
+                let targets = self.targets(screen, files, list.as_deref())?;
+                self.grade_named(screen, *lab, targets)
+            }
+            (Source::Handout(handout, list), _) => {
+                let targets = self.targets(screen, files, list.as_deref())?;
+                self.grade_all(screen, handout.as_str(), targets)
+            }
+        }
+    }
+
     /// Grades what a command line names, and prints the grades.
     ///
     /// # Errors
-    /// `Word`: there is not one file, and results for Gradescope are to be printed. `Told`: the handout or the list is faulty; or a file is
+    /// `Word`: nothing is named to be graded; or there is not one file, and results for Gradescope are to be printed. `Told`: the handout or the list is faulty; or a file is
     /// missing, cannot be read or was left out, or a list has an id twice, after all grades were printed. `File`: the handout, a list or a folder
     /// cannot be read. `Memory`: the host is out of memory. `Io`: printing failed.
     pub fn grade<S: Screen>(&mut self, screen: &mut S, words: &GradeWords) -> Result<(), Fault>
         ensures whole { IfOk result (λ _. S.whole screen.old → S.whole screen.new) }
     {
         let alloc = self.alloc;
-        let grading = match &words.source {
-            Source::Variants(lab, list) => self.grade_variants(screen, *lab, list.as_str())?,
-            Source::Handout(handout, list) => {
-                let list = match list {
-                    Some(list) => Some(list.as_str()),
-                    None => None,
-                };
-                let targets = self.targets(screen, words.files.as_slice(), list)?;
-                self.grade_all(screen, handout.as_str(), targets)?
-            }
-        };
+        let grading = self.grading(screen, words)?;
         if matches!(words.form, GradeForm::Gradescope) && grading.grades.len() != 1 {
             return Err(Fault::Word(String::from_str(
                 alloc,

@@ -17,6 +17,12 @@ use std::{fs, io};
 /// The most characters of an id that are in a file's name.
 const LONGEST_NAME: usize = 100;
 
+/// How many lists of one lab, and files of ids with one name, there may be in a folder.
+const MOST_LISTS: usize = 1000;
+
+/// How many files that are there already are told one by one.
+const MOST_TOLD: usize = 8;
+
 /// Writes a text to a new file. A file that is there stays as it is.
 ///
 /// # Errors
@@ -39,6 +45,50 @@ fn safe(letter: char) -> char {
         'a'..='z' | 'A'..='Z' | '0'..='9' | '-' | '_' | '.' => letter,
         _ => '_',
     }
+}
+
+/// Returns an id as it is in a file's name.
+fn safe_of(alloc: Global, id: &str) -> Result<String, AllocError> {
+    let mut text = String::new(alloc);
+    'letters: for letter in id.chars().take(LONGEST_NAME) {
+        text.push(safe(letter))?;
+    }
+    Ok(text)
+}
+
+/// Returns the first two lines of a script: its head, with what lab it is and whose.
+fn head_of(text: &[u8]) -> &[u8] {
+    let mut feeds = 0u32;
+    'bytes: for (place, byte) in text.iter().enumerate() {
+        if *byte == b'\n' {
+            feeds = feeds.saturating_add(1);
+            if feeds == 2 {
+                return text.get(..place).unwrap_or(text);
+            }
+        }
+    }
+    text
+}
+
+/// Returns the first bytes of a file; none if it cannot be read.
+fn first_bytes<F: Files>(files: &F, alloc: Global, path: &str) -> Vec<u8> {
+    let mut bytes = Vec::new(alloc);
+    if let Ok(file) = fs::open(files, path) {
+        // a file that cannot be read is told when it is written
+        let _ = file.take(4096).read_to_end(&mut bytes);
+    }
+    bytes
+}
+
+/// Whether there is a file at a path with another head than a script.
+fn is_anothers<F: Files>(
+    files: &F,
+    alloc: Global,
+    path: &str,
+    script: &[u8],
+) -> Result<bool, AllocError> {
+    let bytes = first_bytes(files, alloc, path);
+    Ok(!bytes.is_empty() && head_of(bytes.as_slice()) != head_of(script))
 }
 
 /// Whether a text is among some.
@@ -95,6 +145,8 @@ struct HandedOut {
     files: Vec<String>,
     /// How many were written.
     written: usize,
+    /// How many were there already.
+    there: usize,
     /// A line for each file that was not written; empty if all were.
     told: String,
 }
@@ -108,6 +160,7 @@ impl HandedOut {
             students: Vec::new(alloc),
             files: Vec::new(alloc),
             written: 0,
+            there: 0,
             told: String::new(alloc),
         })
     }
@@ -129,24 +182,36 @@ impl HandedOut {
         'students: for student in students {
             given.add(files, alloc, screen, order, student)?;
         }
-        given.put_list(files, alloc)?;
+        given.tell_more()?;
+        if given.written > 0 {
+            given.put_list(files, alloc, order)?;
+        }
         Ok(given)
     }
 
-    /// Returns the path of a student's file, another than those so far.
-    fn path_of(&self, alloc: Global, order: Order<'_>, id: &str) -> Result<String, AllocError> {
+    /// Returns the path of a student's file: another than those so far, and than those of other students that are there.
+    fn path_of<F: Files>(
+        &self,
+        files: &F,
+        alloc: Global,
+        order: Order<'_>,
+        id: &str,
+        text: &str,
+    ) -> Result<String, AllocError> {
         let (folder, name) = (order.folder, order.lab.name());
-        let mut safe_id = String::new(alloc);
-        for letter in id.chars().take(LONGEST_NAME) {
-            safe_id.push(safe(letter))?;
-        }
+        let safe_id = safe_of(alloc, id)?;
         let safe_id = safe_id.as_str();
-        let path = format!(in alloc; "{folder}/{name}-{safe_id}.script")?;
-        if !has(self.files.as_slice(), path.as_str()) {
-            return Ok(path);
+        let mut path = format!(in alloc; "{folder}/{name}-{safe_id}.script")?;
+        let first = self.files.len().saturating_add(1);
+        'numbers: for number in first..first.saturating_add(MOST_LISTS) {
+            if !has(self.files.as_slice(), path.as_str())
+                && !is_anothers(files, alloc, path.as_str(), text.as_bytes())?
+            {
+                break;
+            }
+            path = format!(in alloc; "{folder}/{name}-{safe_id}-{number}.script")?;
         }
-        let number = self.files.len().saturating_add(1);
-        format!(in alloc; "{folder}/{name}-{safe_id}-{number}.script")
+        Ok(path)
     }
 
     /// Writes the handout of a student.
@@ -179,7 +244,7 @@ impl HandedOut {
         student: Student,
         text: &str,
     ) -> Result<(), AllocError> {
-        let path = self.path_of(alloc, order, student.id.as_str())?;
+        let path = self.path_of(files, alloc, order, student.id.as_str(), text)?;
         if self.put(files, path.as_str(), text.as_bytes())? {
             self.written = self.written.saturating_add(1);
         }
@@ -193,33 +258,85 @@ impl HandedOut {
             return Ok(true);
         };
         let path = Visible(path);
-        match error.kind() {
-            io::ErrorKind::AlreadyExists => writeln!(
+        if error.kind() != io::ErrorKind::AlreadyExists {
+            writeln!(&mut self.told, "{path}: {error}")?;
+            return Ok(false);
+        }
+        self.there = self.there.saturating_add(1);
+        if self.there <= MOST_TOLD {
+            writeln!(
                 &mut self.told,
                 "{path} is there already, and stays as it is"
-            )?,
-            _ => writeln!(&mut self.told, "{path}: {error}")?,
+            )?;
         }
         Ok(false)
     }
 
-    /// Writes the list of the handouts, as `grade --seeds` reads it.
-    fn put_list<F: Files>(&mut self, files: &F, alloc: Global) -> Result<(), AllocError> {
+    /// Tells of how many files more it was not told that they are there already.
+    fn tell_more(&mut self) -> Result<(), AllocError> {
+        match self.there.saturating_sub(MOST_TOLD) {
+            0 => Ok(()),
+            more => writeln!(
+                &mut self.told,
+                "and {more} more are there already, and stay as they are"
+            ),
+        }
+    }
+
+    /// Returns the list of the handouts, as `grade --seeds` reads it.
+    fn list_text(&self, alloc: Global) -> Result<Vec<u8>, AllocError> {
         let mut text = Vec::from_slice(alloc, b"id,file\n")?;
         for (student, file) in self.students.iter().zip(self.files.as_slice()) {
             let row = student_row(alloc, student.id.as_str(), file.as_str())?;
             text.extend_from_slice(row.as_slice())?;
         }
-        let list = String::from_str(alloc, self.list.as_str())?;
-        self.put(files, list.as_str(), text.as_slice())?;
+        Ok(text)
+    }
+
+    /// Writes the list of the handouts to a new file, beside those that are there.
+    fn put_list<F: Files>(
+        &mut self,
+        files: &F,
+        alloc: Global,
+        order: Order<'_>,
+    ) -> Result<(), AllocError> {
+        let (text, folder, name) = (self.list_text(alloc)?, order.folder, order.lab.name());
+        'lists: for number in 2..MOST_LISTS {
+            let path = String::from_str(alloc, self.list.as_str())?;
+            if self.put_first(files, path.as_str(), text.as_slice())? {
+                return Ok(());
+            }
+            self.list = format!(in alloc; "{folder}/{name}-{number}.csv")?;
+        }
         Ok(())
+    }
+
+    /// Writes a new file, or tells why not; returns `false` if there is one already.
+    fn put_first<F: Files>(
+        &mut self,
+        files: &F,
+        path: &str,
+        text: &[u8],
+    ) -> Result<bool, AllocError> {
+        let Err(error) = put_new(files, path, text) else {
+            return Ok(true);
+        };
+        if error.kind() == io::ErrorKind::AlreadyExists {
+            return Ok(false);
+        }
+        let path = Visible(path);
+        writeln!(&mut self.told, "{path}: {error}")?;
+        Ok(true)
     }
 
     /// Returns how many handouts were written, and where their list is.
     fn summary(&self, alloc: Global) -> Result<String, AllocError> {
         let (written, list) = (self.written, Visible(self.list.as_str()));
-        let word = if written == 1 { "script" } else { "scripts" };
-        format!(in alloc; "{written} {word} written; their list is {list}\n")
+        match written {
+            0 => String::from_str(alloc, "0 scripts written\n"),
+            1 => format!(in alloc; "1 script written; the list is {list}\n"),
+            _ => format!(in alloc; "{written} scripts written; their list is {list}\n"),
+        }
     }
 }
 

@@ -9,6 +9,8 @@
 
 mod check;
 mod chosen_line;
+mod class_order;
+mod content;
 mod draw;
 mod elf;
 mod fault;
@@ -21,8 +23,10 @@ mod lab;
 mod lab_scripts;
 mod looks;
 mod mistakes;
+mod named;
 mod plain;
 mod play;
+mod printed;
 mod quiz;
 mod quiz_terminal;
 mod reference;

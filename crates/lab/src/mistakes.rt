@@ -5,13 +5,14 @@ ghost use Rattle.line_player.specs.Answers.{HasPlayed};
 ghost use Rattle.line_player.specs.PlayedLines.{Played};
 
 use crate::fault::Fault;
+use crate::play::is_among;
 use crate::screen::Screen;
 use fault_texts::{explain, explain_end};
 use grade_reports::Visible;
 use line_fields::Mistake;
 use line_player::LinePlayer;
 use script_language::Cause;
-use script_reader::trim_return;
+use script_reader::{first_field, trim_return};
 use std::alloc::{AllocError, Global};
 use std::fmt;
 
@@ -39,6 +40,19 @@ fn told(alloc: Global, place: Place<'_>, mistake: &Mistake) -> Result<String, Al
     }
 }
 
+/// The words of lines for a reference MMU that no script of a machine has.
+static MMU_WORDS: [&[u8]; 7] = [
+    b"ram", b"mem", b"satp", b"sfence", b"status", b"pmp", b"profile",
+];
+
+/// Whether a line is for a reference MMU.
+fn is_for_mmu(line: &[u8]) -> bool {
+    match first_field(line) {
+        Some((word, _)) => is_among(MMU_WORDS.as_slice(), word),
+        None => false,
+    }
+}
+
 /// Tells why a line is refused, and returns `Told`.
 pub fn tell_refused<S: Screen>(
     alloc: Global,
@@ -52,6 +66,11 @@ pub fn tell_refused<S: Screen>(
 {
     let mistake = explain(alloc, player.draft(), trim_return(line), cause)?;
     screen.err(told(alloc, place, &mistake)?.as_str())?;
+    if is_for_mmu(line) {
+        let file = Visible(place.file);
+        let text = format!(in alloc; "this is a line for a reference MMU: xv6lab mmu {file}\n")?;
+        screen.err(text.as_str())?;
+    }
     Err(Fault::Told)
 }
 

@@ -7,12 +7,14 @@ ghost use Rattle.line_player.specs.PlayedLines.{Played};
 use crate::fault::Fault;
 use crate::play::{Listener, each_line, is_among};
 use crate::screen::Screen;
+use grade_reports::{Reason, put_reason as put_wrong, reason_of_text, word_of};
 use line_player::LinePlayer;
 use line_traces::{Ledger, put_trace, trace_line};
 use mmu_lines::{Answer, MmuPlayer, put_answer};
 use pictures::{QuizQuestion, put_picture};
 use quiz_answers::{
-    OUTCOME_FORM, OUTCOMES, Script, choose, form_of, has_form, is_right, missed_parts, plain_parts,
+    OUTCOME_FORM, OUTCOMES, Script, choose, completed, form_of, has_form, is_right, missed_parts,
+    plain_parts,
 };
 use quizzes::{Quiz, Subject, Teller, make};
 use script_reader::{first_field, number};
@@ -124,8 +126,15 @@ fn mmu_answers(alloc: Global, lines: &[Line]) -> Result<Vec<Vec<u8>>, PlayFault>
     Ok(answers)
 }
 
-/// Returns the indices of a virtual address of Sv39, one for each level, and its offset, as text.
+/// Returns the indices of a virtual address of Sv39, one for each level, and its offset, as text; or that it is not canonical.
 fn indices(alloc: Global, address: u64) -> Result<String, AllocError> {
+    let high = address >> 38;
+    if high != 0 && high != 0x3ff_ffff {
+        return String::from_str(
+            alloc,
+            "bits 63 to 39 differ from bit 38: not canonical, so no walk",
+        );
+    }
     let offset = address % 4096;
     let page = address / 4096;
     let (last, middle, first) = (page % 512, page / 512 % 512, page / 262_144 % 512);
@@ -171,10 +180,13 @@ fn put_reason(
 
 /// Returns why an outcome that a guess lacks is permitted, by the word with which a reference MMU begins it.
 fn why_permitted(outcome: &[u8]) -> &'static str {
-    if outcome.starts_with(b"held") {
-        "the hart may still hold what it read before, since no fence after that covers it"
-    } else {
-        "a walk may end so now"
+    match first_field(outcome) {
+        Some((b"held", _)) => {
+            "the hart may still hold what it read before, since no fence after that covers it"
+        }
+        Some((b"walk", _)) => "the walk over the page tables as they are now ends so",
+        Some((b"bare", _)) => "the address isn't translated",
+        _ => "no page table is asked",
     }
 }
 
@@ -191,9 +203,10 @@ fn accessed(line: &[u8]) -> Option<u64> {
     number(field)
 }
 
-/// Returns what happens on a line for the reference MMU: the indices of its address, if it accesses one, and the whole answer.
+/// Returns what happens on a line for the reference MMU: the indices of its address, if it accesses one, the walk, and the whole answer.
 fn mmu_trace(
     alloc: Global,
+    player: &MmuPlayer,
     number_of_line: usize,
     line: &str,
     answer: &str,
@@ -203,6 +216,7 @@ fn mmu_trace(
         let indices = indices(alloc, address)?;
         let indices = indices.as_str();
         writeln!(&mut text, "        {indices}")?;
+        player.put_walk_steps(&mut text, address)?;
     }
     writeln!(&mut text, "        {answer}")?;
     Ok(text)
@@ -225,6 +239,22 @@ fn tell_difference<S: Screen>(
             Ok(Fault::Told)
         }
     }
+}
+
+/// Returns the places of lines that are worth a question, but those of misaligned accesses: more is permitted of these than is listed.
+fn clear_of(
+    alloc: Global,
+    worthy: &[usize],
+    answers: &[Vec<u8>],
+) -> Result<Vec<usize>, AllocError> {
+    let mut clear = Vec::new(alloc);
+    'places: for at in worthy {
+        match answers.get(*at) {
+            Some(answer) if answer.as_slice().starts_with(b"misaligned") => {}
+            _ => clear.push(*at)?,
+        }
+    }
+    Ok(clear)
 }
 
 /// What is to be made.
@@ -270,13 +300,8 @@ impl Game {
             lines: quiz.lines.as_slice(),
             answers: answers.as_slice(),
         };
-        let asked = choose(
-            alloc,
-            order.seed,
-            script,
-            quiz.worthy.as_slice(),
-            order.count,
-        )?;
+        let worthy = clear_of(alloc, quiz.worthy.as_slice(), answers.as_slice())?;
+        let asked = choose(alloc, order.seed, script, worthy.as_slice(), order.count)?;
         Ok(Game {
             alloc,
             quiz,
@@ -330,14 +355,17 @@ impl Game {
 
     /// Notes what the reference MMU says of each line.
     fn look_at_mmu(&mut self) -> Result<(), Fault> {
+        let mut player = MmuPlayer::new(self.alloc);
         for at in 0..self.quiz.lines.len() {
             let trace = mmu_trace(
                 self.alloc,
+                &player,
                 at.saturating_add(1),
                 self.line(at),
                 self.answer(at),
             )?;
             self.traces.push(trace)?;
+            player.line(self.line(at).as_bytes())?;
         }
         Ok(())
     }
@@ -371,6 +399,14 @@ impl Game {
         match self.quiz.teller {
             Teller::Machine => self.form(at),
             Teller::Mmu => OUTCOMES,
+        }
+    }
+
+    /// Returns a guess at a line; a number alone with the word before it that its form has.
+    pub fn completed(&self, at: usize, guess: Vec<u8>) -> Result<Vec<u8>, AllocError> {
+        match self.quiz.teller {
+            Teller::Machine => completed(self.alloc, self.form(at), guess),
+            Teller::Mmu => Ok(guess),
         }
     }
 
@@ -423,6 +459,22 @@ impl Game {
             put_reason(out, &mut player, self.line(at), outcome.as_str())?;
         }
         Ok(())
+    }
+
+    /// Returns which parts of a guess at a line are wrong, if its word is right; empty of a reference MMU.
+    pub fn wrong_parts(&self, at: usize, guess: &[u8]) -> Result<String, AllocError> {
+        let (alloc, mut text) = (self.alloc, String::new(self.alloc));
+        if self.quiz.teller == Teller::Mmu {
+            return Ok(text);
+        }
+        let word = word_of(self.line(at).as_bytes());
+        let reason = reason_of_text(alloc, word, guess, self.answer(at).as_bytes())?;
+        if let Reason::Parts(_) = &reason {
+            text.push_str("  ")?;
+            put_wrong(&mut text, word, &reason)?;
+            text.push_str("\n")?;
+        }
+        Ok(text)
     }
 
     /// Returns the lines of questions that were missed, each with its number and its right answer; empty if none were.
@@ -487,6 +539,7 @@ impl Game {
             line: self.line(at),
             answer: self.answer(at),
             form: self.form(at),
+            wanted: self.wanted(at),
             trace: self.trace(at),
             before: self.picture(at),
             after: self.picture(at.saturating_add(1)),

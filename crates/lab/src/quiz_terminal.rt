@@ -50,17 +50,18 @@ impl Game {
         Ok(text)
     }
 
-    /// Reads a guess; `None` at the end of the input.
+    /// Reads a guess at a line; `None` at the end of the input.
     fn read_guess<R: Read + Drop>(
         &self,
         reader: &mut BufReader<R>,
+        at: usize,
     ) -> Result<Option<Vec<u8>>, Fault> {
         let mut line = Vec::new(self.alloc);
         if read_line(reader, &mut line)? == 0 {
             return Ok(None);
         }
         let guess = without_feed(line.as_slice()).trim_ascii();
-        Ok(Some(self.parted(guess)?))
+        Ok(Some(self.completed(at, self.parted(guess)?)?))
     }
 
     /// Prints a question: the lines since the question before, and its line.
@@ -95,7 +96,7 @@ impl Game {
         ensures whole { IfOk result (λ _. S.whole screen.old → S.whole screen.new) }
     {
         self.print_prompt(screen, at)?;
-        let Some(guess) = self.read_guess(reader)? else {
+        let Some(guess) = self.read_guess(reader, at)? else {
             return Ok(None);
         };
         if self.is_formed(at, guess.as_slice())? {
@@ -105,7 +106,7 @@ impl Game {
         let text = format!(in self.alloc; "no answer: once more, in the form {wanted}\n")?;
         screen.out(text.as_str())?;
         self.print_prompt(screen, at)?;
-        self.read_guess(reader)
+        self.read_guess(reader, at)
     }
 
     /// Prints the answer to a line beside a guess that is not right, and why that is none.
@@ -117,6 +118,7 @@ impl Game {
             return screen.out(format!(in self.alloc; "not understood: it is {answer}\n")?.as_str());
         }
         screen.out(format!(in self.alloc; "wrong: it is {answer}\n")?.as_str())?;
+        screen.out(self.wrong_parts(at, guess)?.as_str())?;
         screen.out(self.reasons(at, guess)?.as_str())
     }
 

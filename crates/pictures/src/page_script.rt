@@ -52,7 +52,7 @@ function marksOf(state, entry, kind) {
   return [
     entry.flags.includes('C') && ['mark', 'C'],
     kind === 'shared mapping' && entry.flags.includes('D') && ['mark', 'D'],
-    frame && frame.count > 1 && ['mark', '×' + frame.count],
+    frame && frame.count > 1 && !hidesCounts() && ['mark', '×' + frame.count],
   ];
 }
 
@@ -202,21 +202,24 @@ function fileRows(state) {
   for (const it of state.files) {
     rows.push(row('file' + it.number, 'head', [['', 'file ' + it.number + ': ' + it.length + ' bytes' + (it.writable ? ', rw' : ', r')]], 3));
     const place = state.cell && state.cell.file === it.number ? state.cell : null;
-    if (it.bytes.length) rows.push(row('i' + it.number + '-' + it.offset, 'bytes quiet', [['', '+' + it.offset], ...bytesOf(it.bytes, place), lettersOf(it.bytes, place)], 7));
+    if (it.bytes.length && !hidesBytes()) rows.push(row('i' + it.number + '-' + it.offset, 'bytes quiet', [['', '+' + it.offset], ...bytesOf(it.bytes, place), lettersOf(it.bytes, place)], 7));
   }
   return rows;
 }
 
-// Whether the counts of frames are asked: by the line or, at lines without an answer, by the next one that has an answer.
-function asksCounts() {
-  const asked = steps.find((step, place) => place >= now && step.trace.answer !== undefined);
-  return quiz && asked !== undefined && (asked !== steps[now] || !open) && asked.trace.text.trim().split(/[^a-z]/)[0] === 'audit';
-}
+const isAudit = step => step.trace.answer !== undefined && step.trace.text.trim().split(/[^a-z]/)[0] === 'audit';
+
+// Whether a line of such a kind is still to be answered.
+const asksLater = isKind => quiz && steps.some((step, place) => (place > now || place === now && !open) && isKind(step));
+
+// Before the last audit is answered no page shows frames, whose counts it asks; before the last load or copy, no bytes.
+const hidesCounts = () => asksLater(isAudit);
+const hidesBytes = () => asksLater(step => step.trace.answer !== undefined && /^ *(load|copyin|show)/.test(step.trace.text));
 
 const PANELS = {
   processes: state => processRows(state),
   tables: (state, step, slot) => [...hartRows(state, step), ...treeRows(state, step, slot)],
-  frames: (state, step) => [...asksCounts() ? [row('frames', 'head', [['', 'frames: their counts are asked']], 8)] : frameRows(state, step), ...fileRows(state)],
+  frames: (state, step) => [...hidesCounts() ? [row('frames', 'head', [['', 'frames: their counts are asked']], 8)] : frameRows(state, step), ...fileRows(state)],
 };
 
 // Rows of a state, with those that the line changed marked, and those that are gone between them.
@@ -402,8 +405,10 @@ function traceRank(step, text) {
 
 function traceOf(step) {
   const told = open ? step.told : String.fromCharCode(10) + 'Space shows the answer, and what happens.';
-  return told.split(String.fromCharCode(10)).slice(1).filter(line => line).map(line => {
-    const node = document.createElement('div'), text = line.replace(/^ {8}/, '');
+  const hides = hidesCounts(), bare = line => hides ? line.replace(/, [0-9]+ references?$/, '') : line;
+  const isTold = text => text && !(hides && /^(frames|references|since)/.test(text));
+  return told.split(String.fromCharCode(10)).slice(1).map(line => bare(line).replace(/^ {8}/, '')).filter(isTold).map(text => {
+    const node = document.createElement('div');
     node.textContent = text;
     node.dataset.rank = traceRank(step, text);
     return node;
@@ -411,7 +416,8 @@ function traceOf(step) {
 }
 
 function draw() {
-  const step = steps[now], prose = step.trace.answer === undefined, state = open ? step.after : step.before;
+  const step = steps[now], prose = step.trace.answer === undefined;
+  const shown = open ? step.after : step.before, state = shown && hidesBytes() ? { ...shown, cell: undefined } : shown;
   at('top').classList.toggle('prose', prose);
   document.body.classList.toggle('early', !state);
   fill(at('lines'), linesOf(), fitLines);

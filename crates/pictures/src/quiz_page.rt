@@ -51,13 +51,12 @@ button { font: inherit }
 const END: &str = "<script>
 const at = name => document.getElementById(name);
 const questions = [...document.querySelectorAll('template')].map(it => ({
-  number: it.dataset.number, line: it.dataset.line, answer: it.dataset.answer, form: it.dataset.form,
+  number: it.dataset.number, line: it.dataset.line, answer: it.dataset.answer, form: it.dataset.form, wanted: it.dataset.wanted,
   lines: it.content.querySelector('.lines').textContent, trace: it.content.querySelector('.trace').textContent,
   before: it.content.querySelector('.before svg'), after: it.content.querySelector('.after svg')
 }));
-// The form of an outcome of the reference MMU, of which all that are permitted are asked.
-const outcome = 'pa 0x.. or fault N';
-const wanted = form => (form === outcome ? 'each permitted outcome, with ; between: ' : '') + form;
+// Whether a question is about the reference MMU, of whose outcomes all that are permitted are asked.
+const isOfMmu = question => question.wanted !== question.form;
 const missed = [];
 let now = 0, right = 0, answered = false, again = false, lines = '';
 const by = ['=>', 'walk', 'held', 'bare', 'misaligned', 'not', 'canonical'];
@@ -92,9 +91,11 @@ function hasForm(guess, form) {
   const parts = [...plainParts(guess)].map(it => it.split(' ')), forms = form.split(' or ').map(it => it.split(' '));
   return parts.length > 0 && parts.every(part => forms.some(words => words.length === part.length && words.every((word, place) => fitsWord(word, part[place]))));
 }
-// Between outcomes a comma is as good as a semicolon.
-function parted(guess, form) {
-  return form === outcome ? guess.replace(/,/g, ';') : guess;
+// Between outcomes a comma is as good as a semicolon. A number alone has the word before it that the form has.
+function parted(guess, question) {
+  if (isOfMmu(question)) return guess.replace(/,/g, ';');
+  const words = question.form.split(' ');
+  return /^(N|0x[.][.])$/.test(words[1]) && /^(0x[0-9a-f]+|[0-9]+)$/i.test(guess.trim()) ? words[0] + ' ' + guess : guess;
 }
 // Whether a line asks for the counts that a picture shows.
 const asksCounts = question => question.line.trim().split(/[^a-z]/)[0] === 'audit';
@@ -124,7 +125,7 @@ function show() {
   at('line').textContent = question.number + '  ' + question.line;
   at('place').textContent = 'question ' + (now + 1) + ' of ' + questions.length;
   at('score').textContent = right + ' right';
-  at('verdict').textContent = question.form === outcome ? 'Give ' + wanted(question.form) : '';
+  at('verdict').textContent = isOfMmu(question) ? 'Give ' + question.wanted : '';
   at('trace').textContent = '';
   at('guess').value = '';
   at('guess').disabled = false;
@@ -133,11 +134,11 @@ function show() {
   at('guess').focus();
 }
 function answer() {
-  const question = questions[now], guess = parted(at('guess').value, question.form);
+  const question = questions[now], guess = parted(at('guess').value, question);
   const good = isRight(guess, question.answer), formed = good || hasForm(guess, question.form);
   if (!formed && !again) {
     again = true;
-    at('verdict').textContent = 'no answer: once more, in the form ' + wanted(question.form);
+    at('verdict').textContent = 'no answer: once more, in the form ' + question.wanted;
     return;
   }
   answered = true;
@@ -185,6 +186,8 @@ pub struct QuizQuestion<'a> {
     pub answer: &'a str,
     /// The form of the answers to such a line.
     pub form: &'a str,
+    /// What a guess is to say: the form, or of a reference MMU that all outcomes are asked.
+    pub wanted: &'a str,
     /// What happens on the line.
     pub trace: &'a str,
     /// The machine before the line and after it, as SVG; empty if there is none.
@@ -228,6 +231,8 @@ pub fn put_question(out: &mut String, question: &QuizQuestion<'_>) -> Result<(),
     put_escaped(out, question.answer)?;
     out.push_str("\" data-form=\"")?;
     put_escaped(out, question.form)?;
+    out.push_str("\" data-wanted=\"")?;
+    put_escaped(out, question.wanted)?;
     out.push_str("\">\n")?;
     put_text(out, "lines", question.lines)?;
     put_text(out, "trace", question.trace)?;

@@ -107,6 +107,40 @@ fn fits_any(forms: &[u8], part: &[u8]) -> bool {
     fits && first_field(left).is_none()
 }
 
+/// Returns the word of a form whose first answer is a word and a number.
+fn word_of(form: &[u8]) -> Option<&[u8]> {
+    let (word, rest) = first_field(form)?;
+    match first_field(rest)? {
+        (b"N" | b"0x..", _) => Some(word),
+        _ => None,
+    }
+}
+
+/// Whether a text is a number alone.
+fn is_number(text: &[u8]) -> bool {
+    match first_field(text) {
+        Some((field, rest)) => number(field).is_some() && first_field(rest).is_none(),
+        None => false,
+    }
+}
+
+/// Returns a guess; one that is a number alone with the word before it, if the first answer of the form is a word and a number.
+///
+/// # Errors
+/// `AllocError`: the host is out of memory.
+pub fn completed(alloc: Global, form: &str, guess: Vec<u8>) -> Result<Vec<u8>, AllocError> {
+    let Some(word) = word_of(form.as_bytes()) else {
+        return Ok(guess);
+    };
+    if !is_number(guess.as_slice()) {
+        return Ok(guess);
+    }
+    let mut text = Vec::from_slice(alloc, word)?;
+    text.push(b' ')?;
+    text.extend_from_slice(guess.as_slice())?;
+    Ok(text)
+}
+
 /// Returns whether a guess is of a form, as `is_right` reads it: of outcomes of a reference MMU, whether each is.
 ///
 /// # Errors

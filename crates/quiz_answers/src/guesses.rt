@@ -84,42 +84,6 @@ fn add_part(alloc: Global, parts: &mut Vec<Vec<u8>>, part: &[u8]) -> Result<(), 
     Ok(())
 }
 
-/// Returns the outcomes of an answer, each in the form in which it is compared: small letters, numbers in decimal digits. What stands in
-/// parentheses is left out, and by what an outcome is known.
-///
-/// # Errors
-/// `AllocError`: the host is out of memory.
-pub fn plain_parts(alloc: Global, text: &[u8]) -> Result<Vec<Vec<u8>>, AllocError> {
-    let letters = text.to_ascii_lowercase(alloc)?;
-    let (mut parts, mut part) = (Vec::new(alloc), Vec::new(alloc));
-    let mut inside = false;
-    for byte in letters.as_slice() {
-        match *byte {
-            b'(' => inside = true,
-            b')' => inside = false,
-            _ if inside => {}
-            b';' => {
-                add_part(alloc, &mut parts, part.as_slice())?;
-                part.clear();
-            }
-            b'\t' | b'\r' | b'\n' | b',' => part.push(b' ')?,
-            other => part.push(other)?,
-        }
-    }
-    add_part(alloc, &mut parts, part.as_slice())?;
-    Ok(parts)
-}
-
-/// Returns whether each part is among others.
-fn are_among(parts: &[Vec<u8>], others: &[Vec<u8>]) -> bool {
-    for part in parts {
-        if !others.iter().any(|it| it.as_slice() == part.as_slice()) {
-            return false;
-        }
-    }
-    true
-}
-
 /// Returns the outcomes of an answer as they stand there, with what is in parentheses.
 fn whole_parts(alloc: Global, answer: &[u8]) -> Result<Vec<Vec<u8>>, AllocError> {
     let (mut parts, mut part) = (Vec::new(alloc), Vec::new(alloc));
@@ -135,6 +99,47 @@ fn whole_parts(alloc: Global, answer: &[u8]) -> Result<Vec<Vec<u8>>, AllocError>
     }
     parts.push(Vec::from_slice(alloc, part.as_slice().trim_ascii())?)?;
     Ok(parts)
+}
+
+/// Returns an outcome without what stands in parentheses, with a blank for each comma, tab and end of a line.
+fn without_parentheses(alloc: Global, part: &[u8]) -> Result<Vec<u8>, AllocError> {
+    let mut bare = Vec::new(alloc);
+    let mut inside = false;
+    for byte in part {
+        match *byte {
+            b'(' => inside = true,
+            b')' => inside = false,
+            _ if inside => {}
+            b'\t' | b'\r' | b'\n' | b',' => bare.push(b' ')?,
+            other => bare.push(other)?,
+        }
+    }
+    Ok(bare)
+}
+
+/// Returns the outcomes of an answer, each in the form in which it is compared: small letters, numbers in decimal digits. What stands in
+/// parentheses is left out, and by what an outcome is known.
+///
+/// # Errors
+/// `AllocError`: the host is out of memory.
+pub fn plain_parts(alloc: Global, text: &[u8]) -> Result<Vec<Vec<u8>>, AllocError> {
+    let letters = text.to_ascii_lowercase(alloc)?;
+    let mut parts = Vec::new(alloc);
+    'parts: for part in whole_parts(alloc, letters.as_slice())? {
+        let bare = without_parentheses(alloc, part.as_slice())?;
+        add_part(alloc, &mut parts, bare.as_slice())?;
+    }
+    Ok(parts)
+}
+
+/// Returns whether each part is among others.
+fn are_among(parts: &[Vec<u8>], others: &[Vec<u8>]) -> bool {
+    for part in parts {
+        if !others.iter().any(|it| it.as_slice() == part.as_slice()) {
+            return false;
+        }
+    }
+    true
 }
 
 /// Returns the outcomes of an answer of a reference MMU, as they stand there, that a guess does not have.

@@ -1,4 +1,4 @@
-use Rattle.lab.proofs.grade_files.print_objects.Given as goal
+use Rattle.lab.proofs.printed.print_csv.Given as goal
 
 -- all was printed so far
 abbrev pub invariant-grades : goal.invariant-grades
