@@ -161,9 +161,9 @@ fn reasons_are_told(rt: HostRuntime) -> Result<(), Fail> {
             ),
         ),
         (
-            "start 0 => a\u{a0}\\b\u{1b} and all that is in a line of more than forty\n",
+            "start 0 => a\u{a0}\\b\u{1b} and all that is in a line of more than sixty characters, to the end\n",
             Some(
-                "start: an answer of start is `slot N` or `refused N NAME ..`, not \"a\\u{a0}\\\\b\\u{1b} and all that is in a line of more ..\"",
+                "start: an answer of start is `slot N` or `refused N NAME ..`, not \"a\\u{a0}\\\\b\\u{1b} and all that is in a line of more .., to the end\"",
             ),
         ),
         (
