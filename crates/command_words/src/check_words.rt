@@ -1,7 +1,8 @@
-// `CheckWords`: a struct, what a command line of `check` says.
+// `CheckWords`: a struct, what a command line of `check` says; `CHECK`, its form.
 
-use crate::options::{files_of, flag, strict};
-use clap::{Arg, ArgAction, ArgMatches, Command};
+use crate::options::{FILE, STRICT, files_of};
+use crate::words::{Argument, FLAG, Word};
+use clap::{ArgAction, ArgMatches};
 use std::alloc::{AllocError, Global};
 
 /// Scripts are played, and the answers compared with those that their lines expect; files for threads are judged.
@@ -14,24 +15,16 @@ pub struct CheckWords {
     pub strict: bool,
 }
 
-/// Returns the word `check`.
-pub fn check<'a>(alloc: Global) -> Result<Command<'a>, AllocError> {
-    let files = Arg::new(alloc, "FILE")
-        .required(true)
-        .action(ArgAction::Append)
-        .num_args(1..)
-        .help("The scripts, or files for threads; - is standard input");
-    let bare = flag(
-        alloc,
-        "bare",
-        "Print the scripts without their => ANSWER, for xv6vm play",
-    );
-    Command::new(alloc, "check")
-        .about("Compare answers: a line may end with => ANSWER")
-        .arg(files)?
-        .arg(bare)?
-        .arg(strict(alloc))
-}
+/// The word `check`.
+pub static CHECK: Word = Word {
+    name: "check",
+    about: "Compare answers: a line may end with => ANSWER",
+    arguments: &[
+        row!(FILE; action: ArgAction::Append, values_from: Some(1), help: "The scripts, or files for threads; - is standard input"),
+        row!(FLAG; name: "bare", help: "Print the scripts without their => ANSWER, for xv6vm play"),
+        STRICT,
+    ],
+};
 
 impl CheckWords {
     /// Returns what the word is told.

@@ -1,18 +1,19 @@
-// `Task` (enum): what the program does, by its command line; `Task::parse` reads one. The words of more than a file have files of their own,
-// as `run_words.rt`.
+// `Task` (enum): what the program does, by its command line; `Task::parse` reads one; `command`, the words of the program. Those of more than
+// a file have files of their own, as `run_words.rt`.
 
-use crate::check_words::{CheckWords, check};
-use crate::draw_words::{DrawWords, draw};
-use crate::grade_words::{GradeWords, grade};
-use crate::inspect_words::{InspectWords, inspect};
-use crate::lab_words::{LabWords, labs};
+use crate::check_words::{CHECK, CheckWords};
+use crate::draw_words::{DRAW, DrawWords};
+use crate::grade_words::{GRADE, GradeWords};
+use crate::inspect_words::{INSPECT, InspectWords};
+use crate::lab_words::{LAB, LabWords};
 use crate::misuse::Misuse;
-use crate::mmu_words::{MmuWords, mmu};
-use crate::options::{SCRIPT, file, file_of};
-use crate::quiz_words::{QuizWords, quiz};
-use crate::run_words::{RunWords, run};
-use crate::trace_words::{TraceWords, trace};
-use crate::usertest_words::{UsertestWords, usertest};
+use crate::mmu_words::{MMU, MmuWords};
+use crate::options::{FILE, SCRIPT, file_of};
+use crate::quiz_words::{QUIZ, QuizWords};
+use crate::run_words::{RUN, RunWords};
+use crate::trace_words::{TRACE, TraceWords};
+use crate::usertest_words::{USERTEST, UsertestWords};
+use crate::words::{Argument, Word, command_of};
 use clap::{ArgMatches, Command};
 use std::alloc::{AllocError, Global};
 use version::VERSION;
@@ -38,92 +39,44 @@ pub enum Task {
     Quiz(QuizWords),
 }
 
-/// Returns the word `elf`.
-fn elf<'a>(alloc: Global) -> Result<Command<'a>, AllocError> {
-    Command::new(alloc, "elf")
-        .about("Print the line of a script that declares an ELF file")
-        .arg(file(alloc, "The ELF file; - is standard input"))
-}
+/// The word `show`.
+static SHOW: Word = Word {
+    name: "show",
+    about: "Play a script that may also ask: regions S, vmprint S, tlb H, frames",
+    arguments: &[SCRIPT],
+};
 
-/// Returns the word `show`.
-fn show<'a>(alloc: Global) -> Result<Command<'a>, AllocError> {
-    Command::new(alloc, "show")
-        .about("Play a script that may also ask: regions S, vmprint S, tlb H, frames")
-        .arg(file(alloc, SCRIPT))
-}
+/// The word `repl`.
+static REPL: Word = Word {
+    name: "repl",
+    about: "Play the lines of standard input one by one; ? tells the lines",
+    arguments: &[],
+};
 
-/// Returns the word `repl`.
-fn repl<'a>(alloc: Global) -> Command<'a> {
-    Command::new(alloc, "repl").about(
-        "Play the lines of standard input one by one; ? tells the lines",
-    )
-}
-
-/// Adds the words that play scripts.
-fn with_scripts<'a>(alloc: Global, words: Command<'a>) -> Result<Command<'a>, AllocError> {
-    words
-        .subcommand(run(alloc)?)?
-        .subcommand(check(alloc)?)?
-        .subcommand(grade(alloc)?)?
-        .subcommand(trace(alloc)?)
-}
-
-/// Adds the words that show the machine.
-fn with_looks<'a>(alloc: Global, words: Command<'a>) -> Result<Command<'a>, AllocError> {
-    words
-        .subcommand(draw(alloc)?)?
-        .subcommand(show(alloc)?)?
-        .subcommand(repl(alloc))
-}
-
-/// Adds the words that judge others.
-fn with_judges<'a>(alloc: Global, words: Command<'a>) -> Result<Command<'a>, AllocError> {
-    words
-        .subcommand(mmu(alloc)?)?
-        .subcommand(inspect(alloc)?)?
-        .subcommand(elf(alloc)?)
-}
-
-/// Adds the words that make something.
-fn with_makers<'a>(alloc: Global, words: Command<'a>) -> Result<Command<'a>, AllocError> {
-    words
-        .subcommand(usertest(alloc)?)?
-        .subcommand(labs(alloc)?)?
-        .subcommand(quiz(alloc)?)
-}
+/// The word `elf`.
+static ELF: Word = Word {
+    name: "elf",
+    about: "Print the line of a script that declares an ELF file",
+    arguments: &[row!(FILE; help: "The ELF file; - is standard input")],
+};
 
 /// Returns the form of the command line.
 fn command<'a>(alloc: Global) -> Result<Command<'a>, AllocError> {
-    let words = Command::new(alloc, "xv6lab")
+    // in the order of help
+    let words = [
+        &RUN, &CHECK, &GRADE, &TRACE, &DRAW, &SHOW, &REPL, &MMU, &INSPECT, &ELF, &USERTEST, &LAB,
+        &QUIZ,
+    ];
+    let mut program = Command::new(alloc, "xv6lab")
         .version(VERSION)
         .about(
             "Plays scripts against the virtual memory of xv6-riscv, for people. docs/WORKBENCH.md has an example of each word",
         )
         .subcommand_required(true);
-    let words = with_scripts(alloc, words)?;
-    let words = with_looks(alloc, words)?;
-    let words = with_judges(alloc, words)?;
-    with_makers(alloc, words)
-}
-
-/// Returns what a word says that makes something, or else what `repl` says.
-fn maker_of(alloc: Global, name: &str, given: &ArgMatches<'_>) -> Result<Task, Misuse> {
-    Ok(match name {
-        "usertest" => Task::Usertest(UsertestWords::of(alloc, given)?),
-        "lab" => Task::Lab(LabWords::of(alloc, given)?),
-        "quiz" => Task::Quiz(QuizWords::of(alloc, given)?),
-        _ => Task::Repl,
-    })
-}
-
-/// Returns what a word says that judges others, or makes something.
-fn judge_of(alloc: Global, name: &str, given: &ArgMatches<'_>) -> Result<Task, Misuse> {
-    Ok(match name {
-        "mmu" => Task::Mmu(MmuWords::of(alloc, given)?),
-        "inspect" => Task::Inspect(InspectWords::of(alloc, given)?),
-        "elf" => Task::Elf(file_of(alloc, given)?),
-        _ => return maker_of(alloc, name, given),
-    })
+    'words: for word in words.iter() {
+        program = program.subcommand(command_of(alloc, *word)?)?;
+    }
+    Ok(program)
 }
 
 /// Returns what a word says.
@@ -138,7 +91,13 @@ fn task_of(alloc: Global, name: &str, given: &ArgMatches<'_>) -> Result<Task, Mi
         "trace" => Task::Trace(TraceWords::of(alloc, given)?),
         "draw" => Task::Draw(DrawWords::of(alloc, given)?),
         "show" => Task::Show(file_of(alloc, given)?),
-        _ => return judge_of(alloc, name, given),
+        "mmu" => Task::Mmu(MmuWords::of(alloc, given)?),
+        "inspect" => Task::Inspect(InspectWords::of(alloc, given)?),
+        "elf" => Task::Elf(file_of(alloc, given)?),
+        "usertest" => Task::Usertest(UsertestWords::of(alloc, given)?),
+        "lab" => Task::Lab(LabWords::of(alloc, given)?),
+        "quiz" => Task::Quiz(QuizWords::of(alloc, given)?),
+        _ => Task::Repl,
     })
 }
 

@@ -1,7 +1,8 @@
-// `DrawWords`: a struct, what a command line of `draw` says.
+// `DrawWords`: a struct, what a command line of `draw` says; `DRAW`, its form.
 
-use crate::options::{SCRIPT, file, file_of, flag, line};
-use clap::{Arg, ArgAction, ArgMatches, Command};
+use crate::options::{LINE, OUT, SCRIPT, file_of, text_of};
+use crate::words::{Argument, FLAG, OPTION, Word};
+use clap::ArgMatches;
 use std::alloc::{AllocError, Global};
 
 /// The machine of a script is drawn.
@@ -20,61 +21,28 @@ pub struct DrawWords {
     pub title: String,
 }
 
-/// Returns the option `-o`.
-fn out<'a>(alloc: Global) -> Arg<'a> {
-    Arg::new(alloc, "OUT")
-        .short('o')
-        .long("out")
-        .required(true)
-        .action(ArgAction::Set)
-        .value_name("OUT")
-        .help("The file to write; - is standard output")
-}
-
-/// Returns the option `--title`.
-fn title<'a>(alloc: Global) -> Result<Arg<'a>, AllocError> {
-    Arg::new(alloc, "title")
-        .long("title")
-        .action(ArgAction::Set)
-        .value_name("TEXT")
-        .help("The title of the page; else FILE is")
-        .requires_arg("steps")
-}
-
-/// Adds the options of a page.
-fn with_page<'a>(alloc: Global, word: Command<'a>) -> Result<Command<'a>, AllocError> {
-    let steps = flag(
-        alloc,
-        "steps",
-        "Write a page (HTML) to step from line to line, in place of a picture (SVG)",
-    );
-    let line = line(alloc, "Open the page at line N of the file").requires_arg("steps")?;
-    let quiz = flag(alloc, "quiz", "Show the answer of each line only at a key").requires_arg(
-        "steps",
-    )?;
-    let word = word.arg(steps)?.arg(line)?;
-    word.arg(quiz)?.arg(title(alloc)?)
-}
-
-/// Returns the word `draw`.
-pub fn draw<'a>(alloc: Global) -> Result<Command<'a>, AllocError> {
-    let word = Command::new(alloc, "draw")
-        .about("Draw the machine after the last line: regions, pages, tables, frames, TLBs")
-        .arg(file(alloc, SCRIPT))?
-        .arg(out(alloc))?;
-    with_page(alloc, word)
-}
+/// The word `draw`.
+pub static DRAW: Word = Word {
+    name: "draw",
+    about: "Draw the machine after the last line: regions, pages, tables, frames, TLBs",
+    arguments: &[
+        SCRIPT,
+        row!(OUT; value_name: Some("OUT"), required: true, help: "The file to write; - is standard output"),
+        row!(FLAG; name: "steps", help: "Write a page (HTML) to step from line to line, in place of a picture (SVG)"),
+        row!(LINE; requires_all: &["steps"], help: "Open the page at line N of the file"),
+        row!(FLAG; name: "quiz", requires_all: &["steps"], help: "Show the answer of each line only at a key"),
+        row!(OPTION; name: "title", value_name: Some("TEXT"), requires_all: &["steps"], help: "The title of the page; else FILE is"),
+    ],
+};
 
 impl DrawWords {
     /// Returns what the word is told.
     pub fn of(alloc: Global, given: &ArgMatches<'_>) -> Result<DrawWords, AllocError> {
-        let out = given.get_str("OUT").unwrap_or("-");
         let file = file_of(alloc, given)?;
-        let title = given.get_str("title").unwrap_or(file.as_str());
         Ok(DrawWords {
-            title: String::from_str(alloc, title)?,
+            title: text_of(alloc, given, "title", file.as_str())?,
             file,
-            out: String::from_str(alloc, out)?,
+            out: text_of(alloc, given, "out", "-")?,
             steps: given.get_flag("steps"),
             line: given.get_one::<u64>("line"),
             quiz: given.get_flag("quiz"),

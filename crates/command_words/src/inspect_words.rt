@@ -1,8 +1,9 @@
-// `InspectWords`: a struct, what a command line of `inspect` says.
+// `InspectWords`: a struct, what a command line of `inspect` says; `INSPECT`, its form.
 
 use crate::misuse::Misuse;
-use crate::options::{file, file_of, flag, json, number_of};
-use clap::{Arg, ArgAction, ArgMatches, Command};
+use crate::options::{FILE, JSON, file_of, number_of};
+use crate::words::{Argument, FLAG, OPTION, Word};
+use clap::{ArgAction, ArgMatches};
 use std::alloc::{AllocError, Global};
 use sv39_entry::{KERNBASE, PAGE_SIZE};
 use walk_rules::{AdScheme, Extensions};
@@ -22,42 +23,21 @@ pub struct InspectWords {
     pub json: bool,
 }
 
-/// Returns the word `inspect`.
-pub fn inspect<'a>(alloc: Global) -> Result<Command<'a>, AllocError> {
-    let at = Arg::new(alloc, "at")
-        .long("at")
-        .action(ArgAction::Set)
-        .value_name("ADDRESS")
-        .help("The physical address of the first byte, 0x80000000 if none is given");
-    let satp = Arg::new(alloc, "satp")
-        .long("satp")
-        .required(true)
-        .action(ArgAction::Append)
-        .value_name("WORD")
-        .help("A value of satp; once for each address space");
-    Command::new(alloc, "inspect")
-        .about(
-            "Look into a kernel: page tables, mappings and what is suspicious, in a dump of memory",
-        )
-        .arg(file(
-            alloc,
-            "The dump, as pmemsave of QEMU writes it; - is standard input",
-        ))?
-        .arg(at)?
-        .arg(satp)?
-        .arg(flag(
-            alloc,
-            "svade",
-            "Tell leaves with A clear, or with W and D clear, too",
-        ))?
-        .arg(flag(alloc, "svnapot", "The hart has Svnapot: leaves of 64 KiB"))?
-        .arg(flag(
-            alloc,
-            "svpbmt",
-            "The hart has Svpbmt: memory types in leaves",
-        ))?
-        .arg(json(alloc, "Print JSON objects, one a line"))
-}
+/// The word `inspect`.
+pub static INSPECT: Word = Word {
+    name: "inspect",
+    about: "Look into a kernel: page tables, mappings and what is suspicious, in a dump of memory",
+    arguments: &[
+        row!(FILE; help: "The dump, as pmemsave of QEMU writes it; - is standard input"),
+        row!(OPTION; name: "at", value_name: Some("ADDRESS"), help: "The physical address of the first byte, 0x80000000 if none is given"),
+        row!(OPTION; name: "satp", value_name: Some("WORD"), action: ArgAction::Append, required: true,
+            help: "A value of satp; once for each address space"),
+        row!(FLAG; name: "svade", help: "Tell leaves with A clear, or with W and D clear, too"),
+        row!(FLAG; name: "svnapot", help: "The hart has Svnapot: leaves of 64 KiB"),
+        row!(FLAG; name: "svpbmt", help: "The hart has Svpbmt: memory types in leaves"),
+        row!(JSON; help: "Print JSON objects, one a line"),
+    ],
+};
 
 /// Returns the physical page number of the first byte of a dump.
 ///

@@ -2,6 +2,11 @@
 //! of what it is told, as `CheckWords` of `check`.
 #![tactic(auto)]
 
+/// Writes an argument of a word, as another (`FLAG`, say) but for some fields.
+macro_rules! row {
+    ($base:expr; $($field:ident: $value:expr),+) => { Argument { $($field: $value,)+ ..$base } };
+}
+
 mod check_words;
 mod command_line;
 mod draw_words;
@@ -15,6 +20,7 @@ mod quiz_words;
 mod run_words;
 mod trace_words;
 mod usertest_words;
+mod words;
 
 pub use check_words::CheckWords;
 pub use command_line::Task;

@@ -1,7 +1,8 @@
-// `MmuWords`: a struct, what a command line of `mmu` says.
+// `MmuWords`: a struct, what a command line of `mmu` says; `MMU`, its form.
 
-use crate::options::{file, file_of, flag, json};
-use clap::{ArgMatches, Command};
+use crate::options::{FILE, JSON, file_of};
+use crate::words::{Argument, FLAG, Word};
+use clap::ArgMatches;
 use std::alloc::{AllocError, Global};
 
 /// Lines that ask a reference MMU are answered.
@@ -14,20 +15,17 @@ pub struct MmuWords {
     pub shrink: bool,
 }
 
-/// Returns the word `mmu`.
-pub fn mmu<'a>(alloc: Global) -> Result<Command<'a>, AllocError> {
-    let shrink = flag(
-        alloc,
-        "shrink",
-        "Print the fewest lines by which the first that is NOT permitted stays so",
-    )
-    .conflicts_with("json")?;
-    Command::new(alloc, "mmu")
-        .about("Answer lines that ask a reference MMU: which outcomes may an access have")
-        .arg(file(alloc, "The lines; - is standard input"))?
-        .arg(json(alloc, "Answer by JSON objects"))?
-        .arg(shrink)
-}
+/// The word `mmu`.
+pub static MMU: Word = Word {
+    name: "mmu",
+    about: "Answer lines that ask a reference MMU: which outcomes may an access have",
+    arguments: &[
+        row!(FILE; help: "The lines; - is standard input"),
+        row!(JSON; help: "Answer by JSON objects"),
+        row!(FLAG; name: "shrink", conflicts_with_all: &["json"],
+            help: "Print the fewest lines by which the first that is NOT permitted stays so"),
+    ],
+};
 
 impl MmuWords {
     /// Returns what the word is told.

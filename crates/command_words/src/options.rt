@@ -1,28 +1,60 @@
-// Options that several words of the program have, and what is read of them.
+// Arguments that several words of the program have, and how the values of arguments are read.
 
 use crate::misuse::Misuse;
-use clap::{Arg, ArgAction, ArgMatches, value_parser};
+use crate::words::{Argument, FLAG, OPTION, POSITIONAL};
+use clap::ArgMatches;
+use clap::builder::ValueParser;
 use line_fields::wrong_number;
 use script_reader::number;
 use std::alloc::{AllocError, Global};
 
-/// The help of FILE for a word that takes one script.
-pub const SCRIPT: &str = "The script; - is standard input";
+/// The file of a word that takes one; a row adds the help.
+pub const FILE: Argument = row!(POSITIONAL; name: "FILE", required: true);
 
-/// Returns the argument FILE of a word that takes one file.
-pub fn file<'a>(alloc: Global, help: &'a str) -> Arg<'a> {
-    Arg::new(alloc, "FILE")
-        .required(true)
-        .action(ArgAction::Set)
-        .help(help)
+/// The file of a word that takes one script.
+pub const SCRIPT: Argument = row!(FILE; help: "The script; - is standard input");
+
+/// The flag by which a refusal ends what is played.
+pub const STRICT: Argument =
+    row!(FLAG; name: "strict", help: "Stop at the first refusal that no => ANSWER expects");
+
+/// The flag by which JSON is printed; a row adds the help.
+pub const JSON: Argument = row!(FLAG; name: "json");
+
+/// An option with a number of `u64`; a row adds the name, the value's name and the help.
+pub const NUMBER: Argument = row!(OPTION; value_parser: ValueParser::Unsigned(0, u64::MAX));
+
+/// The number of a line; a row adds the help.
+pub const LINE: Argument = row!(NUMBER; name: "line", value_name: Some("N"));
+
+/// The file that is written; a row adds the value's name and the help.
+pub const OUT: Argument = row!(OPTION; name: "out", short: Some('o'));
+
+/// Returns the value of an argument, or else `default`.
+pub fn text_of(
+    alloc: Global,
+    given: &ArgMatches<'_>,
+    name: &str,
+    default: &str,
+) -> Result<String, AllocError> {
+    String::from_str(alloc, given.get_str(name).unwrap_or(default))
 }
 
-/// Returns the path of the word's only file, or of the first; `-` if there is none.
-pub fn file_of(alloc: Global, given: &ArgMatches<'_>) -> Result<String, AllocError> {
-    match given.get_strs("FILE") {
-        Some([file, ..]) => String::from_str(alloc, file),
-        _ => String::from_str(alloc, "-"),
+/// Returns the value of an argument, if it has one.
+pub fn given_text(
+    alloc: Global,
+    given: &ArgMatches<'_>,
+    name: &str,
+) -> Result<Option<String>, AllocError> {
+    match given.get_str(name) {
+        Some(value) => Ok(Some(String::from_str(alloc, value)?)),
+        None => Ok(None),
     }
+}
+
+/// Returns the path of the word's only file; `-` if there is none.
+pub fn file_of(alloc: Global, given: &ArgMatches<'_>) -> Result<String, AllocError> {
+    text_of(alloc, given, "FILE", "-")
 }
 
 /// Returns the paths of the word's files.
@@ -34,47 +66,6 @@ pub fn files_of(alloc: Global, given: &ArgMatches<'_>) -> Result<Vec<String>, Al
         }
     }
     Ok(files)
-}
-
-/// Returns a flag, by its name.
-pub fn flag<'a>(alloc: Global, name: &'a str, help: &'a str) -> Arg<'a> {
-    Arg::new(alloc, name)
-        .long(name)
-        .action(ArgAction::SetTrue)
-        .help(help)
-}
-
-/// Returns an option with a number, without its sort.
-pub fn number_option<'a>(alloc: Global, id: &'a str, long: &'a str, help: &'a str) -> Arg<'a> {
-    Arg::new(alloc, id)
-        .long(long)
-        .action(ArgAction::Set)
-        .value_name(id)
-        .help(help)
-}
-
-/// Returns the flag `--json`.
-pub fn json<'a>(alloc: Global, help: &'a str) -> Arg<'a> {
-    flag(alloc, "json", help)
-}
-
-/// Returns the option `--line`.
-pub fn line<'a>(alloc: Global, help: &'a str) -> Arg<'a> {
-    Arg::new(alloc, "line")
-        .long("line")
-        .action(ArgAction::Set)
-        .value_name("N")
-        .value_parser(value_parser!(u64))
-        .help(help)
-}
-
-/// Returns the flag `--strict`.
-pub fn strict<'a>(alloc: Global) -> Arg<'a> {
-    flag(
-        alloc,
-        "strict",
-        "Stop at the first refusal that no => ANSWER expects",
-    )
 }
 
 /// Returns the number of a word of the command line.

@@ -1,12 +1,14 @@
-// `QuizWords`: a struct, what a command line of `quiz` says.
+// `QuizWords`: a struct, what a command line of `quiz` says; `QuizForm`, what is done with a quiz; `QUIZ`, the form of the word.
 
-use crate::options::{flag, number_option};
-use clap::{Arg, ArgAction, ArgMatches, Command, value_parser};
+use crate::options::{NUMBER, OUT, text_of};
+use crate::words::{Argument, FLAG, OPTION, Word};
+use clap::ArgMatches;
+use clap::builder::ValueParser;
 use quizzes::Subject;
 use std::alloc::{AllocError, Global};
 
 /// The names of the subjects.
-static SUBJECTS: [&str; 5] = ["cow", "lazy", "mmap", "tlb", "walk"];
+const SUBJECTS: ValueParser<'static> = ValueParser::Names(&["cow", "lazy", "mmap", "tlb", "walk"]);
 
 /// What is done with a quiz.
 #[derive(Clone, Copy)]
@@ -33,67 +35,22 @@ pub struct QuizWords {
     pub out: String,
 }
 
-/// Returns the option `-o` of `quiz`.
-fn page_file<'a>(alloc: Global) -> Result<Arg<'a>, AllocError> {
-    Arg::new(alloc, "OUT")
-        .short('o')
-        .long("out")
-        .action(ArgAction::Set)
-        .value_name("OUT")
-        .help("The page to write; - is standard output")
-        .requires_arg("page")
-}
-
-/// Returns the word `quiz`.
-pub fn quiz<'a>(alloc: Global) -> Result<Command<'a>, AllocError> {
-    let about = Arg::new(alloc, "SUBJECT")
-        .long("about")
-        .required(true)
-        .action(ArgAction::Set)
-        .value_name("SUBJECT")
-        .value_parser(SUBJECTS.as_slice())
-        .help(
-            "What the questions are about: copy-on-write forks, a lazy heap, mapped files, TLB entries, walks of page tables",
-        );
-    let seed = number_option(alloc, "N", "seed", "The seed: each has a quiz of its own")
-        .required(true)
-        .value_parser(value_parser!(u64));
-    let count = number_option(alloc, "Q", "count", "How many questions there are at most")
-        .value_parser(value_parser!(u64).range(1..=12))
-        .default_value("5");
-    let page = flag(
-        alloc,
-        "page",
-        "Write a page (HTML) that asks, in place of asking here",
-    )
-    .requires_arg("OUT")?;
-    let script = flag(
-        alloc,
-        "script",
-        "Print the script, with a blank for each question",
-    )
-    .conflicts_with("page")?;
-    let answers = flag(alloc, "answers", "Print the script with all answers").conflicts_with(
-        "page",
-    )?;
-    Command::new(alloc, "quiz")
-        .about("Ask questions about a random script, and explain each answer")
-        .arg(about)?
-        .arg(seed)?
-        .arg(count)?
-        .arg(page)?
-        .arg(page_file(alloc)?)?
-        .arg(script)?
-        .arg(answers)
-}
-
-/// Returns the subject, whose name was checked.
-fn subject_of(given: &ArgMatches<'_>) -> Subject {
-    match given.get_str("SUBJECT") {
-        Some(name) => Subject::of_name(name).unwrap_or(Subject::Cow),
-        None => Subject::Cow,
-    }
-}
+/// The word `quiz`.
+pub static QUIZ: Word = Word {
+    name: "quiz",
+    about: "Ask questions about a random script, and explain each answer",
+    arguments: &[
+        row!(OPTION; name: "about", value_name: Some("SUBJECT"), value_parser: SUBJECTS, required: true,
+            help: "What the questions are about: copy-on-write forks, a lazy heap, mapped files, TLB entries, walks of page tables"),
+        row!(NUMBER; name: "seed", value_name: Some("N"), required: true, help: "The seed: each has a quiz of its own"),
+        row!(OPTION; name: "count", value_name: Some("Q"), value_parser: ValueParser::Unsigned(1, 12), default_value: Some("5"),
+            help: "How many questions there are at most"),
+        row!(FLAG; name: "page", requires_all: &["out"], help: "Write a page (HTML) that asks, in place of asking here"),
+        row!(OUT; value_name: Some("OUT"), requires_all: &["page"], help: "The page to write; - is standard output"),
+        row!(FLAG; name: "script", conflicts_with_all: &["page"], help: "Print the script, with a blank for each question"),
+        row!(FLAG; name: "answers", conflicts_with_all: &["page"], help: "Print the script with all answers"),
+    ],
+};
 
 /// Returns what is done with the quiz.
 fn form_of(given: &ArgMatches<'_>) -> QuizForm {
@@ -109,16 +66,16 @@ fn form_of(given: &ArgMatches<'_>) -> QuizForm {
 }
 
 impl QuizWords {
-    /// Returns what the word is told.
+    /// Returns what the word is told. The name of the subject and the numbers were checked.
     pub fn of(alloc: Global, given: &ArgMatches<'_>) -> Result<QuizWords, AllocError> {
-        let out = given.get_str("OUT").unwrap_or("-");
-        let count = given.get_one::<u64>("Q").unwrap_or(5);
+        let subject = given.get_str("about").unwrap_or("");
+        let count = given.get_one::<u64>("count").unwrap_or(5);
         Ok(QuizWords {
-            subject: subject_of(given),
-            seed: given.get_one::<u64>("N").unwrap_or(0),
+            subject: Subject::of_name(subject).unwrap_or(Subject::Cow),
+            seed: given.get_one::<u64>("seed").unwrap_or(0),
             count: usize::try_from(count).unwrap_or(12),
             form: form_of(given),
-            out: String::from_str(alloc, out)?,
+            out: text_of(alloc, given, "out", "-")?,
         })
     }
 }

@@ -1,7 +1,8 @@
-// `RunWords`: a struct, what a command line of `run` says; `Telling`, what is told beside the answers.
+// `RunWords`: a struct, what a command line of `run` says; `Telling`, what is told beside the answers; `RUN`, the form of the word.
 
-use crate::options::{SCRIPT, file, file_of, flag, strict};
-use clap::{ArgMatches, Command};
+use crate::options::{SCRIPT, STRICT, file_of};
+use crate::words::{Argument, FLAG, Word};
+use clap::ArgMatches;
 use std::alloc::{AllocError, Global};
 
 /// What `run` prints of answers beside them.
@@ -20,19 +21,16 @@ pub struct RunWords {
     pub telling: Telling,
 }
 
-/// Returns the word `run`.
-pub fn run<'a>(alloc: Global) -> Result<Command<'a>, AllocError> {
-    let explain = flag(
-        alloc,
-        "explain",
-        "Tell below each answer that is no plain success why, and which line would be right",
-    );
-    Command::new(alloc, "run")
-        .about("Play a script and print each line with its answer")
-        .arg(file(alloc, SCRIPT))?
-        .arg(explain)?
-        .arg(strict(alloc))
-}
+/// The word `run`.
+pub static RUN: Word = Word {
+    name: "run",
+    about: "Play a script and print each line with its answer",
+    arguments: &[
+        SCRIPT,
+        row!(FLAG; name: "explain", help: "Tell below each answer that is no plain success why, and which line would be right"),
+        STRICT,
+    ],
+};
 
 impl RunWords {
     /// Returns what the word is told.

@@ -1,7 +1,8 @@
-// `TraceWords`: a struct, what a command line of `trace` says.
+// `TraceWords`: a struct, what a command line of `trace` says; `TRACE`, its form.
 
-use crate::options::{SCRIPT, file, file_of, json, line};
-use clap::{ArgMatches, Command};
+use crate::options::{JSON, LINE, SCRIPT, file_of};
+use crate::words::{Argument, Word};
+use clap::ArgMatches;
 use std::alloc::{AllocError, Global};
 
 /// A script is played, and it is printed what happens on its lines.
@@ -14,14 +15,16 @@ pub struct TraceWords {
     pub line: Option<u64>,
 }
 
-/// Returns the word `trace`.
-pub fn trace<'a>(alloc: Global) -> Result<Command<'a>, AllocError> {
-    Command::new(alloc, "trace")
-        .about("See what happens on each line: regions, rules, walks, TLBs, frames")
-        .arg(file(alloc, SCRIPT))?
-        .arg(json(alloc, "Print one JSON object a line"))?
-        .arg(line(alloc, "Print only what happens on line N of the file"))
-}
+/// The word `trace`.
+pub static TRACE: Word = Word {
+    name: "trace",
+    about: "See what happens on each line: regions, rules, walks, TLBs, frames",
+    arguments: &[
+        SCRIPT,
+        row!(JSON; help: "Print one JSON object a line"),
+        row!(LINE; help: "Print only what happens on line N of the file"),
+    ],
+};
 
 impl TraceWords {
     /// Returns what the word is told.

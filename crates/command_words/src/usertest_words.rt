@@ -1,12 +1,14 @@
-// `UsertestWords`: a struct, what a command line of `usertest` says; `Tests`, which tests a program has.
+// `UsertestWords`: a struct, what a command line of `usertest` says; `Tests`, which tests a program has; `USERTEST`, the form of the word.
 
-use crate::options::{flag, number_option};
-use clap::{Arg, ArgAction, ArgMatches, Command, value_parser};
+use crate::options::{NUMBER, OUT, text_of};
+use crate::words::{Argument, FLAG, OPTION, Word};
+use clap::ArgMatches;
+use clap::builder::ValueParser;
 use std::alloc::{AllocError, Global};
 use usertest_rows::Kind;
 
 /// The names of the kinds of tests.
-static KINDS: [&str; 4] = ["cow", "lazy", "mmap", "mixed"];
+const KINDS: ValueParser<'static> = ValueParser::Names(&["cow", "lazy", "mmap", "mixed"]);
 
 /// The tests of a C program.
 #[derive(Clone, Copy)]
@@ -45,78 +47,34 @@ pub struct UsertestWords {
     pub out: String,
 }
 
-/// Returns the option `-o` of `usertest`.
-fn program<'a>(alloc: Global) -> Arg<'a> {
-    Arg::new(alloc, "FILE.c")
-        .short('o')
-        .long("out")
-        .action(ArgAction::Set)
-        .value_name("FILE.c")
-        .help(
-            "The C file to write, and beside it the scripts; by default KIND-N.c, or KIND-FIRST-LAST.c. - is standard output, without scripts",
-        )
-}
+/// The word `usertest`.
+pub static USERTEST: Word = Word {
+    name: "usertest",
+    about: "Write a C program that tests an xv6 kernel, and the scripts that it plays",
+    arguments: &[
+        row!(OPTION; name: "kind", value_name: Some("KIND"), value_parser: KINDS, required: true,
+            help: "What the tests ask: copy-on-write forks, a lazy heap, mappings, or all three"),
+        row!(NUMBER; name: "seed", value_name: Some("N"), required: true, help: "The seed of the first test"),
+        row!(OPTION; name: "count", value_name: Some("C"), value_parser: ValueParser::Unsigned(1, 1000), default_value: Some("1"),
+            help: "How many tests the file has, with the seeds from N on"),
+        // a u32 is signed to clap
+        row!(OPTION; name: "steps", value_name: Some("K"), value_parser: ValueParser::Signed(1, 1000), default_value: Some("40"),
+            help: "The steps of a test, but for its beginning and end"),
+        row!(FLAG; name: "no-offset", help: "Ask mmap with offset 0 alone"),
+        row!(FLAG; name: "script", help: "Print the script of the first test, and write nothing"),
+        row!(OUT; value_name: Some("FILE.c"),
+            help: "The C file to write, and beside it the scripts; by default KIND-N.c, or KIND-FIRST-LAST.c. - is standard output, without scripts"),
+    ],
+};
 
-/// Returns the word `usertest`.
-pub fn usertest<'a>(alloc: Global) -> Result<Command<'a>, AllocError> {
-    let kind = Arg::new(alloc, "KIND")
-        .long("kind")
-        .required(true)
-        .action(ArgAction::Set)
-        .value_name("KIND")
-        .value_parser(KINDS.as_slice())
-        .help("What the tests ask: copy-on-write forks, a lazy heap, mappings, or all three");
-    let seed = number_option(alloc, "N", "seed", "The seed of the first test")
-        .required(true)
-        .value_parser(value_parser!(u64));
-    let count = number_option(
-        alloc,
-        "C",
-        "count",
-        "How many tests the file has, with the seeds from N on",
-    )
-    .value_parser(value_parser!(u64).range(1..=1000))
-    .default_value("1");
-    let steps = number_option(
-        alloc,
-        "K",
-        "steps",
-        "The steps of a test, but for its beginning and end",
-    )
-    .value_parser(value_parser!(u32).range(1..=1000))
-    .default_value("40");
-    let no_offset = flag(alloc, "no-offset", "Ask mmap with offset 0 alone");
-    let script = flag(
-        alloc,
-        "script",
-        "Print the script of the first test, and write nothing",
-    );
-    Command::new(alloc, "usertest")
-        .about("Write a C program that tests an xv6 kernel, and the scripts that it plays")
-        .arg(kind)?
-        .arg(seed)?
-        .arg(count)?
-        .arg(steps)?
-        .arg(no_offset)?
-        .arg(script)?
-        .arg(program(alloc))
-}
-
-/// Returns what the tests ask, whose name was checked.
-fn kind_of(given: &ArgMatches<'_>) -> Kind {
-    match given.get_str("KIND") {
-        Some(name) => Kind::of_name(name).unwrap_or(Kind::Cow),
-        None => Kind::Cow,
-    }
-}
-
-/// Returns the tests that are asked for. Their numbers were checked.
+/// Returns the tests that are asked for. Their kind and numbers were checked.
 fn tests_of(given: &ArgMatches<'_>) -> Tests {
+    let kind = given.get_str("kind").unwrap_or("");
     Tests {
-        kind: kind_of(given),
-        seed: given.get_one::<u64>("N").unwrap_or(0),
-        count: given.get_one::<u64>("C").unwrap_or(1),
-        steps: given.get_one::<u32>("K").unwrap_or(40),
+        kind: Kind::of_name(kind).unwrap_or(Kind::Cow),
+        seed: given.get_one::<u64>("seed").unwrap_or(0),
+        count: given.get_one::<u64>("count").unwrap_or(1),
+        steps: given.get_one::<u32>("steps").unwrap_or(40),
         offsets: !given.get_flag("no-offset"),
         script: given.get_flag("script"),
     }
@@ -125,10 +83,9 @@ fn tests_of(given: &ArgMatches<'_>) -> Tests {
 impl UsertestWords {
     /// Returns what the word is told.
     pub fn of(alloc: Global, given: &ArgMatches<'_>) -> Result<UsertestWords, AllocError> {
-        let out = given.get_str("FILE.c").unwrap_or("");
         Ok(UsertestWords {
             tests: tests_of(given),
-            out: String::from_str(alloc, out)?,
+            out: text_of(alloc, given, "out", "")?,
         })
     }
 }
