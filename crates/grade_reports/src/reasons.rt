@@ -29,7 +29,7 @@ pub enum Excess {
 /// Why a blank does not have the machine's answer.
 #[derive(Drop)]
 pub enum Reason {
-    /// It is still `?`.
+    /// It is still `?`, or empty.
     Open,
     /// Another line stands in the place of the blank's.
     Changed,
@@ -234,7 +234,7 @@ fn wrong_parts(
     Ok(names)
 }
 
-/// Returns why an answer to a line is wrong, with one blank between the fields of both; `word` is the line's.
+/// Returns why an answer to a line is wrong, whatever blanks part its fields, beside the right one; `word` is the line's.
 ///
 /// # Errors
 /// `AllocError`: the host is out of memory.
@@ -244,6 +244,8 @@ pub fn reason_of_text(
     given: &[u8],
     right: &[u8],
 ) -> Result<Reason, AllocError> {
+    let given = joined(alloc, given)?;
+    let given = given.as_slice();
     let (Ok(given), Ok(right)) = (std::str::from_utf8(given), std::str::from_utf8(right)) else {
         return Ok(Reason::Form(String::from_utf8_lossy(alloc, given)?, None));
     };
@@ -297,9 +299,8 @@ pub fn reason_of(
                 return Ok(Some(Reason::Gone));
             };
             let word = word_of(asked.line.bare.as_slice());
-            let given = joined(alloc, given_at(student, blank.found))?;
-            let right = asked.right.as_slice();
-            let reason = reason_of_text(alloc, word, given.as_slice(), right)?;
+            let given = given_at(student, blank.found);
+            let reason = reason_of_text(alloc, word, given, asked.right.as_slice())?;
             Ok(Some(reason))
         }
     }
@@ -364,7 +365,7 @@ pub fn put_reason(text: &mut String, word: &str, reason: &Reason) -> Result<(), 
     text.push_str(word)?;
     text.push_str(": ")?;
     match reason {
-        Reason::Open => text.push_str("still ?"),
+        Reason::Open => text.push_str("not filled in"),
         Reason::Changed => text.push_str("the line is changed"),
         Reason::Gone => text.push_str("the line is gone"),
         Reason::Form(given, excess) => put_form(text, word, given.as_str(), *excess),

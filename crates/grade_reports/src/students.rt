@@ -5,6 +5,7 @@ ghost use Rattle.std.specs.Prelude.{OnOk, ◌<◌, All, IfOk, IfSome, string_len
 
 use crate::visible::Visible;
 use csv::{ByteRecord, Reader, ReaderBuilder};
+use handouts::without_mark;
 use memchr::memchr;
 use std::alloc::{AllocError, Global};
 
@@ -59,7 +60,7 @@ pub fn is_wide(text: &[u8]) -> bool {
 
 /// Returns a list without the line `sep=;` that some spreadsheets take before the rows, and without the byte order mark before that line.
 fn without_separator(text: &[u8]) -> &[u8] {
-    let bare = text.strip_prefix(b"\xef\xbb\xbf").unwrap_or(text);
+    let bare = without_mark(text);
     let (word, rest) = (bare.get(..4).unwrap_or(&[]), bare.get(5..).unwrap_or(&[]));
     match rest {
         [b'\r' | b'\n', ..] if word.eq_ignore_ascii_case(b"sep=") => rest,

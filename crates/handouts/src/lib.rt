@@ -11,6 +11,6 @@ mod same;
 
 pub use alignment::{Found, align};
 pub use expected::{Expected, split};
-pub use lines::{Answer, Line, lines_of, student_lines, without_comment};
+pub use lines::{Answer, Line, lines_of, student_lines, without_comment, without_mark};
 pub use marks::{Asked, BlankMark, Grade, Mark, blank_count, grade_lines};
 pub use same::is_kept;

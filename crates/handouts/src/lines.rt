@@ -64,8 +64,8 @@ fn line_of(alloc: Global, number: usize, text: &[u8]) -> Result<Option<Line>, Al
     }))
 }
 
-/// Returns a text without the byte order mark that some editors write before it.
-fn without_mark(text: &[u8]) -> &[u8] {
+/// Returns a text without the byte order mark that some editors and spreadsheets write before it.
+pub fn without_mark(text: &[u8]) -> &[u8] {
     match text {
         [0xef, 0xbb, 0xbf, rest @ ..] => rest,
         _ => text,

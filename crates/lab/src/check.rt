@@ -17,29 +17,12 @@ use handouts::split;
 use line_player::{LinePlayer, LineReply};
 use line_traces::{Before, explain_answer};
 use quiz_answers::is_right;
-use script_reader::first_field;
 use std::alloc::{AllocError, Global};
 use std::fmt;
 use std::io::{BufReader, Read};
 
 /// What is told of an expected answer that has the machine's values in another form.
 const OTHER_FORM: &str = "only the form differs: check compares answers letter by letter";
-
-/// Returns an answer with one blank between its fields.
-fn joined(alloc: Global, answer: &[u8]) -> Result<Vec<u8>, AllocError> {
-    let (mut text, mut rest) = (Vec::new(alloc), answer);
-    'fields: for _ in 0..answer.len() {
-        let Some((field, after)) = first_field(rest) else {
-            break;
-        };
-        if !text.is_empty() {
-            text.push(b' ')?;
-        }
-        text.extend_from_slice(field)?;
-        rest = after;
-    }
-    Ok(text)
-}
 
 /// Returns that an expected answer has the form of no answer to a line, and what would be right; `None` if it has one.
 fn form_note(
@@ -49,8 +32,7 @@ fn form_note(
     answer: &[u8],
 ) -> Result<Option<String>, AllocError> {
     let word = word_of(line);
-    let given = joined(alloc, expected)?;
-    let reason = reason_of_text(alloc, word, given.as_slice(), answer)?;
+    let reason = reason_of_text(alloc, word, expected, answer)?;
     if !matches!(reason, Reason::Form(..)) {
         return Ok(None);
     }

@@ -8,16 +8,15 @@ use crate::fault::Fault;
 use crate::grade::play_handout;
 use crate::handed_in::{Kind, Target, Targets, kind_of};
 use crate::lab::Host;
-use crate::named::{named_id, other_id};
 use crate::printed::print_grades;
 use crate::screen::Screen;
 use command_words::{GradeForm, GradeWords, Source};
 use grade_reports::{
-    FileGrade, Head, ListFault, Standing, Student, Visible, first_row, ids_of, is_of_page, is_wide,
-    other_lab, put_repeat, students_of,
+    FileGrade, ListFault, Standing, Student, Visible, first_row, ids_of, is_wide, other_lab,
+    put_repeat, students_of,
 };
 use handouts::Asked;
-use lab_variants::Lab;
+use lab_variants::{Lab, is_of_page, seed_of};
 use std::alloc::{AllocError, Global};
 use std::io;
 use std::io::Read;
@@ -27,7 +26,7 @@ use std::rt::Files;
 const NO_FILES: &str =
     "grade --lab takes FILEs, each graded by the student whom it names, or --seeds LIST.csv";
 
-/// An id that no variant's text has but where it names its student.
+/// The id of a variant that no student has.
 const NO_STUDENT: &str = "zq0student0qz";
 
 /// Whether a file could not be opened since there is none.
@@ -88,6 +87,18 @@ impl Others {
     }
 }
 
+/// Returns the id that a file names, if it is another than a student's.
+fn other_id(alloc: Global, lab: Lab, id: &str, file: &[u8]) -> Result<Option<String>, AllocError> {
+    let Some(other) = seed_of(alloc, lab, file)? else {
+        return Ok(None);
+    };
+    if other.as_str() == id {
+        Ok(None)
+    } else {
+        Ok(Some(other))
+    }
+}
+
 /// Tells which ids a list has more than once, and returns whether it has none.
 fn tell_repeats<S: Screen>(
     alloc: Global,
@@ -126,15 +137,25 @@ fn put_if_repeated(
     }
 }
 
-/// By what files are graded that name no student.
-#[derive(Clone, Copy)]
-struct Unnamed<'a> {
+/// A variant of a lab that no student has, by which files are graded that name none.
+#[derive(Drop)]
+struct Sample {
     lab: Lab,
-    /// How a variant names its student.
-    head: Option<Head<'a>>,
-    /// A variant of no student.
-    handout: &'a [u8],
-    asked: &'a [Asked],
+    handout: String,
+    asked: Vec<Asked>,
+}
+
+/// Returns the variant of a lab that no student has, with the machine's answers.
+fn sample_of<S: Screen>(alloc: Global, screen: &mut S, lab: Lab) -> Result<Sample, Fault>
+    ensures whole { IfOk result (λ _. S.whole screen.old → S.whole screen.new) }
+{
+    let handout = lab_variants::handout(alloc, lab, NO_STUDENT)?;
+    let asked = play_handout(alloc, screen, NO_STUDENT, handout.as_str().as_bytes())?;
+    Ok(Sample {
+        lab,
+        handout,
+        asked,
+    })
 }
 
 /// What was graded so far.
@@ -349,7 +370,6 @@ impl<F: Files, I: Read + Drop> Host<'_, F, I> {
         &mut self,
         screen: &mut S,
         lab: Lab,
-        head: Option<Head<'_>>,
         grading: &mut Grading,
         student: Student,
     ) -> Result<(), Fault>
@@ -362,7 +382,7 @@ impl<F: Files, I: Read + Drop> Host<'_, F, I> {
         let asked = play_handout(alloc, screen, id, handout)?;
         let content = self.listed_content(screen, file)?;
         let bytes = content.bytes.as_slice();
-        let others = Others::of(handout, bytes, other_id(alloc, head, handout, bytes)?);
+        let others = Others::of(handout, bytes, other_id(alloc, lab, id, bytes)?);
         let Student { id, file, .. } = student;
         let target = Target { file, id: Some(id) };
         grading.add(alloc, asked.as_slice(), target, content, others)?;
@@ -381,11 +401,9 @@ impl<F: Files, I: Read + Drop> Host<'_, F, I> {
         let alloc = self.alloc;
         let students = self.students(screen, list, true)?;
         let is_whole = tell_repeats(alloc, screen, list, students.as_slice())?;
-        let sample = lab_variants::handout(alloc, lab, NO_STUDENT)?;
-        let head = Head::of(sample.as_str().as_bytes(), NO_STUDENT.as_bytes());
         let mut grading = Grading::new(alloc, is_whole);
         'students: for student in students {
-            self.grade_student(screen, lab, head, &mut grading, student)?;
+            self.grade_student(screen, lab, &mut grading, student)?;
         }
         Ok(grading)
     }
@@ -394,25 +412,16 @@ impl<F: Files, I: Read + Drop> Host<'_, F, I> {
     fn grade_named<S: Screen>(
         &mut self,
         screen: &mut S,
-        lab: Lab,
+        sample: &Sample,
         targets: Targets,
     ) -> Result<Grading, Fault>
         ensures whole { IfOk result (λ g. g.is_whole ≡ true → S.whole screen.old → S.whole screen.new) }
     {
         let alloc = self.alloc;
-        let sample = lab_variants::handout(alloc, lab, NO_STUDENT)?;
-        let sample = sample.as_str().as_bytes();
-        let asked = play_handout(alloc, screen, NO_STUDENT, sample)?;
-        let unnamed = Unnamed {
-            lab,
-            head: Head::of(sample, NO_STUDENT.as_bytes()),
-            handout: sample,
-            asked: asked.as_slice(),
-        };
         let Targets { list, left_out } = targets;
         let mut grading = Grading::new(alloc, left_out.is_empty());
         'targets: for target in list {
-            self.grade_by_head(screen, unnamed, &mut grading, target.file)?;
+            self.grade_by_head(screen, sample, &mut grading, target.file)?;
         }
         note_repeats(alloc, &mut grading.grades)?;
         Ok(grading)
@@ -423,7 +432,7 @@ impl<F: Files, I: Read + Drop> Host<'_, F, I> {
     fn grade_class<S: Screen>(
         &mut self,
         screen: &mut S,
-        lab: Lab,
+        sample: &Sample,
         list: &str,
         targets: Targets,
     ) -> Result<Grading, Fault>
@@ -432,12 +441,10 @@ impl<F: Files, I: Read + Drop> Host<'_, F, I> {
         let alloc = self.alloc;
         let students = self.students(screen, list, false)?;
         let is_listed = tell_repeats(alloc, screen, list, students.as_slice())?;
-        let sample = lab_variants::handout(alloc, lab, NO_STUDENT)?;
-        let asked = play_handout(alloc, screen, NO_STUDENT, sample.as_str().as_bytes())?;
-        let grading = self.grade_named(screen, lab, targets)?;
-        let Grading { grades, is_whole } = grading;
+        let Grading { grades, is_whole } = self.grade_named(screen, sample, targets)?;
+        let asked = sample.asked.as_slice();
         Ok(Grading {
-            grades: in_order(alloc, grades, students.as_slice(), asked.as_slice())?,
+            grades: in_order(alloc, grades, students.as_slice(), asked)?,
             is_whole: is_whole && is_listed,
         })
     }
@@ -446,7 +453,7 @@ impl<F: Files, I: Read + Drop> Host<'_, F, I> {
     fn grade_by_head<S: Screen>(
         &mut self,
         screen: &mut S,
-        unnamed: Unnamed<'_>,
+        sample: &Sample,
         grading: &mut Grading,
         file: String,
     ) -> Result<(), Fault>
@@ -454,19 +461,20 @@ impl<F: Files, I: Read + Drop> Host<'_, F, I> {
     {
         let alloc = self.alloc;
         let content = self.content(screen, file.as_str())?;
-        let Some(id) = named_id(alloc, unnamed.head, content.bytes.as_slice())? else {
-            let others = Others::of(unnamed.handout, content.bytes.as_slice(), None);
+        let Some(id) = seed_of(alloc, sample.lab, content.bytes.as_slice())? else {
+            let handout = sample.handout.as_str().as_bytes();
+            let others = Others::of(handout, content.bytes.as_slice(), None);
             let target = Target { file, id: None };
             grading.add(
                 alloc,
-                unnamed.asked,
+                sample.asked.as_slice(),
                 target,
                 content.unnamed(alloc)?,
                 others,
             )?;
             return Ok(());
         };
-        let handout = lab_variants::handout(alloc, unnamed.lab, id.as_str())?;
+        let handout = lab_variants::handout(alloc, sample.lab, id.as_str())?;
         let handout = handout.as_str().as_bytes();
         let asked = play_handout(alloc, screen, id.as_str(), handout)?;
         let others = Others::of(handout, content.bytes.as_slice(), None);
@@ -489,14 +497,16 @@ impl<F: Files, I: Read + Drop> Host<'_, F, I> {
             }
             (Source::Variants(lab, list), false) => {
                 let targets = self.targets(screen, files, None)?;
-                self.grade_class(screen, *lab, list.as_str(), targets)
+                let sample = sample_of(self.alloc, screen, *lab)?;
+                self.grade_class(screen, &sample, list.as_str(), targets)
             }
             (Source::Named(_, None), true) => {
                 Err(Fault::Word(String::from_str(self.alloc, NO_FILES)?))
             }
             (Source::Named(lab, list), _) => {
                 let targets = self.targets(screen, files, list.as_deref())?;
-                self.grade_named(screen, *lab, targets)
+                let sample = sample_of(self.alloc, screen, *lab)?;
+                self.grade_named(screen, &sample, targets)
             }
             (Source::Handout(handout, list), _) => {
                 let targets = self.targets(screen, files, list.as_deref())?;

@@ -2,6 +2,7 @@
 
 use crate::fault::Fault;
 use grade_reports::Visible;
+use handouts::without_mark;
 use std::alloc::{AllocError, Global};
 use std::rt::Files;
 use std::{fs, io};
@@ -179,9 +180,4 @@ impl Targets {
         }
         Ok(())
     }
-}
-
-/// Returns a list without the byte order mark that some editors write before it.
-fn without_mark(list: &[u8]) -> &[u8] {
-    list.strip_prefix(b"\xef\xbb\xbf").unwrap_or(list)
 }

@@ -23,7 +23,6 @@ mod lab;
 mod lab_scripts;
 mod looks;
 mod mistakes;
-mod named;
 mod plain;
 mod play;
 mod printed;
