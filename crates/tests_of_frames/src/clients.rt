@@ -138,6 +138,19 @@ fn runs_over_shared_frames(rt: HostRuntime) -> Result<(), Fail> {
     Ok(())
 }
 
+/// Indices `first` and `last`, and the first word other than 0 between them, with its index, of the frame below.
+static NEXT_WORDS: [(usize, usize, Option<(usize, u64)>); 9] = [
+    (0, 512, Some((0, 1))),
+    (1, 512, Some((9, 2))),
+    (2, 10, Some((9, 2))),
+    (1, 9, None),
+    (9, 9, None),
+    (10, 511, None),
+    (10, 512, Some((511, 3))),
+    (504, 512, Some((511, 3))),
+    (512, 512, None),
+];
+
 /// Fills a frame that has three words other than 0. Returns whether, for each case of a table, `next_word` and
 /// `next_busy_word` find the first of these words from index `first` on and below index `last`.
 fn finds_next_words<F: FrameSupply>(store: &mut F, seat: &mut F::Seat) -> Result<bool, NoFrame>
@@ -150,18 +163,7 @@ fn finds_next_words<F: FrameSupply>(store: &mut F, seat: &mut F::Seat) -> Result
     words[9] = 2;
     words[511] = 3;
     let frame = filled_frame(store, seat, &words)?;
-    let cases = [
-        (0, 512, Some((0, 1))),
-        (1, 512, Some((9, 2))),
-        (2, 10, Some((9, 2))),
-        (1, 9, None),
-        (9, 9, None),
-        (10, 511, None),
-        (10, 512, Some((511, 3))),
-        (504, 512, Some((511, 3))),
-        (512, 512, None),
-    ];
-    'cases: for (first, last, next) in &cases {
+    'cases: for (first, last, next) in &NEXT_WORDS {
         if *first > *last || *last > 512 || store.next_word(seat, frame, *first, *last) != *next {
             return Ok(false);
         }

@@ -171,6 +171,15 @@ fn counting() -> [u8; 600] {
     bytes
 }
 
+/// The byte at an offset of a page that begins with the bytes of `counting` and is zeros past them.
+fn byte_of_counting(offset: usize) -> u64 {
+    if offset < 600 {
+        (offset % 256) as u64
+    } else {
+        0
+    }
+}
+
 /// A page whose bytes count from 0 to 250, again and again, so that no word equals the next one.
 fn counting_page() -> [u8; 4096] {
     let mut bytes = [0; 4096];
@@ -180,70 +189,77 @@ fn counting_page() -> [u8; 4096] {
     bytes
 }
 
+/// Accesses of a page that begins with the bytes of `counting`.
+static COUNTED: [Access; 10] = [
+    (254, 2, 0xfffe),
+    (256, 2, 0x0100),
+    (598, 2, 0x5756),
+    (600, 2, 0),
+    (252, 4, 0xfffe_fdfc),
+    (596, 4, 0x5756_5554),
+    (600, 4, 0),
+    (0, 8, 0x0706_0504_0302_0100),
+    (592, 8, 0x5756_5554_5352_5150),
+    (4088, 8, 0),
+];
+
 #[test]
 fn loads_what_was_filled(rt: HostRuntime) -> Result<(), Fail> {
     let mut bench = Bench::new(rt.alloc())?;
     assert_eq!(rt; bench.load(4088, 8), Some(0x0101_0101_0101_0101));
     bench.fill(&counting());
     'bytes: for offset in 0..4096 {
-        let byte = if offset < 600 { offset % 256 } else { 0 };
-        assert_eq!(rt; bench.load(offset, 1), Some(byte as u64));
+        assert_eq!(rt; bench.load(offset, 1), Some(byte_of_counting(offset)));
     }
-    let accesses = [
-        (254, 2, 0xfffe),
-        (256, 2, 0x0100),
-        (598, 2, 0x5756),
-        (600, 2, 0),
-        (252, 4, 0xfffe_fdfc),
-        (596, 4, 0x5756_5554),
-        (600, 4, 0),
-        (0, 8, 0x0706_0504_0302_0100),
-        (592, 8, 0x5756_5554_5352_5150),
-        (4088, 8, 0),
-    ];
-    assert_eq!(rt; bench.first_wrong(&accesses), None);
+    assert_eq!(rt; bench.first_wrong(&COUNTED), None);
     Ok(())
 }
+
+/// Accesses of a page that begins with 13 bytes of 0xff.
+static PARTLY_FILLED: [Access; 3] = [
+    (0, 8, 0xffff_ffff_ffff_ffff),
+    (8, 8, 0x0000_00ff_ffff_ffff),
+    (16, 8, 0),
+];
 
 #[test]
 fn fills_a_part_of_a_word(rt: HostRuntime) -> Result<(), Fail> {
     let mut bench = Bench::new(rt.alloc())?;
     bench.fill(&[0xff; 13]);
-    let accesses = [
-        (0, 8, 0xffff_ffff_ffff_ffff),
-        (8, 8, 0x0000_00ff_ffff_ffff),
-        (16, 8, 0),
-    ];
-    assert_eq!(rt; bench.first_wrong(&accesses), None);
+    assert_eq!(rt; bench.first_wrong(&PARTLY_FILLED), None);
     bench.fill(&[]);
     assert_eq!(rt; bench.load(0, 8), Some(0));
     Ok(())
 }
 
+/// Stores: an offset, a width and a value.
+static STORES: [Access; 4] = [
+    (11, 1, 0x1ff),
+    (22, 2, 0x1234_abcd),
+    (24, 4, 0xffff_ffff_2345_6789),
+    (32, 8, 0xfedc_ba98_7654_3210),
+];
+
+/// Accesses after those stores.
+static STORED: [Access; 8] = [
+    (0, 8, 0x0706_0504_0302_0100),
+    (8, 8, 0x0f0e_0d0c_ff0a_0908),
+    (16, 8, 0xabcd_1514_1312_1110),
+    (24, 8, 0x1f1e_1d1c_2345_6789),
+    (32, 8, 0xfedc_ba98_7654_3210),
+    (40, 8, 0x2f2e_2d2c_2b2a_2928),
+    (10, 2, 0xff0a),
+    (20, 4, 0xabcd_1514),
+];
+
 #[test]
 fn stores_beside_neighbors(rt: HostRuntime) -> Result<(), Fail> {
     let mut bench = Bench::new(rt.alloc())?;
     bench.fill(&counting());
-    let stores = [
-        (11, 1, 0x1ff),
-        (22, 2, 0x1234_abcd),
-        (24, 4, 0xffff_ffff_2345_6789),
-        (32, 8, 0xfedc_ba98_7654_3210),
-    ];
-    'stores: for (offset, width, value) in stores {
-        bench.store(offset, width, value);
+    'stores: for (offset, width, value) in &STORES {
+        bench.store(*offset, *width, *value);
     }
-    let accesses = [
-        (0, 8, 0x0706_0504_0302_0100),
-        (8, 8, 0x0f0e_0d0c_ff0a_0908),
-        (16, 8, 0xabcd_1514_1312_1110),
-        (24, 8, 0x1f1e_1d1c_2345_6789),
-        (32, 8, 0xfedc_ba98_7654_3210),
-        (40, 8, 0x2f2e_2d2c_2b2a_2928),
-        (10, 2, 0xff0a),
-        (20, 4, 0xabcd_1514),
-    ];
-    assert_eq!(rt; bench.first_wrong(&accesses), None);
+    assert_eq!(rt; bench.first_wrong(&STORED), None);
     Ok(())
 }
 
@@ -264,6 +280,16 @@ fn leaves_lie_low_byte_first(rt: HostRuntime) -> Result<(), Fail> {
     Ok(())
 }
 
+/// Accesses of the copy, and (`CHANGED`) of the first frame, whose first word was stored then.
+static COPIED: [Access; 4] = [
+    (0, 8, 0x0706_0504_0302_0100),
+    (592, 8, 0x5756_5554_5352_5150),
+    (600, 8, 0),
+    (4088, 8, 0),
+];
+
+static CHANGED: [Access; 2] = [(0, 8, 0), (8, 8, 0x0f0e_0d0c_0b0a_0908)];
+
 #[test]
 fn copies_to_another_frame(rt: HostRuntime) -> Result<(), Fail> {
     let mut bench = Bench::new(rt.alloc())?;
@@ -271,16 +297,9 @@ fn copies_to_another_frame(rt: HostRuntime) -> Result<(), Fail> {
     bench.copy();
     bench.store(0, 8, 0);
     bench.turn();
-    let copied = [
-        (0, 8, 0x0706_0504_0302_0100),
-        (592, 8, 0x5756_5554_5352_5150),
-        (600, 8, 0),
-        (4088, 8, 0),
-    ];
-    assert_eq!(rt; bench.first_wrong(&copied), None);
+    assert_eq!(rt; bench.first_wrong(&COPIED), None);
     bench.turn();
-    let changed = [(0, 8, 0), (8, 8, 0x0f0e_0d0c_0b0a_0908)];
-    assert_eq!(rt; bench.first_wrong(&changed), None);
+    assert_eq!(rt; bench.first_wrong(&CHANGED), None);
     Ok(())
 }
 
@@ -290,40 +309,47 @@ fn reads_a_whole_page(rt: HostRuntime) -> Result<(), Fail> {
     assert!(rt; bench.page() == [1; 4096]);
     bench.fill(&counting_page());
     assert!(rt; bench.page() == counting_page());
+    Ok(())
+}
+
+#[test]
+fn reads_each_byte_of_a_page(rt: HostRuntime) -> Result<(), Fail> {
+    let mut bench = Bench::new(rt.alloc())?;
     bench.fill(&counting());
     bench.store(4095, 1, 0x7f);
     let page = bench.page();
     'bytes: for at in 0..4095 {
-        let byte = if at < 600 { at % 256 } else { 0 };
-        assert_eq!(rt; page[at], byte as u8);
+        assert_eq!(rt; u64::from(page[at]), byte_of_counting(at));
     }
     assert_eq!(rt; page[4095], 0x7f);
     Ok(())
 }
 
+/// Runs: an offset and a length.
+static RUNS: [(usize, usize); 15] = [
+    (0, 0),
+    (0, 1),
+    (0, 8),
+    (0, 32),
+    (1, 7),
+    (1, 8),
+    (3, 2),
+    (5, 30),
+    (7, 1),
+    (7, 2),
+    (8, 9),
+    (4064, 32),
+    (4089, 7),
+    (4095, 1),
+    (4096, 0),
+];
+
 #[test]
 fn reads_runs(rt: HostRuntime) -> Result<(), Fail> {
     let mut bench = Bench::new(rt.alloc())?;
     bench.fill(&counting_page());
-    let runs = [
-        (0, 0),
-        (0, 1),
-        (0, 8),
-        (0, 32),
-        (1, 7),
-        (1, 8),
-        (3, 2),
-        (5, 30),
-        (7, 1),
-        (7, 2),
-        (8, 9),
-        (4064, 32),
-        (4089, 7),
-        (4095, 1),
-        (4096, 0),
-    ];
-    'runs: for (offset, length) in runs {
-        assert!(rt; bench.reads_counting(offset, length));
+    'runs: for (offset, length) in &RUNS {
+        assert!(rt; bench.reads_counting(*offset, *length));
     }
     let mut page = [0; 4096];
     bench.read(0, &mut page);
@@ -331,29 +357,38 @@ fn reads_runs(rt: HostRuntime) -> Result<(), Fail> {
     Ok(())
 }
 
+/// An offset, and the bytes that are written there.
+static WRITES: [(usize, &[u8]); 6] = [
+    (0, b"a"),
+    (13, b"bcdefg"),
+    (24, b"hijklmnopqrstuvw"),
+    (47, b"0123456789"),
+    (4095, b"z"),
+    (4096, b""),
+];
+
+/// Accesses of a page that began with the bytes of `counting`, after `WRITES`.
+static WRITTEN: [Access; 10] = [
+    (0, 8, 0x0706_0504_0302_0161),
+    (8, 8, 0x6463_620c_0b0a_0908),
+    (16, 8, 0x1716_1514_1367_6665),
+    (24, 8, 0x6f6e_6d6c_6b6a_6968),
+    (32, 8, 0x7776_7574_7372_7170),
+    (40, 8, 0x302e_2d2c_2b2a_2928),
+    (48, 8, 0x3837_3635_3433_3231),
+    (56, 8, 0x3f3e_3d3c_3b3a_3939),
+    (64, 8, 0x4746_4544_4342_4140),
+    (4088, 8, 0x7a00_0000_0000_0000),
+];
+
 #[test]
 fn writes_runs(rt: HostRuntime) -> Result<(), Fail> {
     let mut bench = Bench::new(rt.alloc())?;
     bench.fill(&counting());
-    bench.write(0, b"a");
-    bench.write(13, b"bcdefg");
-    bench.write(24, b"hijklmnopqrstuvw");
-    bench.write(47, b"0123456789");
-    bench.write(4095, b"z");
-    bench.write(4096, b"");
-    let accesses = [
-        (0, 8, 0x0706_0504_0302_0161),
-        (8, 8, 0x6463_620c_0b0a_0908),
-        (16, 8, 0x1716_1514_1367_6665),
-        (24, 8, 0x6f6e_6d6c_6b6a_6968),
-        (32, 8, 0x7776_7574_7372_7170),
-        (40, 8, 0x302e_2d2c_2b2a_2928),
-        (48, 8, 0x3837_3635_3433_3231),
-        (56, 8, 0x3f3e_3d3c_3b3a_3939),
-        (64, 8, 0x4746_4544_4342_4140),
-        (4088, 8, 0x7a00_0000_0000_0000),
-    ];
-    assert_eq!(rt; bench.first_wrong(&accesses), None);
+    'writes: for (offset, bytes) in &WRITES {
+        bench.write(*offset, bytes);
+    }
+    assert_eq!(rt; bench.first_wrong(&WRITTEN), None);
     let mut written = [0; 6];
     bench.read(13, &mut written);
     assert!(rt; written == *b"bcdefg");

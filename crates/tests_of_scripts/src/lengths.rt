@@ -67,17 +67,19 @@ fn blanks(alloc: Global, count: usize) -> Result<Vec<u8>, AllocError> {
     Ok(bytes)
 }
 
+/// So many spaces after a line feed, and the line and the cause of the refusal.
+static BLANKS: [(usize, u64, Cause); 4] = [
+    (2_097_664, 3, Cause::Order),
+    (2_097_665, 2, Cause::TooLong),
+    (16_777_215, 2, Cause::TooLong),
+    (16_777_216, 0, Cause::TooLong),
+];
+
 #[test]
 fn refuses_what_is_too_long(rt: HostRuntime) -> Result<(), Fail> {
-    let rows = [
-        (2_097_664, 3, Cause::Order),
-        (2_097_665, 2, Cause::TooLong),
-        (16_777_215, 2, Cause::TooLong),
-        (16_777_216, 0, Cause::TooLong),
-    ];
-    for (count, line, cause) in rows {
-        let script = blanks(rt.alloc(), count)?;
-        let refused = Err(PlayError::Script(line, cause));
+    for (count, line, cause) in &BLANKS {
+        let script = blanks(rt.alloc(), *count)?;
+        let refused = Err(PlayError::Script(*line, *cause));
         let told = counted(rt.alloc(), script.as_slice());
         assert_eq!(rt; told, (refused, (0, 0)), "at {count}");
     }

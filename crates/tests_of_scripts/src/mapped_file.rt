@@ -1,4 +1,4 @@
-// A script for other tests, which maps a file, stores to it and shows what was written back: `lines`, its lines with their
+// A script for other tests, which maps a file, stores to it and shows what was written back: `LINES`, its lines with their
 // answers and the result of cutting each line at each byte; `script_and_text`, the whole script and its text.
 
 use std::alloc::{AllocError, Global};
@@ -7,61 +7,59 @@ use std::alloc::{AllocError, Global};
 ///
 /// The letter says what the line is if it is cut after that byte: refused with cause `W` Word, `C` Count, `N` Number or `F`
 /// Field, or a dot: valid. After `boot`, a line that is valid when cut has the answer of the whole line.
-pub fn lines() -> [(&'static str, &'static str, &'static str); 19] {
-    [
-        ("file 5000 rw 6162", "WWWCCCCCCCCCCF.F.", ""),
-        (
-            "image 0x0:0x1000:rx:13050000 0x1000:0x1800:rw:-",
-            "WWWWCCFFFFFFFFFFFFFFF.F.F.F..FFFFFFFFFFFFFFFFF.",
-            "",
-        ),
-        ("boot 1 64 4 full", "WWWCCCCCCCCCFFF.", "ok\n"),
-        ("start 0", "WWWWCC.", "slot 0\n"),
-        ("on 0 0", "WCCCC.", "ok\n"),
-        ("enter 0", "WWWWCC.", "ok\n"),
-        (
-            "mmap 0 6000 3 1 0",
-            "WWWCCCCCCCCCCCCC.",
-            "at 0x3fffffc000\n",
-        ),
-        ("leave 0", "WWWWCC.", "ok\n"),
-        (
-            "load 0 0x3fffffd388 1",
-            "WWWCCCCCCCCCCCCCCCCC.",
-            "fault 13\n",
-        ),
-        ("fix 0", "WWCC.", "ready\n"),
-        (
-            "load 0 0x3fffffd388 1",
-            "WWWCCCCCCCCCCCCCCCCC.",
-            "value 0x0\n",
-        ),
-        (
-            "store 0 0x3fffffd387 1 0x7a",
-            "WWWWCCCCCCCCCCCCCCCCCCC.N..",
-            "fault 15\n",
-        ),
-        ("fix 0", "WWCC.", "ready\n"),
-        (
-            "store 0 0x3fffffd387 1 0x7a",
-            "WWWWCCCCCCCCCCCCCCCCCCC.N..",
-            "stored\n",
-        ),
-        (
-            "store 0 0x3fffffd388 1 0x7b",
-            "WWWWCCCCCCCCCCCCCCCCCCC.N..",
-            "stored\n",
-        ),
-        ("enter 0", "WWWWCC.", "ok\n"),
-        (
-            "munmap 0 0x3fffffc000 6000",
-            "WWWWWCCCCCCCCCCCCCCCCC....",
-            "ok\n",
-        ),
-        ("show 0 4998 4", "WWWCCCCCCCCC.", "file 5000 007a\n"),
-        ("show 0 0 2", "WWWCCCCCC.", "file 5000 6162\n"),
-    ]
-}
+pub static LINES: [(&str, &str, &str); 19] = [
+    ("file 5000 rw 6162", "WWWCCCCCCCCCCF.F.", ""),
+    (
+        "image 0x0:0x1000:rx:13050000 0x1000:0x1800:rw:-",
+        "WWWWCCFFFFFFFFFFFFFFF.F.F.F..FFFFFFFFFFFFFFFFF.",
+        "",
+    ),
+    ("boot 1 64 4 full", "WWWCCCCCCCCCFFF.", "ok\n"),
+    ("start 0", "WWWWCC.", "slot 0\n"),
+    ("on 0 0", "WCCCC.", "ok\n"),
+    ("enter 0", "WWWWCC.", "ok\n"),
+    (
+        "mmap 0 6000 3 1 0",
+        "WWWCCCCCCCCCCCCC.",
+        "at 0x3fffffc000\n",
+    ),
+    ("leave 0", "WWWWCC.", "ok\n"),
+    (
+        "load 0 0x3fffffd388 1",
+        "WWWCCCCCCCCCCCCCCCCC.",
+        "fault 13\n",
+    ),
+    ("fix 0", "WWCC.", "ready\n"),
+    (
+        "load 0 0x3fffffd388 1",
+        "WWWCCCCCCCCCCCCCCCCC.",
+        "value 0x0\n",
+    ),
+    (
+        "store 0 0x3fffffd387 1 0x7a",
+        "WWWWCCCCCCCCCCCCCCCCCCC.N..",
+        "fault 15\n",
+    ),
+    ("fix 0", "WWCC.", "ready\n"),
+    (
+        "store 0 0x3fffffd387 1 0x7a",
+        "WWWWCCCCCCCCCCCCCCCCCCC.N..",
+        "stored\n",
+    ),
+    (
+        "store 0 0x3fffffd388 1 0x7b",
+        "WWWWCCCCCCCCCCCCCCCCCCC.N..",
+        "stored\n",
+    ),
+    ("enter 0", "WWWWCC.", "ok\n"),
+    (
+        "munmap 0 0x3fffffc000 6000",
+        "WWWWWCCCCCCCCCCCCCCCCC....",
+        "ok\n",
+    ),
+    ("show 0 4998 4", "WWWCCCCCCCCC.", "file 5000 007a\n"),
+    ("show 0 0 2", "WWWCCCCCC.", "file 5000 6162\n"),
+];
 
 /// The whole script, and the text that `play` writes for it.
 ///
@@ -70,7 +68,7 @@ pub fn lines() -> [(&'static str, &'static str, &'static str); 19] {
 pub fn script_and_text(alloc: Global) -> Result<(String, String), AllocError> {
     let mut script = String::new(alloc);
     let mut text = String::new(alloc);
-    for (line, _, reply) in lines() {
+    for (line, _, reply) in &LINES {
         script.push_str(line)?;
         script.push_str("\n")?;
         text.push_str(reply)?;

@@ -1,9 +1,10 @@
 // Tests that `Buffer`, a hart's TLB, keeps, fences, evicts and uses entries as it must: whole superpages, entries that
 // record no leaf, at most 32 entries, nothing of access faults; over a memory of at most 1,024 frames with two page tables.
-// One test has rows of an entry, an access and its outcome.
+// Each test fills a buffer (`Filling`, a struct); rows are fences with the entries left, and accesses with their outcome.
 
-ghost use Rattle.std.specs.Prelude.{◌≡◌, ◌≤◌};
+ghost use Rattle.std.specs.Prelude.{◌≡◌};
 ghost use Rattle.sv39_entry.specs.Satp as satps;
+ghost use Rattle.sv39_entry.specs.Schemes.{mode_of};
 
 use hart_tlb::{Buffer, NoEntry};
 use std::alloc::{AllocError, Global};
@@ -26,156 +27,307 @@ const GLOBAL: u64 = 0x200800f7;
 /// `DATA` for the page at physical address 0, where there is no memory.
 const NOWHERE: u64 = 0x000000d7;
 
-/// The words of `frames` frames: all are 0 but `POINTER`, and `word` at index 1 of frame 2.
-fn tables(alloc: Global, frames: usize, word: u64) -> Result<Vec<u64>, AllocError>
-    requires some { 3 ≤ frames }
-    requires few { frames ≤ FRAMES }
+const SV39: Scheme = Scheme::Sv39;
+
+const SV48: Scheme = Scheme::Sv48;
+
+/// The addresses at which a buffer is filled, by walks of a memory of `frames` frames whose root is frame 1. Its words are
+/// all 0 but `first`, word 0 of frame 1, and `second`, the word at index 1 of frame 2.
+#[derive(Drop)]
+struct Filling<'a> {
+    scheme: Scheme,
+    frames: usize,
+    first: u64,
+    second: u64,
+    addresses: &'a [u64],
+}
+
+/// satp of a scheme with ASID 7 and the root in frame 1.
+fn satp(scheme: Scheme) -> Satp
+    ensures mode { satps.mode result ≡ mode_of scheme }
 {
+    Satp::new(scheme, 7, FrameNo(1))
+}
+
+/// A buffer that was empty, after the fills.
+fn filled<const N: usize>(alloc: Global, filling: &Filling<'_>) -> Result<Buffer<N>, AllocError> {
+    // changes no row; it shows the limits to the proof
+    let frames = filling.frames.clamp(3, FRAMES);
     let mut words = vec![in alloc; 0; frames * 512]?;
-    words[512] = POINTER;
-    words[2 * 512 + 1] = word;
-    Ok(words)
+    words[512] = filling.first;
+    words[2 * 512 + 1] = filling.second;
+    let mut memory = PlainWords::new(&words);
+    let scheme = filling.scheme;
+    let mut buffer = Buffer::new();
+    'addresses: for address in filling.addresses {
+        buffer.fill(&mut memory, scheme, satp(scheme), Va(*address));
+    }
+    Ok(buffer)
 }
 
-/// satp of Sv39 with ASID 7 and the root in frame 1.
-fn satp() -> Satp
-    ensures mode { satps.mode result ≡ 8 }
-{
-    Satp::new(Scheme::Sv39, 7, FrameNo(1))
-}
+/// `DATA` at two addresses of its superpage, and no leaf between the two.
+static THREE: Filling<'static> = Filling {
+    scheme: SV39,
+    frames: FRAMES,
+    first: POINTER,
+    second: DATA,
+    addresses: &[0x234567, 0x400000, 0x234fff],
+};
+
+/// A leaf in the root of Sv48.
+static LEVEL_3: Filling<'static> = Filling {
+    scheme: SV48,
+    frames: FRAMES,
+    first: NOWHERE,
+    second: 0,
+    addresses: &[0x80234000],
+};
+
+/// The address and the ASID of a fence, and the number of entries that it leaves.
+type Fence = (Option<Va>, Option<u16>, usize);
+
+/// What is filled, the number of entries then, and fences in turn.
+type FenceRow = (Filling<'static>, usize, &'static [Fence]);
+
+static FENCES: [FenceRow; 6] = [
+    // whole superpages
+    (
+        Filling {
+            scheme: SV39,
+            frames: FRAMES,
+            first: POINTER,
+            second: DATA,
+            addresses: &[0x200000, 0x234000],
+        },
+        2,
+        &[
+            (Some(Va(0x401000)), None, 2),
+            (Some(Va(0x201000)), Some(8), 2),
+            (Some(Va(0x201000)), None, 0),
+        ],
+    ),
+    // a leaf in the root of Sv48 is removed by a fence of any address in its 512 GiB
+    (
+        Filling {
+            scheme: SV48,
+            frames: FRAMES,
+            first: NOWHERE,
+            second: 0,
+            addresses: &[0x80234000],
+        },
+        1,
+        &[
+            (Some(Va(0x8000000000)), None, 1),
+            (Some(Va(0x7000000000)), None, 0),
+        ],
+    ),
+    // missing leaves at each address; a global leaf by no ASID
+    (
+        Filling {
+            scheme: SV39,
+            frames: FRAMES,
+            first: POINTER,
+            second: GLOBAL,
+            addresses: &[0x400000, 0x234000],
+        },
+        2,
+        &[
+            (Some(Va(0)), Some(7), 1),
+            (None, Some(7), 1),
+            (None, None, 0),
+        ],
+    ),
+    // nothing is kept of access faults
+    (
+        Filling {
+            scheme: SV39,
+            frames: 3,
+            first: POINTER,
+            second: DATA,
+            addresses: &[0x200000],
+        },
+        0,
+        &[],
+    ),
+    (
+        Filling {
+            scheme: SV39,
+            frames: FRAMES,
+            first: POINTER,
+            second: NOWHERE,
+            addresses: &[0x200000],
+        },
+        0,
+        &[],
+    ),
+    (
+        Filling {
+            scheme: SV39,
+            frames: FRAMES,
+            first: POINTER,
+            second: 0x00000001,
+            addresses: &[0x200000],
+        },
+        0,
+        &[],
+    ),
+];
 
 #[test]
-fn fences_whole_superpages(rt: HostRuntime) -> Result<(), Fail> {
-    let words = tables(rt.alloc(), FRAMES, DATA)?;
-    let mut memory = PlainWords::new(&words);
-    let mut buffer: Buffer<32> = Buffer::new();
-    buffer.fill(&mut memory, Scheme::Sv39, satp(), Va(0x200000));
-    buffer.fill(&mut memory, Scheme::Sv39, satp(), Va(0x234000));
-    buffer.fence(Some(Va(0x401000)), None);
-    buffer.fence(Some(Va(0x201000)), Some(8));
-    assert_eq!(rt; buffer.len(), 2);
-    buffer.fence(Some(Va(0x201000)), None);
-    assert_eq!(rt; buffer.len(), 0);
+fn fills_and_fences(rt: HostRuntime) -> Result<(), Fail> {
+    for (filling, count, fences) in &FENCES {
+        let mut buffer: Buffer<32> = filled(rt.alloc(), filling)?;
+        assert_eq!(rt; buffer.len(), *count, "{:x}", filling.second);
+        for fence in *fences {
+            let (va, asid, left) = *fence;
+            buffer.fence(va, asid);
+            assert_eq!(rt; buffer.len(), left, "{fence:?}");
+        }
+    }
     Ok(())
 }
 
-/// A leaf in the root of Sv48 is removed by a fence of any address in its 512 GiB.
-#[test]
-fn fences_leaves_of_level_3(rt: HostRuntime) -> Result<(), Fail> {
-    let mut words = vec![in rt.alloc(); 0; FRAMES * 512]?;
-    words[512] = NOWHERE;
-    let mut memory = PlainWords::new(&words);
-    let satp = Satp::new(Scheme::Sv48, 7, FrameNo(1));
-    assert_eq!(rt; satp.mode(), 9);
-    let mut buffer: Buffer<32> = Buffer::new();
-    buffer.fill(&mut memory, Scheme::Sv48, satp, Va(0x80234000));
-    let mapped = Walk::Leaf {
-        word: NOWHERE,
-        level: 3,
-        address: 0x80234567,
+/// Whether entry `n` is for this page and this word of a leaf of level 1, with ASID 7, and global or not.
+fn keeps<const N: usize>(buffer: &Buffer<N>, n: usize, page: u64, word: u64, global: bool) -> bool {
+    let Some(entry) = buffer.entry(n) else {
+        return false;
     };
-    let told = buffer.use_entry(0, Va(0x80234567), 7, Access::Load, Mode::User);
-    assert_eq!(rt; told, Ok(mapped));
-    buffer.fence(Some(Va(0x8000000000)), None);
-    assert_eq!(rt; buffer.len(), 1);
-    buffer.fence(Some(Va(0x7000000000)), None);
-    assert_eq!(rt; buffer.len(), 0);
-    Ok(())
+    let Some(leaf) = entry.leaf else {
+        return false;
+    };
+    entry.page.number() == page
+        && entry.asid == 7
+        && entry.global == global
+        && leaf.word() == word
+        && leaf.level() == 1
 }
 
-#[test]
-fn fences_missing_leaves_at_each_address(rt: HostRuntime) -> Result<(), Fail> {
-    let words = tables(rt.alloc(), FRAMES, GLOBAL)?;
-    let mut memory = PlainWords::new(&words);
-    let mut buffer: Buffer<32> = Buffer::new();
-    buffer.fill(&mut memory, Scheme::Sv39, satp(), Va(0x400000));
-    buffer.fill(&mut memory, Scheme::Sv39, satp(), Va(0x234000));
-    buffer.fence(Some(Va(0)), Some(7));
-    assert_eq!(rt; buffer.len(), 1);
-    buffer.fence(None, Some(7));
-    assert_eq!(rt; buffer.len(), 1);
-    buffer.fence(None, None);
-    assert_eq!(rt; buffer.len(), 0);
-    Ok(())
+/// Whether the entries for 0x234000 under an ASID have these numbers.
+fn matches<const N: usize>(buffer: &Buffer<N>, asid: u16, numbers: &[usize]) -> bool {
+    buffer.matching(Va(0x234000), asid).as_slice() == numbers
 }
 
 #[test]
 fn keeps_the_last_32(rt: HostRuntime) -> Result<(), Fail> {
-    let words = tables(rt.alloc(), FRAMES, DATA)?;
-    let mut memory = PlainWords::new(&words);
-    let mut buffer: Buffer<32> = Buffer::new();
+    let mut addresses = [0; 33];
     for n in 0..33 {
-        buffer.fill(&mut memory, Scheme::Sv39, satp(), Va(0x200000 + 0x1000 * n));
+        addresses[n] = 0x200000 + 0x1000 * n as u64;
     }
+    let filling = Filling {
+        scheme: SV39,
+        frames: FRAMES,
+        first: POINTER,
+        second: DATA,
+        addresses: &addresses,
+    };
+    let buffer: Buffer<32> = filled(rt.alloc(), &filling)?;
     assert_eq!(rt; buffer.len(), 32);
     for n in 0..32 {
-        let entry = buffer.entry(n).ok_or("an entry")?;
-        assert_eq!(rt; entry.page.number(), 0x201 + n as u64);
+        let page = 0x201 + n as u64;
+        assert!(rt; keeps(&buffer, n, page, DATA, false), "entry {n}");
     }
-    assert_eq!(rt; buffer.entry(32), None);
-    Ok(())
-}
-
-#[test]
-fn keeps_nothing_of_access_faults(rt: HostRuntime) -> Result<(), Fail> {
-    let mut buffer: Buffer<32> = Buffer::new();
-    for (frames, word) in [(3, DATA), (FRAMES, NOWHERE), (FRAMES, 0x00000001)] {
-        let words = tables(rt.alloc(), frames, word)?;
-        let mut memory = PlainWords::new(&words);
-        buffer.fill(&mut memory, Scheme::Sv39, satp(), Va(0x200000));
-        assert_eq!(rt; buffer.len(), 0, "at {frames} {word:x}");
-    }
-    Ok(())
-}
-
-#[test]
-fn answers_by_entries(rt: HostRuntime) -> Result<(), Fail> {
-    let (load, fetch) = (Access::Load, Access::Fetch);
-    let (user, kernel) = (Mode::User, Mode::Supervisor);
-    let words = tables(rt.alloc(), FRAMES, DATA)?;
-    let mut memory = PlainWords::new(&words);
-    let mut buffer: Buffer<32> = Buffer::new();
-    for address in [0x234567, 0x400000, 0x234fff] {
-        buffer.fill(&mut memory, Scheme::Sv39, satp(), Va(address));
-    }
-    let mapped = Walk::Leaf {
-        word: DATA,
-        level: 1,
-        address: 0x80234567,
-    };
-    let rows = [
-        (0, 0x234567, 7, load, user, Ok(mapped)),
-        (2, 0x234567, 7, load, user, Ok(mapped)),
-        (0, 0x234567, 7, fetch, user, Ok(Walk::PageFault(12))),
-        (0, 0x234567, 7, load, kernel, Ok(Walk::PageFault(13))),
-        (1, 0x400abc, 7, load, user, Ok(Walk::PageFault(13))),
-        (0, 0x234567, 8, load, user, Err(NoEntry)),
-        (0, 0x235567, 7, load, user, Err(NoEntry)),
-        (3, 0x234567, 7, load, user, Err(NoEntry)),
-    ];
-    for (n, address, asid, access, mode, outcome) in rows {
-        let told = buffer.use_entry(n, Va(address), asid, access, mode);
-        assert_eq!(rt; told, outcome, "{n} {address:x} {asid} {access:?} {mode:?}");
-    }
-    let matching = buffer.matching(Va(0x234000), 7);
-    assert_eq!(rt; matching.as_slice(), [0, 2].as_slice());
-    assert_eq!(rt; buffer.evict(0), Ok(()));
-    assert_eq!(rt; buffer.evict(2), Err(NoEntry));
-    assert_eq!(rt; buffer.matching(Va(0x234000), 7).as_slice(), [1].as_slice());
+    assert!(rt; buffer.entry(32).is_none());
     Ok(())
 }
 
 #[test]
 fn shows_what_entries_keep(rt: HostRuntime) -> Result<(), Fail> {
-    let words = tables(rt.alloc(), FRAMES, GLOBAL)?;
-    let mut memory = PlainWords::new(&words);
-    let mut buffer: Buffer<2> = Buffer::new();
-    buffer.fill(&mut memory, Scheme::Sv39, satp(), Va(0x234567));
-    let entry = buffer.entry(0).ok_or("an entry")?;
-    let leaf = entry.leaf.ok_or("a leaf")?;
-    let told = (entry.page.number(), entry.asid, entry.global);
-    assert_eq!(rt; told, (0x234, 7, true));
-    assert_eq!(rt; (leaf.word(), leaf.level()), (GLOBAL, 1));
-    assert_eq!(rt; buffer.matching(Va(0x234000), 8).as_slice(), [0].as_slice());
+    let filling = Filling {
+        scheme: SV39,
+        frames: FRAMES,
+        first: POINTER,
+        second: GLOBAL,
+        addresses: &[0x234567],
+    };
+    let buffer: Buffer<2> = filled(rt.alloc(), &filling)?;
+    assert!(rt; keeps(&buffer, 0, 0x234, GLOBAL, true));
+    assert!(rt; matches(&buffer, 8, &[0]));
+    Ok(())
+}
+
+/// The number of an entry; the address, the ASID, the access and the mode; and the outcome.
+type Use = (usize, u64, u16, Access, Mode, Result<Walk, NoEntry>);
+
+const MAPPED: Walk = Walk::Leaf {
+    word: DATA,
+    level: 1,
+    address: 0x80234567,
+};
+
+/// Uses of the entries of `THREE`.
+static USES: [Use; 8] = [
+    (0, 0x234567, 7, Access::Load, Mode::User, Ok(MAPPED)),
+    (2, 0x234567, 7, Access::Load, Mode::User, Ok(MAPPED)),
+    (
+        0,
+        0x234567,
+        7,
+        Access::Fetch,
+        Mode::User,
+        Ok(Walk::PageFault(12)),
+    ),
+    (
+        0,
+        0x234567,
+        7,
+        Access::Load,
+        Mode::Supervisor,
+        Ok(Walk::PageFault(13)),
+    ),
+    (
+        1,
+        0x400abc,
+        7,
+        Access::Load,
+        Mode::User,
+        Ok(Walk::PageFault(13)),
+    ),
+    (0, 0x234567, 8, Access::Load, Mode::User, Err(NoEntry)),
+    (0, 0x235567, 7, Access::Load, Mode::User, Err(NoEntry)),
+    (3, 0x234567, 7, Access::Load, Mode::User, Err(NoEntry)),
+];
+
+/// A use of the entry of `LEVEL_3`.
+static USES_OF_LEVEL_3: [Use; 1] = [(
+    0,
+    0x80234567,
+    7,
+    Access::Load,
+    Mode::User,
+    Ok(Walk::Leaf {
+        word: NOWHERE,
+        level: 3,
+        address: 0x80234567,
+    }),
+)];
+
+/// The number of the first use that does not have its outcome; `None` if all have.
+fn first_wrong(buffer: &Buffer<32>, uses: &[Use]) -> Option<usize> {
+    for number in 0..uses.len() {
+        let (n, address, asid, access, mode, outcome) = uses[number];
+        if buffer.use_entry(n, Va(address), asid, access, mode) != outcome {
+            return Some(number);
+        }
+    }
+    None
+}
+
+#[test]
+fn answers_by_entries(rt: HostRuntime) -> Result<(), Fail> {
+    let buffer: Buffer<32> = filled(rt.alloc(), &THREE)?;
+    assert_eq!(rt; first_wrong(&buffer, &USES), None);
+    let buffer: Buffer<32> = filled(rt.alloc(), &LEVEL_3)?;
+    assert_eq!(rt; first_wrong(&buffer, &USES_OF_LEVEL_3), None);
+    assert_eq!(rt; satp(SV48).mode(), 9);
+    Ok(())
+}
+
+#[test]
+fn evicts_entries(rt: HostRuntime) -> Result<(), Fail> {
+    let mut buffer: Buffer<32> = filled(rt.alloc(), &THREE)?;
+    assert!(rt; matches(&buffer, 7, &[0, 2]));
+    assert_eq!(rt; buffer.evict(0), Ok(()));
+    assert_eq!(rt; buffer.evict(2), Err(NoEntry));
+    assert!(rt; matches(&buffer, 7, &[1]));
     Ok(())
 }

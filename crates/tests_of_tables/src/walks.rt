@@ -27,7 +27,7 @@ const POINTER: u64 = 0x20000801;
 const UPPER: u64 = 0x20000401;
 
 /// The roots of the same page tables: of three levels, and of four.
-const ROOTS: [(Scheme, FrameNo); 2] = [(Scheme::Sv39, FrameNo(1)), (Scheme::Sv48, FrameNo(3))];
+static ROOTS: [(Scheme, FrameNo); 2] = [(Scheme::Sv39, FrameNo(1)), (Scheme::Sv48, FrameNo(3))];
 
 /// A leaf of frame 512 that grants user loads and stores. A and D are set.
 const DATA: u64 = 0x200800d7;
@@ -59,50 +59,100 @@ fn tables(alloc: Global, frames: usize, word: u64) -> Result<Vec<u64>, AllocErro
     Ok(words)
 }
 
-/// The outcome of a walk that ends at a leaf of level 1.
-fn megapage(word: u64, address: u64) -> Walk {
-    Walk::Leaf {
-        word,
-        level: 1,
-        address,
-    }
-}
+/// Shorthands of the rows.
+const USER: Mode = Mode::User;
+
+const LOAD: Access = Access::Load;
+
+static ACCESSES: [Row; 16] = [
+    (
+        DATA,
+        LOAD,
+        0x234567,
+        USER,
+        Walk::Leaf {
+            word: DATA,
+            level: 1,
+            address: 0x80234567,
+        },
+    ),
+    (0x200804d7, LOAD, 0x234567, USER, Walk::PageFault(13)),
+    (RESERVED, LOAD, 0x234567, USER, Walk::PageFault(13)),
+    (DATA, Access::Fetch, 0x200000, USER, Walk::PageFault(12)),
+    (CLEAN, Access::Store, 0x200000, USER, Walk::PageFault(15)),
+    (
+        CLEAN,
+        LOAD,
+        0x200000,
+        USER,
+        Walk::Leaf {
+            word: CLEAN,
+            level: 1,
+            address: 0x80200000,
+        },
+    ),
+    (0x20080097, LOAD, 0x200000, USER, Walk::PageFault(13)),
+    (KERNEL, LOAD, 0x200000, USER, Walk::PageFault(13)),
+    (
+        KERNEL,
+        LOAD,
+        0x200000,
+        Mode::Supervisor,
+        Walk::Leaf {
+            word: KERNEL,
+            level: 1,
+            address: 0x80200000,
+        },
+    ),
+    (0x200800d5, LOAD, 0x200000, USER, Walk::PageFault(13)),
+    (ACCESSED_POINTER, LOAD, 0x200000, USER, Walk::PageFault(13)),
+    (0x000000d7, LOAD, 0x200000, USER, Walk::AccessFault(5)),
+    (
+        0x00000001,
+        Access::Store,
+        0x200000,
+        USER,
+        Walk::AccessFault(7),
+    ),
+    (0x000000c7, LOAD, 0x200000, USER, Walk::PageFault(13)),
+    (DATA, LOAD, 0x4000000000, USER, Walk::PageFault(13)),
+    (DATA, LOAD, 0xffffffc000000000, USER, Walk::PageFault(13)),
+];
 
 #[test]
 fn translates_accesses(rt: HostRuntime) -> Result<(), Fail> {
-    let (user, kernel) = (Mode::User, Mode::Supervisor);
-    let (fetch, load, store) = (Access::Fetch, Access::Load, Access::Store);
-    let rows: [Row; 16] = [
-        (DATA, load, 0x234567, user, megapage(DATA, 0x80234567)),
-        (0x200804d7, load, 0x234567, user, Walk::PageFault(13)),
-        (RESERVED, load, 0x234567, user, Walk::PageFault(13)),
-        (DATA, fetch, 0x200000, user, Walk::PageFault(12)),
-        (CLEAN, store, 0x200000, user, Walk::PageFault(15)),
-        (CLEAN, load, 0x200000, user, megapage(CLEAN, 0x80200000)),
-        (0x20080097, load, 0x200000, user, Walk::PageFault(13)),
-        (KERNEL, load, 0x200000, user, Walk::PageFault(13)),
-        (KERNEL, load, 0x200000, kernel, megapage(KERNEL, 0x80200000)),
-        (0x200800d5, load, 0x200000, user, Walk::PageFault(13)),
-        (ACCESSED_POINTER, load, 0x200000, user, Walk::PageFault(13)),
-        (0x000000d7, load, 0x200000, user, Walk::AccessFault(5)),
-        (0x00000001, store, 0x200000, user, Walk::AccessFault(7)),
-        (0x000000c7, load, 0x200000, user, Walk::PageFault(13)),
-        (DATA, load, 0x4000000000, user, Walk::PageFault(13)),
-        (DATA, load, 0xffffffc000000000, user, Walk::PageFault(13)),
-    ];
-    for (word, access, address, mode, outcome) in rows {
+    for row in &ACCESSES {
+        let (word, access, address, mode, outcome) = *row;
         let words = tables(rt.alloc(), FRAMES, word)?;
         let mut memory = PlainWords::new(&words);
-        for (scheme, root) in ROOTS {
-            assert_eq!(rt;
-                translate(&mut memory, scheme, root.ppn(), Va(address), access, mode),
-                outcome,
-                "at {scheme:?} {word:x} {access:?} {address:x} {mode:?}"
-            );
+        for (scheme, root) in &ROOTS {
+            let told = translate(&mut memory, *scheme, root.ppn(), Va(address), access, mode);
+            assert_eq!(rt; told, outcome, "{scheme:?} {row:?}");
         }
     }
     Ok(())
 }
+
+/// A leaf in the root of Sv48 leads here.
+const AT_LEVEL_3: Walk = Walk::Leaf {
+    word: 0x000000d7,
+    level: 3,
+    address: 0x80234567,
+};
+
+static LOADS_OF_THE_ROOT: [(u64, Walk); 11] = [
+    (0x80234567, AT_LEVEL_3),
+    (0x00234567, Walk::AccessFault(5)),
+    (0x4080234567, Walk::AccessFault(5)),
+    (0x8000000000, Walk::PageFault(13)),
+    (0x7fffffffffff, Walk::PageFault(13)),
+    (0x800080234567, Walk::PageFault(13)),
+    (0xffff000080234567, Walk::PageFault(13)),
+    (0xffff7fffffffffff, Walk::PageFault(13)),
+    (0xffff800080234567, AT_LEVEL_3),
+    (0xffff800000234567, Walk::AccessFault(5)),
+    (0xffffffffffffffff, Walk::PageFault(13)),
+];
 
 /// Leaves in the root of Sv48. The address of the one at index 0 is a multiple of its size, and so is that at index 256, the
 /// first of the upper half. That of the one at index 1 is not.
@@ -112,50 +162,39 @@ fn walks_from_the_root(rt: HostRuntime) -> Result<(), Fail> {
     words[512] = 0x000000d7;
     words[512 + 1] = DATA;
     words[512 + 256] = 0x000000d7;
-    let mapped = Walk::Leaf {
-        word: 0x000000d7,
-        level: 3,
-        address: 0x80234567,
-    };
-    let rows = [
-        (0x80234567, mapped),
-        (0x00234567, Walk::AccessFault(5)),
-        (0x4080234567, Walk::AccessFault(5)),
-        (0x8000000000, Walk::PageFault(13)),
-        (0x7fffffffffff, Walk::PageFault(13)),
-        (0x800080234567, Walk::PageFault(13)),
-        (0xffff000080234567, Walk::PageFault(13)),
-        (0xffff7fffffffffff, Walk::PageFault(13)),
-        (0xffff800080234567, mapped),
-        (0xffff800000234567, Walk::AccessFault(5)),
-        (0xffffffffffffffff, Walk::PageFault(13)),
-    ];
     let mut memory = PlainWords::new(&words);
     let root = FrameNo(1).ppn();
-    for (address, outcome) in rows {
-        let (access, mode) = (Access::Load, Mode::User);
-        let told = translate(&mut memory, Scheme::Sv48, root, Va(address), access, mode);
-        assert_eq!(rt; told, outcome, "at {address:x}");
+    for (address, outcome) in &LOADS_OF_THE_ROOT {
+        let told = translate(&mut memory, Scheme::Sv48, root, Va(*address), LOAD, USER);
+        assert_eq!(rt; told, *outcome, "at {address:x}");
     }
     Ok(())
 }
+
+/// What `lookup` finds at a root and an address.
+static FOUND: [(Scheme, FrameNo, u64, Found); 6] = [
+    (Scheme::Sv39, FrameNo(1), 0x3fffff, MEGAPAGE),
+    (Scheme::Sv39, FrameNo(1), 0x400000, Found::NoLeaf),
+    (Scheme::Sv39, FrameNo(4), 0, Found::Outside),
+    (Scheme::Sv48, FrameNo(3), 0x3fffff, MEGAPAGE),
+    (Scheme::Sv48, FrameNo(3), 0x400000, Found::NoLeaf),
+    (Scheme::Sv48, FrameNo(4), 0, Found::Outside),
+];
+
+const MEGAPAGE: Found = Found::Leaf {
+    word: DATA,
+    level: 1,
+    global: false,
+};
 
 #[test]
 fn finds_leaves(rt: HostRuntime) -> Result<(), Fail> {
     let words = tables(rt.alloc(), 4, DATA)?;
     let mut memory = PlainWords::new(&words);
-    let leaf = Found::Leaf {
-        word: DATA,
-        level: 1,
-        global: false,
-    };
-    for (scheme, root) in ROOTS {
-        let root = root.ppn();
-        assert_eq!(rt; lookup(&mut memory, scheme, root, Va(0x3fffff)), leaf);
-        let beside = lookup(&mut memory, scheme, root, Va(0x400000));
-        assert_eq!(rt; beside, Found::NoLeaf);
-        let outside = lookup(&mut memory, scheme, FrameNo(4).ppn(), Va(0));
-        assert_eq!(rt; outside, Found::Outside);
+    for row in &FOUND {
+        let (scheme, root, address, found) = *row;
+        let told = lookup(&mut memory, scheme, root.ppn(), Va(address));
+        assert_eq!(rt; told, found, "{row:?}");
     }
     Ok(())
 }
@@ -294,9 +333,9 @@ fn changes_one_leaf(rt: HostRuntime) -> Result<(), Fail> {
     Ok(())
 }
 
-#[test]
-fn releases_what_was_made(rt: HostRuntime) -> Result<(), Fail> {
-    let (mut frames, mut seat) = PlainFrames::new(rt.alloc(), 16)?;
+/// The numbers of frames that are held after a mapping was made and unmapped, and after its tables were released.
+fn held_by_tables(alloc: Global) -> Result<(usize, usize), AllocError> {
+    let (mut frames, mut seat) = PlainFrames::new(alloc, 16)?;
     let reserved = frames.reserve(&mut seat, 4);
     prove!(reserved.is_ok());
     let scheme = Scheme::Sv48;
@@ -305,8 +344,12 @@ fn releases_what_was_made(rt: HostRuntime) -> Result<(), Fail> {
     let leaf = Entry::leaf(FrameNo(9), Rights::READ, false, false, true);
     map(&mut frames, &mut seat, scheme, root, page, leaf);
     unmap(&mut frames, &mut seat, scheme, root, page);
-    assert_eq!(rt; frames.report().held, 5);
+    let before = frames.report().held;
     release_tables(&mut frames, &mut seat, scheme, root);
-    assert_eq!(rt; frames.report().held, 1);
-    Ok(())
+    Ok((before, frames.report().held))
+}
+
+#[test]
+fn releases_what_was_made(rt: HostRuntime) {
+    assert_eq!(rt; held_by_tables(rt.alloc()), Ok((5, 1)));
 }
