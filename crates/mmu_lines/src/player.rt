@@ -158,7 +158,7 @@ impl MmuPlayer {
         if !self.is_address(va) {
             return Ok(());
         }
-        put_walk_steps(out, &self.recorded, self.profile.extensions, va, "        ")
+        put_walk_steps(out, &self.recorded, self.profile.extensions, va)
     }
 
     /// Whether an address is valid under satp: canonical, or any under Bare.
@@ -284,22 +284,19 @@ impl MmuPlayer {
             Some(By::NotCanonical) => return out.push_str("the address is not canonical"),
             _ => {}
         }
-        let (is_overlooked, mut older) = (
-            telling.put_overlooked(out, claim)?,
-            String::new(self.alloc),
-        );
+        let (is_told, mut older) = (telling.put_present(out, claim)?, String::new(self.alloc));
         let extensions = self.profile.extensions;
         if !self
             .witness
             .put_reason(&mut older, extensions, request, claim)?
         {
-            return if is_overlooked {
+            return if is_told {
                 Ok(())
             } else {
                 self.put_mismatch(out, request, claim)
             };
         }
-        if is_overlooked {
+        if is_told {
             out.push_str("; or ")?;
         }
         out.push_str(older.as_str())

@@ -2,7 +2,7 @@
 
 use crate::reasons::why_fault;
 use crate::telling::Telling;
-use crate::ways::{Stop, end_of, kind_text, last_step, place_at, stop_of};
+use crate::ways::{Stop, end_of, last_step, place_at, put_pte, stop_of};
 use access_history::Outcome;
 use access_judge::{Log, Step, Told, Way};
 use std::alloc::AllocError;
@@ -137,9 +137,7 @@ impl Telling<'_> {
             self.recorded.put_step(&mut out, self.extensions, step)?;
             return Ok(out);
         }
-        let (kind, level) = (kind_text(self.extensions, step), step.level);
-        let word = Hex(step.entry.to_word());
-        write!(&mut out, "{kind} {word} at level {level}")?;
+        put_pte(&mut out, self.extensions, step)?;
         Ok(out)
     }
 

@@ -5,9 +5,9 @@ ghost use Rattle.std.specs.Prelude.{◌≤◌};
 use crate::causes::access_text;
 use crate::reasons::why_fault;
 use crate::telling::Telling;
-use crate::ways::{Stop, end_of, kind_text, stop_of};
+use crate::ways::{Stop, end_of, put_pte, stop_of};
 use access_history::Outcome;
-use access_judge::{Step, Way};
+use access_judge::{Log, Step, Way};
 use mmu_requests::{Claim, End};
 use std::alloc::AllocError;
 use sv39_entry::{Kind, Mode};
@@ -141,30 +141,77 @@ impl Telling<'_> {
 
     /// Appends by what the walk grants an access that a client tells to be a page fault, if that is a bit of mstatus or an extension; returns
     /// whether it is.
-    pub fn put_overlooked(&self, out: &mut String, claim: Claim) -> Result<bool, AllocError> {
-        match claim.end {
-            End::Refused(cause) if cause == self.request.kind.page_fault_cause() => {}
-            _ => return Ok(false),
-        }
+    fn put_overlooked(&self, out: &mut String, claim: Claim) -> Result<bool, AllocError> {
         let Some((step, text)) = self.granted_by() else {
             return Ok(false);
         };
-        let (kind, word) = (kind_text(self.extensions, &step), Hex(step.entry.to_word()));
-        let (access, level) = (access_text(self.request.kind), step.level);
-        write!(
-            out,
-            "{kind} {word} at level {level} grants the {access}: {text}"
-        )?;
+        if !claim.is_by(Some(step.entry.to_word())) {
+            return Ok(false);
+        }
+        put_pte(out, self.extensions, &step)?;
+        let access = access_text(self.request.kind);
+        write!(out, " grants the {access}: {text}")?;
         Ok(true)
+    }
+
+    /// The PTE at which the walk ends with a page fault, and why it does; `None` for a leaf that lacks A or D alone where the hart sets them.
+    fn faulting(&self) -> Option<(Step, &'static str)> {
+        let step = end_of(self.extensions, self.walk()?)?;
+        let (number, text) = self.wrong_in(&step)?;
+        if number == 7 && self.extensions.ad.may_update() {
+            return None;
+        }
+        Some((step, text))
+    }
+
+    /// Appends why the walk has a page fault for an access that a client tells to be granted, if the PTE at which it ends leads there; returns
+    /// whether it does.
+    fn put_lack(&self, out: &mut String, claim: Claim, pa: u64) -> Result<bool, AllocError> {
+        let Some((step, text)) = self.faulting() else {
+            return Ok(false);
+        };
+        let there = leads_to(step.entry, step.level.min(4), self.request.va);
+        if there != pa || !claim.is_by(Some(step.entry.to_word())) {
+            return Ok(false);
+        }
+        put_pte(out, self.extensions, &step)?;
+        write!(out, " leads there, but {text}")?;
+        Ok(true)
+    }
+
+    /// Appends that the access is translated, if a client tells the virtual address as the physical one; returns whether it does.
+    fn put_translated(&self, out: &mut String, pa: u64) -> Result<bool, AllocError> {
+        if self.walk().is_none() || pa != self.request.va.0 {
+            return Ok(false);
+        }
+        let satp = Hex(self.recorded.unit.satp().to_word());
+        write!(out, "the access is translated: satp is {satp}")?;
+        Ok(true)
+    }
+
+    /// Appends what the walk over all as it is says against what a client tells, if one bit or check decides; returns whether one does.
+    pub fn put_present(&self, out: &mut String, claim: Claim) -> Result<bool, AllocError> {
+        match claim.end {
+            End::Granted { pa, .. } => {
+                Ok(self.put_lack(out, claim, pa)? || self.put_translated(out, pa)?)
+            }
+            End::Refused(cause) => {
+                if cause == self.request.kind.page_fault_cause() {
+                    self.put_overlooked(out, claim)
+                } else {
+                    Ok(false)
+                }
+            }
+        }
     }
 
     /// Appends where a leaf leads; `pa`: where a client tells that it does, if it tells so.
     fn put_leads(&self, out: &mut String, step: &Step, pa: Option<u64>) -> Result<(), AllocError> {
-        let (kind, word) = (kind_text(self.extensions, step), Hex(step.entry.to_word()));
         let level = step.level.min(4);
         let there = leads_to(step.entry, level, self.request.va);
         let hex = Hex(there);
-        write!(out, "{kind} {word} at level {level} leads to {hex}")?;
+        put_pte(out, self.extensions, step)?;
+        write!(out, " leads to {hex}")?;
         let bits = reach(step.entry, level);
         match pa {
             Some(pa) if pa >> bits == there >> bits => {
@@ -178,21 +225,12 @@ impl Telling<'_> {
         }
     }
 
-    /// Appends a PTE by which the walk has a page fault, and why.
-    fn put_wrong(&self, out: &mut String, step: &Step) -> Result<(), AllocError> {
-        let (kind, word) = (kind_text(self.extensions, step), Hex(step.entry.to_word()));
-        let (level, text) = match self.wrong_in(step) {
-            Some((_, text)) => (step.level, text),
-            None => (step.level, ""),
-        };
-        write!(out, "{kind} {word} at level {level}: {text}")
-    }
-
     /// Appends at which PTE the walk ends. `pa`: where a client tells that the access is granted, if it tells so.
     fn put_stop(&self, out: &mut String, step: &Step, pa: Option<u64>) -> Result<(), AllocError> {
-        if pa.is_none() && self.wrong_in(step).is_some() {
+        if let (None, Some((_, text))) = (pa, self.wrong_in(step)) {
             out.push_str("the walk ends with a page fault: ")?;
-            return self.put_wrong(out, step);
+            put_pte(out, self.extensions, step)?;
+            return write!(out, ": {text}");
         }
         let level = step.level;
         if level > 4 {
@@ -201,8 +239,8 @@ impl Telling<'_> {
         if self.extensions.kind(step.entry, level) == Kind::Leaf {
             return self.put_leads(out, step, pa);
         }
-        let (kind, word) = (kind_text(self.extensions, step), Hex(step.entry.to_word()));
-        write!(out, "the walk ends at {kind} {word} at level {level}")
+        out.push_str("the walk ends at ")?;
+        put_pte(out, self.extensions, step)
     }
 
     /// Appends at what the walk ends. `pa`: where a client tells that the access is granted, if it tells so.
@@ -255,9 +293,6 @@ impl Telling<'_> {
         let Some(way) = self.walk() else {
             return self.put_bare(out, pa);
         };
-        if pa == Some(self.request.va.0) {
-            out.push_str("the access is translated: ")?;
-        }
         self.put_end(out, way, pa)
     }
 }

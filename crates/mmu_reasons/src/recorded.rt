@@ -5,7 +5,7 @@ ghost use Rattle.access_history.specs.declared.event.Event.TheVariants as event;
 ghost use Rattle.mmu.specs.Pasts.{past};
 ghost use Rattle.mmu.specs.Units.{fenced, fresh, happened, with_run};
 
-use crate::ways::{LEVELS, kind_text, last_step, step_at};
+use crate::ways::{LEVELS, last_step, put_pte, step_at};
 use access_judge::{Log, Step, Told};
 use mmu::Mmu;
 use std::alloc::{AllocError, Global};
@@ -173,20 +173,13 @@ impl Recorded {
         extensions: Extensions,
         step: &Step,
     ) -> Result<(), AllocError> {
-        let (word, level) = (step.entry.to_word(), step.level);
-        let kind = kind_text(extensions, step);
+        put_pte(out, extensions, step)?;
         match self.unit.next_change(step.ppn, step.index, step.last) {
             Some(event) => {
                 let line = self.line_of(event);
-                write!(
-                    out,
-                    "{kind} 0x{word:x} at level {level} as before line {line}"
-                )
+                write!(out, " as before line {line}")
             }
-            None => write!(
-                out,
-                "{kind} 0x{word:x} at level {level} of another PTE of its NAPOT range"
-            ),
+            None => out.push_str(" of another PTE of its NAPOT range"),
         }
     }
 

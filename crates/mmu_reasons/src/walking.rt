@@ -97,7 +97,7 @@ fn put_read(
     }
 }
 
-/// Appends the walk for an address over memory, satp and PMP as they are, a line for each PTE that it reads, with `lead` before it.
+/// Appends the walk for an address over memory, satp and PMP as they are, a line for each PTE that it reads, after eight blanks.
 ///
 /// # Errors
 /// `AllocError`: the host is out of memory.
@@ -106,14 +106,13 @@ pub fn put_walk_steps(
     recorded: &Recorded,
     extensions: Extensions,
     va: Va,
-    lead: &str,
 ) -> Result<(), AllocError> {
     let Some(way) = walk_now(recorded, extensions, va) else {
         return Ok(());
     };
     'levels: for n in 0..LEVELS {
         if let Some(step) = step_at(&way, LEVELS - 1 - n) {
-            out.push_str(lead)?;
+            out.push_str("        ")?;
             put_read(out, extensions, va, &step)?;
             out.push_str("\n")?;
         }

@@ -1,10 +1,12 @@
-// The page table entries of a way (`Way`): that of a level (`step_at`), the last one (`last_step`), where its walk stops (`stop_of`), and what one is,
-// in words (`kind_text`).
+// The page table entries of a way (`Way`): that of a level (`step_at`), the last one (`last_step`), where its walk stops (`stop_of`), and one in
+// words (`put_pte`).
 
 ghost use Rattle.std.specs.Prelude.{◌≤◌};
 
 use access_judge::{Step, Way};
+use std::alloc::AllocError;
 use sv39_entry::Kind;
+use walk_lines::Hex;
 use walk_rules::{Extensions, top_level};
 
 /// The number of levels of Sv57, at most.
@@ -64,6 +66,16 @@ pub(crate) fn end_of(extensions: Extensions, way: &Way) -> Option<Step> {
     }
 }
 
+/// Whether a walk ended at a leaf.
+pub(crate) fn ends_at_leaf(extensions: Extensions, way: &Way) -> bool {
+    match end_of(extensions, way) {
+        Some(step) => {
+            step.level < LEVELS && extensions.kind(step.entry, step.level) == Kind::Leaf
+        }
+        None => false,
+    }
+}
+
 /// Where a walk stops.
 #[derive(Clone, Copy)]
 pub(crate) enum Stop {
@@ -97,6 +109,20 @@ pub(crate) fn kind_text(extensions: Extensions, step: &Step) -> &'static str {
         (Kind::Invalid, false) => "invalid PTE",
         (Kind::Invalid, true) => "global invalid PTE",
     }
+}
+
+/// Appends a PTE in words, as `leaf PTE 0x202000c9 at level 1`.
+pub(crate) fn put_pte(
+    out: &mut String,
+    extensions: Extensions,
+    step: &Step,
+) -> Result<(), AllocError> {
+    let (kind, word, level) = (
+        kind_text(extensions, step),
+        Hex(step.entry.to_word()),
+        step.level,
+    );
+    write!(out, "{kind} {word} at level {level}")
 }
 
 /// Returns the physical address of a PTE.

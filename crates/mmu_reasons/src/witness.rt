@@ -6,7 +6,7 @@ ghost use Rattle.std.specs.Prelude.{◌≤◌};
 use crate::recorded::Recorded;
 use crate::seeking::seek;
 use crate::telling::Telling;
-use crate::ways::{LEVELS, kind_text, step_at};
+use crate::ways::{LEVELS, ends_at_leaf, put_pte, step_at};
 use access_history::Request;
 use access_judge::{Log, PastSatp, Step, Told};
 use mmu_requests::Claim;
@@ -175,7 +175,7 @@ impl Witness {
 
     /// Whether a fence covers a PTE that a walk read before it (RISC-V Privileged Architecture 20211203, 4.2.1).
     fn covers(&self, extensions: Extensions, va: Va, step: &Step, fence: &Fence) -> bool {
-        if fence.moment <= step.last || step.level > 4 {
+        if step.level > 4 {
             return false;
         }
         if let Some(asid) = fence.asid {
@@ -202,37 +202,88 @@ impl Witness {
         }
     }
 
-    /// The first fence that covers a PTE.
-    fn fence_of(&self, extensions: Extensions, va: Va, step: &Step) -> Option<Fence> {
+    /// How many fences there were up to a moment.
+    fn count_until(&self, moment: usize) -> usize {
+        let mut count = 0usize;
         'fences: for fence in self.fences.as_slice() {
+            if fence.moment > moment {
+                break;
+            }
+            count = count.saturating_add(1);
+        }
+        count
+    }
+
+    /// The number of the first fence, from one on, that covers a PTE which a walk read before; how many there are, if none does.
+    fn covering(&self, extensions: Extensions, va: Va, step: &Step, from: usize) -> usize {
+        'fences: for (number, fence) in self.fences.iter().enumerate().skip(from) {
             if self.covers(extensions, va, step, fence) {
-                return Some(*fence);
+                return number;
             }
         }
-        None
+        self.fences.len()
     }
 
-    /// The first fence after which a walk may not begin by the satp of a way.
-    fn fence_of_root(&self, root: PastSatp) -> Option<Fence> {
-        'fences: for fence in self.fences.as_slice() {
-            if ends_root(fence, &root) {
-                return Some(*fence);
+    /// The number of the first fence after which a walk may not begin by the satp of a way; how many there are, if there is none.
+    fn ending(&self, root: &PastSatp) -> usize {
+        if root.satp == self.unfenced.unit.satp() {
+            return self.fences.len();
+        }
+        'fences: for (number, fence) in self.fences.iter().enumerate() {
+            if ends_root(fence, root) {
+                return number;
             }
         }
-        None
+        self.fences.len()
     }
 
-    /// Appends which fence excludes the word of satp by which a walk began, if one does.
+    /// The fence that excludes the last PTE of a way, if one does: each PTE on the way is read as late as can be, before a fence excludes what
+    /// led to it.
+    fn excluding(&self, extensions: Extensions, va: Va, told: &Told) -> Option<(Fence, Step)> {
+        let root = told.way.root?;
+        let (mut number, mut last) = (self.ending(&root), None);
+        'levels: for n in 0..LEVELS {
+            if let Some(step) = step_at(&told.way, LEVELS - 1 - n) {
+                let from = number.min(self.count_until(step.last));
+                number = self.covering(extensions, va, &step, from);
+                last = Some(step);
+            }
+        }
+        Some((*self.fences.get(number)?, last?))
+    }
+
+    /// Appends a PTE that a fence excludes, as before a line if memory has it no more, else by what older it was read, if by something.
+    fn put_read_by(
+        &self,
+        out: &mut String,
+        extensions: Extensions,
+        va: Va,
+        told: &Told,
+        step: &Step,
+    ) -> Result<(), AllocError> {
+        if self.unfenced.is_old(va, step) {
+            return self.unfenced.put_step(out, extensions, step);
+        }
+        put_pte(out, extensions, step)?;
+        'levels: for level in step.level..LEVELS {
+            if let Some(above) = step_at(&told.way, level) {
+                if self.unfenced.is_old(va, &above) {
+                    out.push_str(", read by ")?;
+                    return self.unfenced.put_step(out, extensions, &above);
+                }
+            }
+        }
+        self.unfenced.put_root(out, told, ", read by ")
+    }
+
+    /// Appends which fence excludes the word of satp by which a walk began that read no PTE, if one does.
     fn put_excluded_root(&self, out: &mut String, told: &Told) -> Result<bool, AllocError> {
         let Some(root) = told.way.root else {
             return Ok(false);
         };
-        if root.satp == self.unfenced.unit.satp() {
-            return Ok(false);
-        }
-        match self.fence_of_root(root) {
+        match self.fences.get(self.ending(&root)) {
             Some(fence) => {
-                put_fence_line(out, &fence)?;
+                put_fence_line(out, fence)?;
                 out.push_str(" excludes ")?;
                 self.unfenced.put_root(out, told, "")?;
                 Ok(true)
@@ -241,7 +292,7 @@ impl Witness {
         }
     }
 
-    /// Appends which fence excludes which PTE of a way that was there when addresses were translated, and is there no more, if one does.
+    /// Appends which fence excludes the last PTE of a way that was there when addresses were translated, if one does.
     fn put_excluded(
         &self,
         out: &mut String,
@@ -249,19 +300,16 @@ impl Witness {
         va: Va,
         told: &Told,
     ) -> Result<bool, AllocError> {
-        'levels: for n in 0..LEVELS {
-            if let Some(step) = step_at(&told.way, LEVELS - 1 - n) {
-                if self.unfenced.is_old(va, &step) && self.unfenced.was_walked(&step) {
-                    if let Some(fence) = self.fence_of(extensions, va, &step) {
-                        put_fence_line(out, &fence)?;
-                        out.push_str(" excludes ")?;
-                        self.unfenced.put_step(out, extensions, &step)?;
-                        return Ok(true);
-                    }
-                }
-            }
+        let Some((fence, step)) = self.excluding(extensions, va, told) else {
+            return self.put_excluded_root(out, told);
+        };
+        if !self.unfenced.was_walked(&step) {
+            return Ok(false);
         }
-        self.put_excluded_root(out, told)
+        put_fence_line(out, &fence)?;
+        out.push_str(" excludes ")?;
+        self.put_read_by(out, extensions, va, told, &step)?;
+        Ok(true)
     }
 
     /// The last fence of everything between which and the one before it a PMP entry was written.
@@ -356,29 +404,32 @@ impl Witness {
         if asid == self.unfenced.unit.satp().asid() {
             return Ok(false);
         }
-        let (kind, word) = (kind_text(extensions, &step), Hex(step.entry.to_word()));
-        let level = step.level;
+        put_pte(out, extensions, &step)?;
         write!(
             out,
-            "{kind} {word} at level {level} is of another ASID and not global: read under ASID {asid}"
+            " is of another ASID and not global: read under ASID {asid}"
         )?;
         Ok(true)
     }
 
-    /// Appends that the outcome that a client tells is by a PTE of another ASID, if it is.
+    /// Appends that the outcome that a client tells is by a PTE of another ASID, if it is; `by_leaf`: only if it is by a leaf.
     fn put_space(
         &self,
         out: &mut String,
         extensions: Extensions,
         request: Request,
         claim: Claim,
+        by_leaf: bool,
     ) -> Result<bool, AllocError>
         requires { 1 ≤ request.width }
     {
-        match seek(&self.unspaced.unit, extensions, request, claim) {
-            Some(told) => self.put_of_space(out, extensions, &told),
-            None => Ok(false),
+        let Some(told) = seek(&self.unspaced.unit, extensions, request, claim) else {
+            return Ok(false);
+        };
+        if by_leaf && !ends_at_leaf(extensions, &told.way) {
+            return Ok(false);
         }
+        self.put_of_space(out, extensions, &told)
     }
 
     /// Appends why the outcome that a client tells is not permitted, if a fence or an ASID is the reason.
@@ -391,9 +442,12 @@ impl Witness {
     ) -> Result<bool, AllocError>
         requires { 1 ≤ request.width }
     {
-        match seek(&self.unfenced.unit, extensions, request, claim) {
-            Some(told) => self.put_fence(out, extensions, request, &told),
-            None => self.put_space(out, extensions, request, claim),
+        let Some(told) = seek(&self.unfenced.unit, extensions, request, claim) else {
+            return self.put_space(out, extensions, request, claim, false);
+        };
+        if self.put_fence(out, extensions, request, &told)? {
+            return Ok(true);
         }
+        self.put_space(out, extensions, request, claim, true)
     }
 }
