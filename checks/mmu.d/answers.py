@@ -61,14 +61,31 @@ def wrong_kind(seen, answer):
     return None
 
 
+# Why a PTE is neither leaf nor pointer, in the program's words, with what that says of its word and level.
+INVALID = {
+    "V is 0": lambda word, level: not word & 1,
+    "W without R": lambda word, level: word & 6 == 4,
+    "one of the bits 60 to 54 is set": lambda word, level: word >> 54 & 127,
+    "bit 63 (N) is set, without Svnapot": lambda word, level: word >> 63,
+    "bits 62 and 61 (PBMT) are set, without Svpbmt": lambda word, level: word >> 61 & 3,
+    "bits 62 and 61 (PBMT) are 3, which is reserved": lambda word, level: word >> 61 & 3 == 3,
+    "bit 63 (N) is set, and this is no leaf of 64 KiB": lambda word, level: word >> 63 and word & 10,
+    "a pointer with N or PBMT": lambda word, level: word >> 61 and not word & 14,
+    "a pointer with U, A or D": lambda word, level: word & 0xD0 and not word & 14,
+    "a pointer at level 0": lambda word, level: level == 0 and not word & 14,
+}
+
+
 def wrong_leaf(seen, line, answer):
-    """What is wrong with an answer that a leaf leads there, but lacks something; None if nothing is."""
+    """What is wrong with an answer that a PTE leads there, but lacks something; None if nothing is."""
     found = re.search(r"PTE (0x[0-9a-f]+) at level (\d)[^,;()]* leads there, but (.*?)\. Permitted: ", answer)
     if not found:
         return None
-    word, level, lack = int(found[1], 16), int(found[2]), found[3]
+    word, level, lack = int(found[1], 16), int(found[2]), found[3].split("; or ")[0]
     if not line.split(" => ")[1].startswith(f"pa {leads_to(seen.profile, word, level, seen.access.va):#x}"):
         return f"{word:#x} leads elsewhere"
+    if kind_of(seen.profile, word, level) != "leaf":
+        return None if lack in INVALID and INVALID[lack](word, level) else f"{word:#x} is invalid by something else"
     bit = re.match(r"([A-Z]) is ([01])", lack)
     step = {"the superpage is not aligned": 6}.get(lack, 7 if bit and bit[1] in "AD" else 5 if bit else None)
     if step_of(seen, word, level) != step or (bit and bool(word & BITS[bit[1]]) != (bit[2] == "1")):
