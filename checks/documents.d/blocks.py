@@ -7,6 +7,7 @@ import itertools
 import os
 import pathlib
 import re
+import shlex
 import shutil
 import subprocess
 import tempfile
@@ -129,6 +130,8 @@ def check_commands(check, player, document, block):
             (player.scratch / words[-1]).write_text("\n".join(shown) + "\n")
         elif words[0] == "cp":
             shutil.copy(player.scratch / words[1], player.scratch / words[2])
+        elif words[0] == "sed":
+            subprocess.run(shlex.split(command), cwd=player.scratch, check=True)
         elif shown:
             check_command(check, player, (document, number + 2 + start), (command, shown))
 
