@@ -61,7 +61,8 @@ def wrong_kind(seen, answer):
     return None
 
 
-# Why a PTE is neither leaf nor pointer, in the program's words, with what that says of its word and level.
+# Why a PTE is neither leaf nor pointer, in the program's words, with what that says of its word and level. Of the first two the first that holds
+# must be told.
 INVALID = {
     "V is 0": lambda word, level: not word & 1,
     "W without R": lambda word, level: word & 6 == 4,
@@ -85,7 +86,8 @@ def wrong_leaf(seen, line, answer):
     if not line.split(" => ")[1].startswith(f"pa {leads_to(seen.profile, word, level, seen.access.va):#x}"):
         return f"{word:#x} leads elsewhere"
     if kind_of(seen.profile, word, level) != "leaf":
-        return None if lack in INVALID and INVALID[lack](word, level) else f"{word:#x} is invalid by something else"
+        first = next((it for it in ("V is 0", "W without R") if INVALID[it](word, level)), lack)
+        return None if lack == first and lack in INVALID and INVALID[lack](word, level) else f"{word:#x} is invalid by something else"
     bit = re.match(r"([A-Z]) is ([01])", lack)
     step = {"the superpage is not aligned": 6}.get(lack, 7 if bit and bit[1] in "AD" else 5 if bit else None)
     if step_of(seen, word, level) != step or (bit and bool(word & BITS[bit[1]]) != (bit[2] == "1")):
