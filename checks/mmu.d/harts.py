@@ -1,7 +1,8 @@
 """Harts with caches, for checks/mmu: what each of them may do with an access. They know tags and no history.
 
 At any moment a hart may fetch a word from memory ahead of a use that it guesses (level, page, ASID, global), may let a walk read one
-PTE more and keep it, and may forget anything. A fence removes what its tags tell it to. Numbers are sections of the standard.
+PTE more and keep it, and may forget anything. A store that sets A or D in the place of a leaf that it keeps may be its own, and then it keeps
+the leaf so. A fence removes what its tags tell it to. Numbers are sections of the standard.
 
     Hart          what is kept, and what it says
     PlainHart     keeps nothing
@@ -11,7 +12,8 @@ PTE more and keep it, and may forget anything. A fence removes what its tags tel
 import collections
 
 from rules import ACCESS_FAULT, MISALIGNED, PAGE_FAULT, TYPES, Status, aged, allows, asid_of, effective, index_of, is_canonical, is_global
-from rules import is_locked, is_napot, kind_of, leads_to, pmp_permits, ppn_of, reach_of, root_of, top_of, with_entry
+from rules import is_locked, is_napot, kind_of, leads_to, pmp_permits, ppn_of, reach_of, root_of, top_of, updates
+from rules import with_entry
 
 # A word with its tags. place: where the walk looks for it. leafed: since it was read, a leaf was stored there
 Entry = collections.namedtuple("Entry", "level page place word asid is_global leafed")
@@ -48,11 +50,25 @@ class Hart:
     # ---- events
 
     def store(self, place, word):
+        was = self.word(place)
         self.memory[place] = word
+        if self.profile.ad != "svade" and was is not None:
+            self.update(place, was, word)
         for entries in (self.fetched, self.kept):
             for key, group in entries.items():
                 if kind_of(self.profile, word, key[0]) == "leaf" and any(it.place == place for it in group):
                     entries[key] = {it._replace(leafed=True) if it.place == place else it for it in group}
+
+    def update(self, place, was, word):
+        """4.3.2, step 7: A and D of leaves that are kept."""
+        for group in self.kept.values():
+            group |= {it._replace(word=word, leafed=False) for it in group if self.is_at(it, place) and updates(it.word, was, word)}
+
+    def is_at(self, entry, place):
+        """A leaf is read for the PTE at a place."""
+        if is_napot(self.profile, entry.word, entry.level):
+            return entry.place & ~127 == place & ~127
+        return entry.place == place and kind_of(self.profile, entry.word, entry.level) == "leaf"
 
     def write_satp(self, word):
         self.satp = word

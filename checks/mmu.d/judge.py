@@ -11,7 +11,7 @@ import sys
 
 from rules import ACCESS_FAULT, MISALIGNED, PAGE_FAULT, TYPES, Access, Profile, Status, aged, allows, asid_of, effective, index_of
 from rules import is_address_locked, is_canonical, is_global, is_locked, is_napot, kind_of, leads_to, of_parts, pmp_permits, ppn_of, reach_of
-from rules import root_of, top_of, with_entry
+from rules import root_of, top_of, updates, with_entry
 
 MODES = {"sv39": 8, "sv48": 9, "sv57": 10}
 # A word that satp had, the last fence of its ASID then, and its last moment since that fence
@@ -149,6 +149,19 @@ class Judge:
         """A PTE serves under satp as it is."""
         return has_level(self.satp, va, read.level) and (read.is_global or read.asid == asid_of(self.satp)) and not self.is_fenced(read, va)
 
+    def words_of(self, read, va):
+        """A PTE's word; and of a leaf those that the hart may have made of it since, by setting A or D in its place."""
+        yield read
+        if self.profile.ad == "svade" or kind_of(self.profile, read.word, read.level) != "leaf":
+            return
+        place = self.place(read, va)
+        group = range(place & ~127, (place & ~127) + 128, 8) if is_napot(self.profile, read.word, read.level) else [place]
+        for place in group:
+            had = self.versions(place, self.now)
+            for (new, _), (was, last) in zip(had, had[1:]):
+                if last >= read.last and updates(read.word, was, new):
+                    yield read._replace(word=new)
+
     # ---- outcomes
 
     def ends(self, access, pa, type_, update):
@@ -191,7 +204,8 @@ class Judge:
         for it in self.search_all(access.va):
             if isinstance(it, Read):
                 if self.serves(it, access.va):
-                    found |= self.says(it, access)
+                    for word in self.words_of(it, access.va):
+                        found |= self.says(word, access)
             elif it.last == self.now:
                 place = self.place(it, access.va)
                 if self.word(place) is None or self.may(False, self.now, "S", "load", place, 8):

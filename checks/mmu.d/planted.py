@@ -131,6 +131,8 @@ ERRORS = [
         "judge.py",
         ("(asid_of(use.satp), use.epoch) == (read.asid, epoch)", "asid_of(use.satp) == read.asid"),
     ),
+    ("no update of A and D reaches what is kept", "judge.py", ("if last >= read.last and updates(read.word, was, new):", "if False:")),
+    ("each store reaches the leaves that are kept", "judge.py", ("if last >= read.last and updates(read.word, was, new):", "if last >= read.last:")),
     ("A and D are compared with what was read", "judge.py", ("and self.word(place) == read.word:", "and True:")),
     ("a PTE of another ASID serves", "judge.py", ("(read.is_global or read.asid == asid_of(self.satp)) and not", "not")),
     (

@@ -98,6 +98,16 @@ def aged(word, kind):
     return word | A | (D if kind == "store" else 0)
 
 
+def has_aged(word, new):
+    """A word is another one, or that with A, or with A and D."""
+    return new in (word, aged(word, "load"), aged(word, "store"))
+
+
+def updates(word, was, new):
+    """A store over a word may be the update of A and D by a leaf that had another one."""
+    return has_aged(word, was) and has_aged(was, new) and was != new
+
+
 def leads_to(profile, word, level, va):
     """4.3.2, step 8; chapter 5."""
     bits = reach_of(profile, word, level)

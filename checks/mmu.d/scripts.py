@@ -2,8 +2,8 @@
 import collections
 
 from harts import HartOfAll, RandomHart, uses_of
-from rules import ACCESS_FAULT, MISALIGNED, PAGE_FAULT, TOPS, Access, Profile, Status, asid_of, effective, index_of, is_address_locked
-from rules import is_canonical, is_locked, of_parts, root_of, top_of, words_of
+from rules import ACCESS_FAULT, MISALIGNED, PAGE_FAULT, TOPS, Access, Profile, Status, aged, asid_of, effective, index_of
+from rules import is_address_locked, is_canonical, is_locked, of_parts, root_of, top_of, words_of
 
 BASE = 0x80000  # a frame
 MODES = {"sv39": 8, "sv48": 9, "sv57": 10}
@@ -115,6 +115,23 @@ class Writer:
         for hart in self.each():
             hart.store(place, word)
         self.ok(f"mem {place:#x} {word:#x}")
+
+    def age(self):
+        """A or D is set in a PTE, as by a hart that walked to it; then perhaps its table is no longer found, and the page is accessed."""
+        rng = self.rng
+        va = rng.choice(self.vas)
+        level = rng.choice([0, 0, *self.tables])
+        place = rng.choice(self.tables[level]) * 4096 + index_of(va, level) * 8
+        if place not in self.hart.memory:
+            return
+        self.hart.speculate()
+        self.mem(level, place, aged(self.hart.memory[place], rng.choice(["load", "store"])))
+        if rng.random() < 0.6:
+            above = rng.choice(list(self.tables))
+            self.mem(above, rng.choice(self.tables[above]) * 4096 + index_of(va, above) * 8, self.word(above))
+        if rng.random() < 0.4:
+            self.mem(level, place, aged(self.hart.memory[place], "store"))
+        self.access(va)
 
     def satp(self):
         rng = self.rng
@@ -307,6 +324,8 @@ class Writer:
         elif draw < 0.76:
             if self.profile.pmps:
                 self.pmp()
+        elif draw < 0.8:
+            self.age()
         else:
             self.access()
 

@@ -1,6 +1,6 @@
 """Tiny cases, in which each hart is tried: whatever it fetches, walks, keeps and forgets, with room for three PTEs."""
 from harts import Entry, Hart, Use, page_of
-from rules import Access, Profile, kind_of, words_of
+from rules import Access, Profile, aged, kind_of, words_of
 from scripts import BASE, Script, Wanted
 
 ROOM = 3
@@ -102,6 +102,8 @@ def tiny_script(rng, name, with_readings):
 
     def mem(level, place):
         word = rng.choice(tops if level == 2 else ends)
+        if rng.random() < 0.3:  # an update of A and D
+            word = aged(hart.memory.get(place, word), rng.choice(["load", "store"]))
         happen(f"mem {place:#x} {word:#x}", "store", place, word)
 
     def satp():

@@ -1,16 +1,16 @@
 -- The worked example after the fence: the load no longer goes by the old leaf.
-use Rattle.std.proofs.Common.{◌≡◌, ◌⊎◌, ℕ, zero, suc, ◌+◌, ◌*◌, ◌^◌, ◌≤◌, Bool, true, false, refl, inl, inr, subst, arith}
+use Rattle.std.proofs.Common.{◌≡◌, ◌⊎◌, ℕ, zero, suc, ◌+◌, ◌*◌, ◌^◌, ◌≤◌, Bool, true, false, refl, sym, ◌∙◌, inl, inr, subst, arith}
 use Rattle.std.proofs.Common.{Option, None, Some, List, [], ◌∷◌, if◌then◌else◌}
 use Rattle.std.proofs.lemmas.Bool.{cases_eq, eq-eqb, ne_eqb, false≢true}
 use Rattle.sv39_entry.specs.declared.access.Mode.{Mode}
 use Rattle.sv39_entry.specs.declared.entry.Kind.TheVariants.{Leaf}
 use Rattle.walk_rules.specs.Addresses.{is_canonical, leads_to}
-use Rattle.walk_rules.specs.Kinds.{kind_in}
+use Rattle.walk_rules.specs.Kinds.{kind_in, may_update}
 use Rattle.walk_rules.specs.declared.extensions.Extensions.{Extensions}
 use Rattle.walk_rules.specs.declared.memory_type.MemoryType.{MemoryType}
 use Rattle.walk_rules.specs.declared.memory_type.MemoryType.TheVariants.{Pma}
 use Rattle.access_history.specs.Examples.{example_fence, example_first, example_hart, example_leaf, example_load, example_past, example_store}
-use Rattle.access_history.specs.Held.{HadWord, IsHeld, Read, at_root, below, stays}
+use Rattle.access_history.specs.Held.{HadWord, IsHeld, Read, at_root, below, stays, updated}
 use Rattle.access_history.specs.History.{First}
 use Rattle.access_history.specs.Permits.{Ends, Permits, Says, Serves}
 use Rattle.access_history.specs.Permits as permits
@@ -20,11 +20,12 @@ use Rattle.access_history.specs.declared.outcome.Outcome.TheVariants.{Granted}
 use Rattle.access_history.specs.declared.outcome.Update.{Update}
 use Rattle.access_history.proofs.FullFence.{covered_after}
 
--- a word that is held was in memory
-had_word : (x : Extensions) (f : First) (va : ℕ) (h past : List Event) (r : Read) → IsHeld x f va h r past → HadWord x f va past r
-had_word x f va h past r (at_root may root) = may.had
-had_word x f va h past r (below above may is) = may.had
-had_word x f va h past r (stays {h = before} was free) = had_word x f va before past r was
+-- a word that is held was in memory, as A and D are left to software
+had_word : (x : Extensions) (f : First) (va : ℕ) → may_update x.ad ≡ false → (h past : List Event) (r : Read) → IsHeld x f va h r past → HadWord x f va past r
+had_word x f va by_software h past r (at_root may root) = may.had
+had_word x f va by_software h past r (below above may is) = may.had
+had_word x f va by_software h past r (stays {h = before} was free) = had_word x f va by_software before past r was
+had_word x f va by_software h past r (updated was is) = absurd (false≢true (sym by_software ∙ is.scheme))
 
 -- the words that memory has now
 abbrev IsNow : ℕ → Type 0
@@ -69,7 +70,7 @@ not_old r serves leaf leads =
     let anew = covered_after example_hart example_first 0x1000 (example_store ∷ []) serves.since example_fence r serves.held
     (tt, ((λ top is. canonical top is), refl, inl leaf)) in
     let had = subst (λ (past : List Event). HadWord example_hart example_first 0x1000 past r) anew
-    (had_word example_hart example_first 0x1000 moment serves.since r serves.held) in
+    (had_word example_hart example_first 0x1000 refl moment serves.since r serves.held) in
     elim had [
       | inr napot ↦ absurd (false≢true napot.0)
       | inl word ↦ elim (word_by _ _ _ r.word word) [

@@ -8,7 +8,7 @@ use Rattle.sv39_entry.specs.declared.entry.Kind.TheVariants.{Pointer}
 use Rattle.walk_rules.specs.Addresses.{is_canonical, top_of}
 use Rattle.walk_rules.specs.Kinds.{kind_in}
 use Rattle.walk_rules.specs.declared.extensions.Extensions.{Extensions}
-use Rattle.access_history.specs.Held.{HadWord, IsCovered, MayPassRead, IsHeld, IsKept, MayRead, Read, has_global, read_of, at_root, below, stays, now, next}
+use Rattle.access_history.specs.Held.{HadWord, IsCovered, MayPassRead, IsHeld, IsKept, MayRead, Read, has_global, read_of, at_root, below, stays, updated, now, next}
 use Rattle.access_history.specs.History.{First, memory_at, satp_at}
 use Rattle.access_history.specs.Walks.{IsWay, levels_above}
 use Rattle.access_history.specs.declared.event.Event.{Event}
@@ -25,6 +25,7 @@ pub covered_after : (x : Extensions) (f : First) (va : ℕ) (h past : List Event
 covered_after x f va h past e r (at_root may root) covered = kept_after x f va r h past e may.kept covered
 covered_after x f va h past e r (below above may is) covered = kept_after x f va r h past e may.kept covered
 covered_after x f va h past e r (stays was free) covered = absurd (free covered)
+covered_after x f va h past e r (updated was is) covered = refl
 
 pub held_after : (x : Extensions) (f : First) (va : ℕ) (h past : List Event) (r : Read) → IsHeld x f va (Fence None None ∷ h) r past
     → past ≡ Fence None None ∷ h
@@ -60,6 +61,7 @@ walk_reads x f va h past r plain (below {since = since} {above = above} was may 
     (above.table, above.word, up.3, read, kind, is.table) in
     (up.0, up.1, omega (arith, le, next_level), way, read_now x f va h past r plain (kept_after x f va r h past (Fence None None) may.kept (tt, tt)) may.had)
 walk_reads x f va h past r plain (stays was free) = absurd (free (tt, tt))
+walk_reads x f va h past r plain (updated was is) = let store = is.stores in cc
 
 -- what a walk over memory as it is reads, a hart may hold
 module _ (x : Extensions) (f : First) (va : ℕ) (h : List Event) (top : ℕ) (is : top_of (satp_at f.satp h) ≡ Some top) (canonical : is_canonical top va ≡ true)

@@ -1,3 +1,4 @@
+pub mod AdWords
 pub mod Covering
 pub mod FencedLeaf
 pub mod FullFence
@@ -5,3 +6,4 @@ pub mod HartRuns
 pub mod PlainKinds
 pub mod PlainRights
 pub mod StaleLeaf
+pub mod Updates

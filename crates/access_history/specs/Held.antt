@@ -1,7 +1,7 @@
 -- Which page table entries (PTEs) a hart may hold for a virtual address at a moment (`IsHeld`): each that a walk may have read, if no
--- fence has covered it since (`IsCovered`). No event says when a hart caches: this is what any hart may hold. (The standard, 4.2.1, SFENCE.VMA;
--- 4.3.1, global mappings; 4.3.2, the walk; 3.7.2, PMP and caches; chapter 5, Svnapot.)
-use Rattle.std.specs.Prelude.{◌≡◌, ◌⊎◌, ℕ, Bool, true, false, suc, ◌+◌, ◌*◌, ◌/◌, ◌^◌, ◌||◌, ◌&&◌, ◌≤◌, Option, None, Some, List, ◌∷◌}
+-- fence has covered it since (`IsCovered`); a leaf also with A and D as the hart sets them (`IsUpdate`). No event says when a hart caches: this is
+-- what any hart may hold. (The standard, 4.2.1, SFENCE.VMA; 4.3.1, global mappings; 4.3.2, the walk; 3.7.2, PMP and caches; chapter 5, Svnapot.)
+use Rattle.std.specs.Prelude.{◌≡◌, ◌⊎◌, ℕ, Bool, true, false, suc, not, ◌+◌, ◌*◌, ◌/◌, ◌^◌, ◌==◌, ◌||◌, ◌&&◌, ◌≤◌, Option, None, Some, List, ◌∷◌}
 use Rattle.std.specs.List.{Contains}
 use Rattle.sv39_entry.specs.Address.{has, page_of, vpn}
 use Rattle.sv39_entry.specs.Satp.{asid, root_ppn}
@@ -11,8 +11,9 @@ use Rattle.sv39_entry.specs.declared.address.Va.{Va}
 use Rattle.sv39_entry.specs.declared.entry.Kind.{Kind}
 use Rattle.sv39_entry.specs.declared.entry.Kind.TheVariants.{Invalid, Leaf, Pointer}
 use Rattle.walk_rules.specs.Addresses.{is_canonical, reach, top_of}
-use Rattle.walk_rules.specs.Kinds.{is_napot, kind_in}
+use Rattle.walk_rules.specs.Kinds.{is_napot, kind_in, may_update}
 use Rattle.walk_rules.specs.Pmp.{pmp_permits}
+use Rattle.walk_rules.specs.Rights.{with_ad}
 use Rattle.walk_rules.specs.declared.extensions.Extensions.{Extensions}
 use Rattle.walk_rules.specs.declared.pmp.PmpEntry.{PmpEntry}
 use Rattle.walk_rules.specs.declared.status.Privilege.TheVariants as privilege
@@ -124,10 +125,42 @@ pub record IsBelow (x : Extensions) (f : First) (h : List Event) (above r : Read
   pub table : r.table ≡ ppn above.word
   pub global : r.global ≡ (above.global || has_global r.word)
 
+-- ---- what a hart makes of a leaf that it holds
+
+-- a word is another one, or that with A, or with A and D set
+abbrev pub is_with_ad : ℕ → ℕ → Bool
+is_with_ad w v = v == w || v == with_ad access.Load w || v == with_ad access.Store w
+
+-- a store of one word over another sets A or D in a leaf that had a third word, and has as much of A and D since, or more
+abbrev pub sets_ad : ℕ → ℕ → ℕ → Bool
+sets_ad w was new = is_with_ad w was && is_with_ad was new && not (was == new)
+
+-- where the PTE of a read may stand in its table: at the index of the address or, of a NAPOT leaf, at any of the 16 of its group (chapter 5)
+abbrev pub IsPlace : Extensions → ℕ → Read → ℕ → Type 0
+IsPlace x va r index =
+    (index ≡ vpn (page_of va) r.level)
+    ⊎ ((x.svnapot ≡ true) × (r.level ≡ 0) × (is_napot 0 r.word ≡ true) × (index / 16 ≡ vpn (page_of va) 0 / 16))
+
+-- an event at a moment may be the hart's own update of A and D by a leaf that it holds, to a word (4.3.2, step 7)
+pub record IsUpdate (x : Extensions) (f : First) (va : ℕ) (e : Event) (h : List Event) (r : Read) (w : ℕ) : Type 0 where
+  pub scheme : may_update x.ad ≡ true
+  pub leaf : kind_in x r.level r.word ≡ Leaf
+  pub index : ℕ
+  pub place : IsPlace x va r index
+  pub stores : e ≡ Store r.table index w
+  pub was : ℕ
+  pub before : memory_at f.memory h r.table index ≡ Some was
+  pub sets : sets_ad r.word was w ≡ true
+
+abbrev pub with_word : Read → ℕ → Read
+with_word r w = read_of r.level r.table w r.asid r.global
+
 -- at the first moment a hart may hold a read, of a word of the second: a walk reads it, from the root or by a pointer that the hart may hold at
--- that time; or the hart held it before, and no event since covers it
+-- that time; or the hart held it before, and no event since covers it; or the last event sets A or D in a leaf that it held
 pub data IsHeld (x : Extensions) (f : First) (va : ℕ) : List Event → Read → List Event → Type 0 where
   at_root : {h past : List Event} {r : Read} → MayRead x f va h r past → IsAtRoot f h r → IsHeld x f va h r past
   below : {h past since : List Event} {above r : Read} → IsHeld x f va h above since → MayRead x f va h r past → IsBelow x f h above r
       → IsHeld x f va h r past
   stays : {h past : List Event} {r : Read} {e : Event} → IsHeld x f va h r past → (IsCovered x f va e h r past → ⊥) → IsHeld x f va (e ∷ h) r past
+  updated : {h past : List Event} {r : Read} {e : Event} {w : ℕ} → IsHeld x f va h r past → IsUpdate x f va e h r w
+      → IsHeld x f va (e ∷ h) (with_word r w) (e ∷ h)

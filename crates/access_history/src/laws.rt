@@ -1,12 +1,12 @@
 // Laws of the definitions. What a fence covers (`fences_cover`). Right after SFENCE.VMA of everything nothing that a hart may hold is older than the
 // fence (`full_fence_forgets`), and it is what a walk over memory as it is reads (`held_now_is_walk`). What may be held is what some hart with a
-// cache keeps (`held_is_kept`). Without extensions, kinds and rights are those of `sv39_entry` (`plain_kinds`, `plain_walks`). A worked
+// cache keeps (`held_is_kept`). What a hart's update of A and D leaves as it was (`updates_keep_leaves`). Without extensions, kinds and rights are those of `sv39_entry` (`plain_kinds`, `plain_walks`). A worked
 // example (`stale_leaf_is_permitted`).
 
 ghost use Rattle.std.specs.Prelude.{◌&&◌, ◌*◌, ◌%◌, ◌^◌, ◌≡◌, ◌≢◌, ◌+◌, ◌-◌, ◌≤◌, false, ℕ, Bool, true, List, Option, None, Some, [], ◌∷◌};
 ghost use Rattle.access_history.specs.Examples.{example_fence, example_hart, example_load, example_past, example_store};
 ghost use Rattle.access_history.specs.Harts.{Kept, Runs, kept};
-ghost use Rattle.access_history.specs.Held.{IsCovered, IsHeld, MayPassRead, Read, read_of};
+ghost use Rattle.access_history.specs.Held.{IsCovered, IsHeld, MayPassRead, Read, has_global, is_with_ad, reach_in, read_of};
 ghost use Rattle.access_history.specs.History.{First, memory_at, satp_at};
 ghost use Rattle.access_history.specs.Permits.{Permits};
 ghost use Rattle.access_history.specs.Walks.{IsWay, levels_above};
@@ -21,7 +21,7 @@ ghost use Rattle.sv39_entry.specs.Word.{kind_of, permits, ppn};
 ghost use Rattle.sv39_entry.specs.declared.access.Access.{Access};
 ghost use Rattle.sv39_entry.specs.declared.access.Mode.{Mode};
 ghost use Rattle.sv39_entry.specs.declared.address.Va.{Va};
-ghost use Rattle.sv39_entry.specs.declared.entry.Kind.TheVariants.{Pointer};
+ghost use Rattle.sv39_entry.specs.declared.entry.Kind.TheVariants.{Leaf, Pointer};
 ghost use Rattle.sv39_entry.specs.declared.scheme.Scheme.TheVariants.{Sv39, Sv48};
 ghost use Rattle.walk_rules.specs.Addresses.{is_canonical, leads_to, top_of};
 ghost use Rattle.walk_rules.specs.Kinds.{kind_in};
@@ -48,7 +48,7 @@ pub fn fences_cover()
 {}
 
 /// A hart may hold a PTE exactly if some hart keeps it, which at any moment reads one PTE more by a walk, and at any event loses at least what
-/// the event covers.
+/// the event covers, and has A or D set in a leaf if the event sets them.
 pub fn held_is_kept()
     ensures only { (x : Extensions) (f : First) (va : ℕ) (h : List Event) (cs : List Kept) → Runs x f va h cs → (c : Kept) → Contains cs c
         → IsHeld x f va h c.read c.past }
@@ -69,6 +69,14 @@ pub fn held_now_is_walk()
         → IsWay x (memory_at f.memory h) (root_ppn (satp_at f.satp h)) (page_of va) top k table
         → memory_at f.memory h table (vpn (page_of va) (top - k)) ≡ Some word
         → (global : Bool) × IsHeld x f va (Fence None None ∷ h) (read_of (top - k) table word (asid (satp_at f.satp h)) global) (Fence None None ∷ h) }
+{}
+
+/// With A, or with A and D set a leaf is one still (`leaf`), maps as much (`reach`), and is as global as it was (`global`): so a fence covers it as
+/// before.
+pub fn updates_keep_leaves()
+    ensures leaf { (x : Extensions) (level w v : ℕ) → is_with_ad w v ≡ true → kind_in x level w ≡ Leaf → kind_in x level v ≡ Leaf }
+    ensures reach { (x : Extensions) (level w v : ℕ) → is_with_ad w v ≡ true → kind_in x level w ≡ Leaf → reach_in x level v ≡ reach_in x level w }
+    ensures global { (w v : ℕ) → is_with_ad w v ≡ true → has_global v ≡ has_global w }
 {}
 
 /// Without Svnapot and Svpbmt the kind of a PTE above level 0 is what `sv39_entry` says.

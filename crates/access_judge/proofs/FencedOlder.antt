@@ -1,5 +1,5 @@
 -- A fence that covers a leaf in a last table covers each older word of its place.
-use Rattle.std.proofs.Common.{◌≡◌, ◌⊎◌, ◌≤◌, ◌<◌, ◌^◌, ◌/◌, ◌+◌, ◌-◌, ◌&&◌, ◌||◌, ◌==◌, ◌∷◌, ◌++◌, [], ℕ, zero, suc, Bool, true, false, List, Option, None, Some, not, length, refl, sym, ap, ◌∙◌, subst, inl, inr, arith, if◌then◌else◌, append_assoc}
+use Rattle.std.proofs.Common.{◌≡◌, ◌⊎◌, ◌≤◌, ◌<◌, ◌^◌, ◌/◌, ◌-◌, ◌&&◌, ◌||◌, ◌==◌, ◌∷◌, ◌++◌, [], ℕ, zero, suc, Bool, true, false, List, Option, None, Some, length, refl, sym, ap, ◌∙◌, subst, inl, inr, arith, if◌then◌else◌}
 use Rattle.std.specs.List.{Contains}
 use Rattle.std.proofs.lemmas.Bool.{and_from, and_parts, lt-ltb}
 use Rattle.std.proofs.lemmas.Bool.Decides.{nat_tests}
@@ -11,22 +11,22 @@ use Rattle.walk_rules.specs.Addresses.{top_of}
 use Rattle.walk_rules.specs.Kinds.{is_napot, kind_in}
 use Rattle.walk_rules.specs.declared.extensions.Extensions.{Extensions}
 use Rattle.access_history.specs.Held.{reach_in, reach_of}
-use Rattle.access_history.specs.History.{First, IsPast, Memory, satp_at}
+use Rattle.access_history.specs.History.{First, satp_at}
 use Rattle.access_history.specs.Permits.{Past}
 use Rattle.access_history.specs.declared.event.Event.{Event}
 use Rattle.access_history.specs.declared.event.Event.TheVariants.{Store, WriteSatp, WritePmp, Fence}
 use Rattle.access_history.specs.declared.outcome.Outcome.{Outcome}
-use Rattle.access_judge.specs.Judging.{counts, index_at, item_says, step_says, word_says, words_say}
+use Rattle.access_judge.specs.Judging.{counts, item_says, step_says, word_says, words_say}
 use Rattle.access_judge.specs.Log.{versions_before}
 use Rattle.access_judge.specs.Older.{HidesOlder}
-use Rattle.access_judge.specs.Search.{Found, Stand, Use, Version, address_fence, became_leaf, before, ended, found_by, is_address_under, is_fenced, is_fenced_by, is_for, is_kind, is_pointer, space_fence, space_of, until, versions}
+use Rattle.access_judge.specs.Search.{Found, Stand, Use, Version, address_fence, became_leaf, before, ended, found_by, is_address_under, is_fenced, is_for, is_kind, is_pointer, space_of, until, versions}
 use Rattle.access_judge.specs.declared.question.Question.{Question}
 use Rattle.access_judge.proofs.FenceNumber.{fence_in_past}
 use Rattle.access_judge.proofs.LaterLeaf.{after}
 use Rattle.access_judge.proofs.Moments.{past_between, past_length, past_trans, until_length, until_past}
 use Rattle.access_judge.proofs.SearchKinds.{is_other_kind, is_same_kind, leaf_or_invalid, no_pointer_low}
 use Rattle.access_judge.proofs.SearchLists.{any_contains, contains_head, contains_later}
-use Rattle.access_judge.proofs.Telling.{before_none, before_some, word_at_found, word_not_found}
+use Rattle.access_judge.proofs.Telling.{word_at_found, word_not_found}
 use Rattle.access_judge.proofs.WordVersions.{version_had, version_of}
 
 -- ---- the last fence of a page in each address space is no later than the last one of a larger range, or of one address space

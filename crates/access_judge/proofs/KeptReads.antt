@@ -5,7 +5,7 @@ use Rattle.sv39_entry.specs.declared.entry.Kind.TheVariants.{Pointer}
 use Rattle.walk_rules.specs.Addresses.{is_canonical}
 use Rattle.walk_rules.specs.Kinds.{kind_in}
 use Rattle.walk_rules.specs.declared.extensions.Extensions.{Extensions}
-use Rattle.access_history.specs.Held.{IsAddress, IsAtRoot, IsBelow, IsCovered, IsHeld, IsInSpace, IsKept, MayRead, Read, at_root, below, next, stays}
+use Rattle.access_history.specs.Held.{IsAddress, IsAtRoot, IsBelow, IsCovered, IsHeld, IsInSpace, IsKept, MayRead, Read, at_root, below, next, stays, updated}
 use Rattle.access_history.specs.Held as held
 use Rattle.access_history.specs.History.{First, IsPast, now, older}
 use Rattle.access_history.specs.declared.event.Event.{Event}
@@ -43,6 +43,7 @@ pub held_kept : (x : Extensions) (f : First) (va : ℕ) (h past : List Event) (r
 held_kept x f va h past r (at_root may root) = may.kept
 held_kept x f va h past r (below above may is) = may.kept
 held_kept x f va h past r (stays {h = before} was free) = next (held_kept x f va before past r was) free
+held_kept x f va h past r (updated was is) = held.now
 
 -- what is held at a moment, and kept up to a later one, is held then
 pub held_later : (x : Extensions) (f : First) (va : ℕ) (h k past : List Event) (r : Read) → IsHeld x f va k r past → IsPast h k → IsPast k past

@@ -24,5 +24,8 @@ pub mod Sifting
 pub mod TableSays
 pub mod Telling
 pub mod UntilNow
+pub mod UpdatedBehind
+mod UpdatedReads
+mod UpdatedWords
 mod WordVersions
 mod Worked

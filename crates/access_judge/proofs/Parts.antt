@@ -1,13 +1,13 @@
 -- The four parts of the exactness of the search: what it comes by is held, or may be stood at, and it comes by all of that.
-use Rattle.std.specs.Prelude.{◌≡◌, ◌≢◌, ◌⊎◌, ℕ, true, false, Some, List, length}
+use Rattle.std.specs.Prelude.{◌≡◌, ◌≢◌, ◌⊎◌, ℕ, ◌≤◌, true, false, Some, List, ◌∷◌, length}
 use Rattle.std.specs.List.{Contains}
 use Rattle.sv39_entry.specs.declared.entry.Kind.TheVariants.{Pointer}
 use Rattle.walk_rules.specs.Addresses.{is_canonical, top_of}
 use Rattle.walk_rules.specs.Kinds.{kind_in}
 use Rattle.walk_rules.specs.declared.extensions.Extensions.{Extensions}
-use Rattle.access_history.specs.Held.{IsHeld, Read}
+use Rattle.access_history.specs.Held.{IsHeld, IsUpdate, Read, with_word}
 use Rattle.access_history.specs.Permits.{MayStandAt, Past, satp_of}
-use Rattle.access_history.specs.History.{First}
+use Rattle.access_history.specs.History.{First, IsPast}
 use Rattle.access_history.specs.declared.event.Event.{Event}
 use Rattle.access_history.specs.declared.outcome.Request.{Request}
 use Rattle.access_judge.specs.Search.{Found, Stand, Use, ended, is_fenced, search_all, stood, until}
@@ -25,10 +25,20 @@ pub record IsAlike (a b : Read) : Type 0 where
   pub global : a.global ≡ b.global
   pub asid : (a.asid ≡ b.asid) ⊎ (b.global ≡ true)
 
--- the search comes by each PTE that is held and no pointer
+-- a read is what an update of A and D after the last moment of a leaf's word made of the leaf
+pub record IsUpdated (x : Extensions) (f : First) (h : List Event) (va : ℕ) (c : Found) (r : Read) : Type 0 where
+  pub word : ℕ
+  pub event : Event
+  pub before : List Event
+  pub past : IsPast h (event ∷ before)
+  pub late : c.last ≤ length before
+  pub update : IsUpdate x f va event before c.read word
+  pub alike : IsAlike (with_word c.read word) r
+
+-- the search comes by each PTE that is held and no pointer, or by the leaf that it was before an update
 abbrev pub EndedEach : Extensions → First → List Event → List Use → ℕ → Type 0
 EndedEach x f h us va = (r : Read) (past : List Event) → IsHeld x f va h r past → (kind_in x r.level r.word ≢ Pointer)
-    → (c : Found) × Contains (search_all x f h us va) (ended c) × (is_fenced x f h va c ≡ false) × IsAlike c.read r
+    → (c : Found) × Contains (search_all x f h us va) (ended c) × (is_fenced x f h va c ≡ false) × (IsAlike c.read r ⊎ IsUpdated x f h va c r)
 
 -- a stand of now is one at which the walk may be
 abbrev pub StoodOnly : Extensions → Past → List Use → Request → Type 0

@@ -15,7 +15,7 @@ use Rattle.walk_rules.specs.declared.memory_type.MemoryType.TheVariants.{Pma}
 use Rattle.walk_rules.specs.declared.pmp.PmpEntry.{PmpEntry}
 use Rattle.walk_rules.specs.declared.status.Privilege.{Privilege}
 use Rattle.walk_rules.specs.declared.status.Privilege.TheVariants as privilege
-use Rattle.access_history.specs.Held.{BecameLeaf, HadWord, IsAddress, IsAtRoot, IsBelow, IsCovered, IsHeld, IsKept, MayRead, Read, at_root, below, next, now, stays}
+use Rattle.access_history.specs.Held.{BecameLeaf, HadWord, IsAddress, IsAtRoot, IsBelow, IsCovered, IsHeld, IsKept, MayRead, Read, at_root, below, next, now, stays, updated}
 use Rattle.access_history.specs.History.{First, IsPast, Memory, memory_at, older, pmp_at, pmps_at, satp_at}
 use Rattle.access_history.specs.History as history
 use Rattle.access_history.specs.Permits.{Ends, MayFail, MayPass, MayStandAt, MayUpdate, Past, Permits, Says, Serves, index_of, is_there, memory_of, place, privilege_of, satp_of, update}
@@ -276,12 +276,44 @@ module _ (f : First) (h : List Event) where
     held_only m past (d ∷ more) r (stays {h = n} {e = e} was free) is =
         let up = held_only n past more r was (same_tail e d n (more ++ fenced) is) in
         (up.0, up.1, stays up.2 (λ covered. free (covered_back e d n more past up.0 r is up.1 covered)))
+    held_only m past [] r (updated {h = n} {e = e} was up) is =
+        let fence : e ≡ Fence None None = same_head e (Fence None None) n h is in
+        let bad = sym fence ∙ up.stores in
+        cc
+    held_only m past (d ∷ more) r (updated {h = n} {past = was_past} {r = b} {e = e} {w = w} was up) is =
+        let tail = same_tail e d n (more ++ fenced) is in
+        let head = same_head e d n (more ++ fenced) is in
+        let old = held_only n was_past more b was tail in
+        let had = subst (λ (l : List Event). memory_at f.memory l b.table up.index ≡ Some up.was) tail up.before in (
+          d ∷ more,
+          is,
+          updated old.2 (record {
+            scheme = up.scheme;
+            leaf = up.leaf;
+            index = up.index;
+            place = up.place;
+            stores = sym head ∙ up.stores;
+            was = up.was;
+            before = word_only more b.table up.index up.was had;
+            sets = up.sets;
+          }),
+        )
 
     held_each : (since past : List Event) (r : Read) → IsHeld x anew va since r past → IsHeld x f va (since ++ fenced) r (past ++ fenced)
     held_each since past r (at_root may root) = at_root (may_each since past r may) (root_each since r root)
     held_each since past r (below {since = was_past} {above = above} was may way) =
         below (held_each since was_past above was) (may_each since past r may) (below_each since above r way)
     held_each since past r (stays {h = n} {e = e} was free) = stays (held_each n past r was) (λ covered. free (covered_only e n past r covered))
+    held_each since past r (updated {h = n} {past = was_past} {r = b} {e = e} {w = w} was up) = updated (held_each n was_past b was) (record {
+      scheme = up.scheme;
+      leaf = up.leaf;
+      index = up.index;
+      place = up.place;
+      stores = up.stores;
+      was = up.was;
+      before = word_each n b.table up.index up.was up.before;
+      sets = up.sets;
+    })
 
 -- ---- what is permitted
 

@@ -1,28 +1,34 @@
 -- The search comes by all that is held, and by each table at which the walk may be.
-use Rattle.std.proofs.Common.{◌≡◌, ◌⊎◌, ℕ, zero, suc, ◌≤◌, ◌==◌, ◌&&◌, ◌||◌, Bool, true, false, List, [], map, length, refl, sym, ◌∙◌, ap, ap₂, subst, inl, inr, arith, Some}
-use Rattle.std.proofs.lemmas.Bool.{and_parts, and_from, both_ways, cases_Bool, eq-eqb, eqb-true, or_left, or_right, or_cases}
+use Rattle.std.proofs.Common.{◌≡◌, ◌≢◌, ◌⊎◌, ℕ, zero, suc, ◌≤◌, ◌==◌, ◌&&◌, ◌||◌, nat_le, Bool, true, false, List, [], ◌∷◌, map, length, refl, sym, ◌∙◌, ap, ap₂, subst, inl, inr, arith, Some}
+use Rattle.std.proofs.lemmas.Bool.{and_parts, and_from, both_ways, cases_Bool, cases_lt, eq-eqb, eqb-true, le-leb, or_left, or_right, or_cases}
 use Rattle.std.specs.List.{Contains, flat_map}
 use Rattle.sv39_entry.specs.Satp.{asid, root_ppn}
 use Rattle.sv39_entry.specs.Word.{ppn}
-use Rattle.sv39_entry.specs.declared.entry.Kind.TheVariants.{Pointer}
+use Rattle.sv39_entry.specs.declared.entry.Kind.TheVariants.{Leaf, Pointer}
 use Rattle.walk_rules.specs.Addresses.{is_canonical, top_of}
 use Rattle.walk_rules.specs.Kinds.{kind_in}
 use Rattle.walk_rules.specs.declared.extensions.Extensions.{Extensions}
-use Rattle.access_history.specs.Held.{IsAtRoot, IsBelow, IsHeld, Read, at_root, below, has_global, stays}
+use Rattle.access_history.specs.Held.{IsAtRoot, IsBelow, IsCovered, IsHeld, IsKept, IsUpdate, Read, at_root, below, has_global, next, stays, updated, with_word}
+use Rattle.access_history.specs.Held as held
 use Rattle.access_history.specs.History.{First, IsPast, now, older, satp_at}
 use Rattle.access_history.specs.Permits.{MayStandAt, Past, satp_of}
 use Rattle.access_history.specs.Permits as permits
 use Rattle.access_history.specs.declared.event.Event.{Event}
+use Rattle.access_history.specs.declared.event.Event.TheVariants.{Store}
 use Rattle.access_history.specs.declared.outcome.Request.{Request}
-use Rattle.access_judge.specs.Search.{AreUses, Found, IsUnfenced, Item, Stand, Use, below_of, ended, follows, has_level_in, is_pointer, reads_at, root_at, search, search_all, search_from, space_fence, stood, until}
+use Rattle.access_history.proofs.AdWords.{global_still}
+use Rattle.access_history.proofs.Updates.{covered_still, had_update, leaf_now, set_in}
+use Rattle.access_judge.specs.Search.{AreUses, Found, IsUnfenced, Item, Stand, Use, Version, below_of, ended, follows, found_by, has_level_in, is_fenced, is_of_epoch, is_pointer, reads_at, root_at, search, search_all, search_from, space_fence, stood, until}
 use Rattle.access_judge.proofs.FencedReads.{kept_unfenced}
+use Rattle.access_judge.proofs.FenceNumbers.{space_fence_low}
 use Rattle.access_judge.proofs.KeptReads.{held_kept, kept_past, space_kept}
 use Rattle.access_judge.proofs.Moments.{past_between, past_length, past_trans, past_until, unfenced_past, until_length, until_past}
-use Rattle.access_judge.proofs.Parts.{EndedEach, StoodEach}
+use Rattle.access_judge.proofs.Parts.{EndedEach, IsAlike, IsUpdated, StoodEach}
 use Rattle.access_judge.proofs.SearchKinds.{is_other_kind, is_same_kind, latest_from, latest_late, level_in}
 use Rattle.access_judge.proofs.SearchLists.{contains_head, contains_later, flat_contains, map_contains}
-use Rattle.access_judge.proofs.SearchReads.{IsFoundFor, IsStandOf, found_for, read_by}
+use Rattle.access_judge.proofs.SearchReads.{IsFoundFor, IsStandOf, by_read, found_for, read_by, version_at, version_was}
 use Rattle.access_judge.proofs.SearchStands.{below_at, onward}
+use Rattle.access_judge.proofs.UpdatedReads.{alike_updated, update_again, update_alike}
 
 module _ (x : Extensions) (f : First) (h : List Event) (us : List Use) (va : ℕ) (un : IsUnfenced h) (uses : AreUses f.satp h us) where
   -- all that comes from a stand is found
@@ -204,31 +210,190 @@ module _ (x : Extensions) (f : First) (h : List Event) (us : List Use) (va : ℕ
               ]
             ]
 
-  finds : (u past : List Event) (r : Read) → IsPast h u → IsHeld x f va u r past
-      → (s : Stand) × (c : Found) × IsReached s × IsFoundFor x f h va s r past c
+  -- a read is one that a walk read at a stand, or what an update after the stand made of it
+  data IsOf (s : Stand) (u : List Event) (b : Read) (since : List Event) : Read → List Event → Type 0 where
+    itself : IsOf s u b since b since
+    set : {e : Event} {k : List Event} {w : ℕ} → IsPast u (e ∷ k) → s.last ≤ length k → IsUpdate x f va e k b w → IsOf s u b since (with_word b w) (e ∷ k)
+
+  -- the search comes by a read at a stand
+  record IsFound (u : List Event) (b : Read) (since : List Event) (s : Stand) (c : Found) : Type 0 where
+    low : s.last ≤ length h
+    reached : IsReached s
+    found : IsFoundFor x f h va s b since c
+    kept : IsKept x f va b u since
+
+  abbrev Comes : List Event → List Event → Read → Type 0
+  Comes u past r = (b : Read) × (since : List Event) × (s : Stand) × (c : Found) × IsFound u b since s c × IsOf s u b since r past
+
+  -- a pointer is no leaf that was updated
+  found_pointer : (u since past : List Event) (b r : Read) (s : Stand) (c : Found) → IsOf s u b since r past → kind_in x r.level r.word ≡ Pointer
+      → IsFoundFor x f h va s b since c → IsFoundFor x f h va s r past c
+  found_pointer u since past b r s c itself pointer found = found
+  found_pointer u since past b r s c (set {e = e} {k = k} {w = w} at late is) pointer found =
+      let leaf : Leaf ≡ Pointer = sym (leaf_now x f va e k b w is) ∙ pointer in
+      cc
+
+  -- what is kept through an event
+  kept_on : (u since past : List Event) (b r : Read) (s : Stand) (e : Event) → IsOf s u b since r past → (IsCovered x f va e u r past → ⊥)
+      → IsCovered x f va e u b since → ⊥
+  kept_on u since past b r s e itself free covered = free covered
+  kept_on u since past b r s e (set {e = d} {k = k} {w = w} at late is) free covered =
+      free (covered_still x f va b w (set_in x f va d k b w is) is.leaf e u since (d ∷ k) covered)
+
+  of_later : (u since past : List Event) (b r : Read) (s : Stand) (e : Event) → IsOf s u b since r past → IsOf s (e ∷ u) b since r past
+  of_later u since past b r s e itself = itself
+  of_later u since past b r s e (set at late is) = set (older at) late is
+
+  -- an update by a read is one by what it is of
+  update_of_read : (u since past : List Event) (b r : Read) (s : Stand) (e : Event) (k : List Event) (w : ℕ) → IsOf s u b since r past
+      → IsUpdate x f va e k r w → IsUpdate x f va e k b w × (with_word b w ≡ with_word r w)
+  update_of_read u since past b r s e k w itself is = (is, refl)
+  update_of_read u since past b r s e k w (set {e = d} {k = g} {w = v} at late first) is = (update_again x f va d e g k b v w first is, refl)
+
+  no_fence : (e : Event) (u : List Event) (space table index w : ℕ) → e ≡ Store table index w → space_fence (e ∷ u) space ≡ space_fence u space
+  no_fence e u space table index w is = subst (λ (d : Event). space_fence (d ∷ u) space ≡ space_fence u space) (sym is) refl
+
+  -- an update up to the stand's last moment may be read there
+  found_update : (e : Event) (u since : List Event) (b : Read) (s : Stand) (c : Found) (w : ℕ) → IsPast h (e ∷ u) → length (e ∷ u) ≤ s.last
+      → IsFound u b since s c → IsUpdate x f va e u b w → (d : Found) × IsFoundFor x f h va s (with_word b w) (e ∷ u) d
+  found_update e u since b s c w was early is up =
+      let found = is.found in
+      let read = read_by x f h va s c found.among in
+      let same = read.2 in
+      let level : s.level ≡ b.level = ap (λ (d : Found). d.read.level) same ∙ found.alike.level in
+      let table : s.table ≡ b.table = ap (λ (d : Found). d.read.table) same ∙ found.alike.table in
+      let there = version_at x f h va s (e ∷ u) (with_word b w) is.low (late_past (e ∷ u) s.last was is.low early) level table (had_update x f va e u b w up) in
+      let v = there.0 in
+      let late = there.3 in
+      let global_word : has_global v.word ≡ has_global read.0.word =
+      ap has_global there.2 ∙ global_still b.word w (set_in x f va e u b w up)
+      ∙ ap has_global (sym found.alike.word ∙ ap (λ (d : Found). d.read.word) (sym same)) in
+      let global : (s.global || has_global v.word) ≡ b.global =
+      ap (λ (g : Bool). s.global || g) global_word ∙ ap (λ (d : Found). d.read.global) same ∙ found.alike.global in
+      let short = past_length u since (kept_past x f va b u since is.kept) in (
+        found_by s v,
+        record {
+          among = by_read x f h va s v (record { among = there.1; of_epoch = of_epoch v global (omega (arith, short, late)); passes = read.1.passes });
+          alike = record { level = level; table = table; word = there.2; global = global; asid = space read.0 same };
+          late = late;
+          epoch = epoch;
+        },
+      ) where
+        of_epoch : (v : Version) → (s.global || has_global v.word) ≡ b.global → length since ≤ v.last → is_of_epoch s (found_by s v) ≡ true
+        of_epoch v global late = elim is.found.epoch [
+          | inl all ↦ or_left (s.global || has_global v.word) (nat_le s.epoch v.last) (global ∙ all)
+          | inr at ↦
+              let low = space_fence_low since b.asid in
+              or_right (s.global || has_global v.word) (nat_le s.epoch v.last) (le-leb s.epoch v.last (omega (arith, low, at, late)))
+        ]
+
+        space : (v : Version) → found_by s v ≡ c → (s.asid ≡ b.asid) ⊎ (b.global ≡ true)
+        space v same = elim is.found.alike.asid [
+          | inl own ↦ inl (ap (λ (d : Found). d.read.asid) same ∙ own)
+          | inr all ↦ inr all
+        ]
+
+        epoch : (b.global ≡ true) ⊎ (s.epoch ≡ space_fence (e ∷ u) b.asid)
+        epoch = elim is.found.epoch [
+          | inl all ↦ inl all
+          | inr at ↦ elim (cases_Bool b.global) [
+            | inl all ↦ inl all
+            | inr plain ↦ inr (at ∙ sym (space_kept x f va b u since (unfenced_past h u un (past_trans h (e ∷ u) u was (older now))) plain is.kept)
+                ∙ sym (no_fence e u b.asid b.table up.index w up.stores))
+          ]
+        ]
+
+  -- what an update makes of a leaf by which the search comes
+  comes_updated : (e : Event) (u since : List Event) (b : Read) (s : Stand) (c : Found) (w : ℕ) → IsPast h (e ∷ u) → IsFound u b since s c
+      → IsUpdate x f va e u b w → Comes (e ∷ u) (e ∷ u) (with_word b w)
+  comes_updated e u since b s c w was is up = elim (cases_lt (length u) s.last) [
+    | inl early ↦
+        let at = found_update e u since b s c w was (omega (arith, early)) is up in
+        (with_word b w, e ∷ u, s, at.0, record { low = is.low; reached = is.reached; found = at.1; kept = held.now }, itself)
+    | inr late ↦
+        let kept = next is.kept (λ covered. subst (λ (d : Event). IsCovered x f va d u b since) up.stores covered) in
+        (b, since, s, c, record { low = is.low; reached = is.reached; found = is.found; kept = kept }, set now late up)
+  ]
+
+  finds : (u past : List Event) (r : Read) → IsPast h u → IsHeld x f va u r past → Comes u past r
   finds u past r was (at_root may root) =
       let active = may.active in
       let same : active.0 ≡ r.level = cc (active.1, root.highest) in
       let stand = root_stand u r was root (subst (λ (n : ℕ). is_canonical n va ≡ true) same active.2) may.under in
       let found = found_for x f h va stand.0 u past r un stand.2 may (kept_past x f va r u past may.kept) in
-      (stand.0, found.0, stand.1, found.1)
+      (r, past, stand.0, found.0, record { low = stand.2.low; reached = stand.1; found = found.1; kept = may.kept }, itself)
   finds u past r was (below {since = since} {above = above} held may is) =
       let up = finds u since above was held in
-      let stand = below_stand_of u since above r up.0 up.1 was held up.2 up.3 is (may.active.0, may.active.1, may.active.2) may.under in
+      let s = up.2 in
+      let c = up.3 in
+      let above_found = found_pointer u up.1 since up.0 above s c up.5 is.pointer up.4.found in
+      let stand = below_stand_of u since above r s c was held up.4.reached above_found is (may.active.0, may.active.1, may.active.2) may.under in
       let found = found_for x f h va stand.0 u past r un stand.2 may (kept_past x f va r u past may.kept) in
-      (stand.0, found.0, stand.1, found.1)
-  finds u past r was (stays {h = before} {e = e} held free) = finds before past r (past_trans h u before was (older now)) held
+      (r, past, stand.0, found.0, record { low = stand.2.low; reached = stand.1; found = found.1; kept = may.kept }, itself)
+  finds u past r was (stays {h = before} {e = e} held free) =
+      let is = finds before past r (past_trans h u before was (older now)) held in
+      let b = is.0 in
+      let since = is.1 in
+      let s = is.2 in
+      let found = is.4 in (
+        b,
+        since,
+        s,
+        is.3,
+        record { low = found.low; reached = found.reached; found = found.found; kept = next found.kept (kept_on before since past b r s e is.5 free) },
+        of_later before since past b r s e is.5,
+      )
+  finds u past r was (updated {h = before} {past = read_past} {r = q} {e = e} {w = w} held up) =
+      let is = finds before read_past q (past_trans h u before was (older now)) held in
+      let b = is.0 in
+      let since = is.1 in
+      let s = is.2 in
+      let own = update_of_read before since read_past b q s e before w is.5 up in
+      subst (λ (p : Read). Comes (e ∷ before) (e ∷ before) p) own.1 (comes_updated e before since b s is.3 w was is.4 own.0)
+
+  -- what the search comes by for a PTE that is no pointer
+  ended_for : (r b : Read) (past since : List Event) (s : Stand) (c : Found) → IsFound h b since s c → kind_in x b.level b.word ≢ Pointer
+      → Contains (search_all x f h us va) (ended c) × (is_fenced x f h va c ≡ false) × (c.last ≤ s.last)
+  ended_for r b past since s c is kind =
+      let found = is.found in
+      let same : kind_in x c.read.level c.read.word ≡ kind_in x b.level b.word = ap₂ (kind_in x) found.alike.level found.alike.word in
+      let other = is_other_kind (kind_in x c.read.level c.read.word) Pointer (λ pointer. kind (sym same ∙ pointer)) in
+      let passes = kept_unfenced x f h va un c b since found.alike found.late kind is.kept in
+      let read = read_by x f h va s c found.among in
+      let low = (version_was x f h va s read.0 is.low read.1.among).0 in
+      let last = ap (λ (d : Found). d.last) read.2 in
+      (is.reached (ended c) (ended_in s.level s c found.among other), passes, omega (arith, low, last))
+
+  no_leaf_pointer : (b : Read) → kind_in x b.level b.word ≡ Leaf → kind_in x b.level b.word ≢ Pointer
+  no_leaf_pointer b leaf pointer = let bad : Leaf ≡ Pointer = sym leaf ∙ pointer in cc
+
+  comes_each : (r b : Read) (past since : List Event) (s : Stand) (c : Found) → IsFound h b since s c → IsOf s h b since r past
+      → kind_in x r.level r.word ≢ Pointer
+      → (d : Found) × Contains (search_all x f h us va) (ended d) × (is_fenced x f h va d ≡ false) × (IsAlike d.read r ⊎ IsUpdated x f h va d r)
+  comes_each r b past since s c is itself kind =
+      let at = ended_for r b past since s c is kind in
+      (c, at.0, at.1, inl is.found.alike)
+  comes_each r b past since s c is (set {e = e} {k = k} {w = w} in_past late up) kind =
+      let at = ended_for r b past since s c is (no_leaf_pointer b up.leaf) in
+      let low = at.2 in (
+        c,
+        at.0,
+        at.1,
+        inr (record {
+          word = w;
+          event = e;
+          before = k;
+          past = in_past;
+          late = omega (arith, low, late);
+          update = update_alike x f va e k w c.read b is.found.alike up;
+          alike = alike_updated c.read b w is.found.alike;
+        }),
+      )
 
 pub ended_each : (x : Extensions) (f : First) (h : List Event) (us : List Use) (va : ℕ) → IsUnfenced h → AreUses f.satp h us → EndedEach x f h us va
 ended_each x f h us va un uses r past held kind =
     let all = finds x f h us va un uses h past r now held in
-    let s = all.0 in
-    let c = all.1 in
-    let found = all.3 in
-    let same : kind_in x c.read.level c.read.word ≡ kind_in x r.level r.word = ap₂ (kind_in x) found.alike.level found.alike.word in
-    let other = is_other_kind (kind_in x c.read.level c.read.word) Pointer (λ is. kind (sym same ∙ is)) in
-    let passes = kept_unfenced x f h va un c r past found.alike found.late kind (held_kept x f va h past r held) in
-    (c, all.2 (ended c) (ended_in x f h us va un uses s.level s c found.among other), passes, found.alike)
+    comes_each x f h us va un uses r all.0 past all.1 all.2 all.3 all.4 all.5 kind
 
 -- a read under the present ASID
 abbrev of_now : Past → Read → Read
@@ -253,7 +418,8 @@ stood_each x p us q un uses r top is canonical (permits.at_root root) =
     stood_at x p us q un uses r stand.0 stand.1 stand.2
 stood_each x p us q un uses r top is canonical (permits.below {above = above} {since = since} held under) =
     let up = finds x p.first p.events us q.va.0 un uses p.events since above now held in
-    let stand = below_stand_of x p.first p.events us q.va.0 un uses p.events since above (of_now p r) up.0 up.1 now held up.2 up.3
+    let found = found_pointer x p.first p.events us q.va.0 un uses p.events up.1 since up.0 above up.2 up.3 up.5 under.pointer up.4.found in
+    let stand = below_stand_of x p.first p.events us q.va.0 un uses p.events since above (of_now p r) up.2 up.3 now held up.4.reached found
     (record {
       pointer = under.pointer;
       serves = under.serves;

@@ -1,32 +1,41 @@
 -- The outcomes that the search gives are those that are permitted, if what it comes by is held, or may be stood at, and it comes by all of that.
-use Rattle.std.proofs.Common.{◌≡◌, ◌⊎◌, ℕ, ◌+◌, ◌*◌, ◌/◌, ◌%◌, ◌≤◌, ◌==◌, ◌&&◌, ◌||◌, not, Bool, true, false, Option, None, Some, List, [], ◌∷◌, length, refl, sym, ◌∙◌, inl, inr, subst, arith}
-use Rattle.std.specs.List.{Contains}
+use Rattle.std.proofs.Common.{◌≡◌, ◌⊎◌, ℕ, ◌+◌, ◌*◌, ◌/◌, ◌%◌, ◌≤◌, ◌==◌, ◌&&◌, ◌||◌, not, Bool, true, false, Option, None, Some, List, [], ◌∷◌, ◌++◌, ap, length, refl, sym, ◌∙◌, inl, inr, subst, arith}
+use Rattle.std.specs.List.{Contains, flat_map, range_with_len}
 use Rattle.std.specs.Prelude.{is_some}
 use Rattle.std.proofs.Math.Nat.{div-add-mod, mul-mod_left}
 use Rattle.std.proofs.lemmas.Bool.{both_ways, cases_Bool, and_parts, and_from, or_cases, or_left, or_right, not-true, not_from_false, eqb-true, eq-eqb}
+use Rattle.std.proofs.lemmas.List.Elements.{Contains-append_cases, Contains-append_left, Contains-append_right}
 use Rattle.sv39_entry.specs.Address.{page_of, vpn}
 use Rattle.sv39_entry.specs.Causes.{misaligned_cause}
 use Rattle.sv39_entry.specs.Satp.{asid}
 use Rattle.sv39_entry.specs.declared.access.Access.TheVariants as access
 use Rattle.sv39_entry.specs.declared.access.Mode.{Mode}
+use Rattle.sv39_entry.specs.declared.entry.Kind.TheVariants.{Leaf, Pointer}
 use Rattle.walk_rules.specs.Addresses.{is_canonical, top_of}
+use Rattle.walk_rules.specs.Kinds.{is_napot, kind_in, may_update}
 use Rattle.walk_rules.specs.declared.extensions.Extensions.{Extensions}
 use Rattle.walk_rules.specs.declared.memory_type.MemoryType.TheVariants.{Pma}
 use Rattle.walk_rules.specs.declared.status.Privilege.TheVariants as privilege
-use Rattle.access_history.specs.Held.{Read}
-use Rattle.access_history.specs.History.{First}
+use Rattle.access_history.specs.Held.{IsHeld, IsPlace, IsUpdate, Read, with_word}
+use Rattle.access_history.specs.History.{First, IsPast}
+use Rattle.access_history.specs.History as history
 use Rattle.access_history.specs.Permits.{Ends, IsMultiple, MayFail, MayStandAt, Past, Permits, Says, Serves, index_of, memory_of, mode_of, place, satp_of}
 use Rattle.access_history.specs.Permits as permits
 use Rattle.access_history.specs.declared.event.Event.{Event}
+use Rattle.access_history.specs.declared.event.Event.TheVariants.{Store}
 use Rattle.access_history.specs.declared.outcome.Outcome.{Outcome}
 use Rattle.access_history.specs.declared.outcome.Outcome.TheVariants.{Refused}
 use Rattle.access_history.specs.declared.outcome.Request.{Request}
-use Rattle.access_judge.specs.Search.{AreUses, ArePermitted, Found, IsUnfenced, Item, SearchIsExact, Stand, Use, access_fault, ended, has_level_in, is_fenced, is_multiple, is_of_now, is_unread, may_fail, outcomes_by, outcomes_in, page_fault, place_at, said, says, search_all, stood, translated, until}
+use Rattle.access_history.proofs.Updates.{leaf_now}
+use Rattle.access_judge.specs.Search.{AreUses, ArePermitted, Found, IsUnfenced, Item, SearchIsExact, Stand, Use, access_fault, ended, has_level_in, is_fenced, is_kind, is_multiple, is_of_group, is_of_now, is_unread, may_fail, outcomes_by, outcomes_in, page_fault, place_at, place_says, places_say, said, says, search_all, stood, translated, until, update_says, updated_says, updated_words, versions}
 use Rattle.access_judge.proofs.Ending.{ends_each, ends_only, fail_each, fail_only, is_nowhere, nowhere, says_alike, says_each, says_only}
 use Rattle.access_judge.proofs.Listed.{alone, either, guarded, past_guard}
-use Rattle.access_judge.proofs.Parts.{EndedEach, EndedOnly, IsAlike, StoodEach, StoodOnly}
-use Rattle.access_judge.proofs.SearchKinds.{level_from, level_in}
-use Rattle.access_judge.proofs.SearchLists.{contains_head, flat_contains, flat_from}
+use Rattle.access_judge.proofs.Moments.{past_between, past_length, past_trans, until_length, until_past}
+use Rattle.access_judge.proofs.Parts.{EndedEach, EndedOnly, IsAlike, IsUpdated, StoodEach, StoodOnly}
+use Rattle.access_judge.proofs.SearchKinds.{is_same_kind, kind_is, level_from, level_in}
+use Rattle.access_judge.proofs.SearchLists.{contains_head, flat_contains, flat_from, range_contains, range_low}
+use Rattle.access_judge.proofs.UpdatedReads.{held_updated}
+use Rattle.access_judge.proofs.UpdatedWords.{of_update, update_of}
 
 -- ---- multiples
 
@@ -96,6 +105,97 @@ module _ (x : Extensions) (p : Past) (us : List Use) (q : Request)
       or_right (not (is_some (memory_of p s.table (vpn (page_of q.va.0) s.level)))) (may_fail p.first p.events privilege.Supervisor access.Load (place_at q.va.0 s) 8)
       (fail_each p privilege.Supervisor access.Load (place_at q.va.0 s) 8 refused)
 
+  -- ---- by a leaf that an update changed
+
+  -- a word that an update stored in a place serves as the leaf does
+  updated_serves : (c : Found) → Serves x p q c.read → IsHeld x p.first q.va.0 p.events c.read (until p.events c.last) → may_update x.ad ≡ true
+      → kind_in x c.read.level c.read.word ≡ Leaf → (index : ℕ) → IsPlace x q.va.0 c.read index → (w : ℕ)
+      → Contains (updated_words c.last c.read.word (versions p.first.memory p.events c.read.table index)) w → Serves x p q (with_word c.read w)
+  updated_serves c serve held scheme leaf index place w has =
+      let up = update_of (length p.events) p.first.memory p.events c.read.table index c.last c.read.word w has in
+      let event : Event = Store c.read.table index w in
+      let is : IsUpdate x p.first q.va.0 event up.before c.read w =
+      record { scheme = scheme; leaf = leaf; index = index; place = place; stores = refl; was = up.was; before = up.had; sets = up.sets } in
+      let at = past_trans p.events (event ∷ up.before) up.before up.past (history.older history.now) in
+      let long = past_length p.events up.before at in
+      let late = up.late in
+      let short = until_length p.events c.last (omega (arith, long, late)) in
+      let behind = past_between p.events up.before (until p.events c.last) at (until_past p.events c.last) (omega (arith, short, late)) in
+      record {
+        since = event ∷ up.before;
+        held = held_updated x p.first q.va.0 event up.before w p.events (until p.events c.last) c.read held up.past behind is;
+        present = serve.present;
+        space = serve.space;
+        last = λ pointer. no_leaf (sym (leaf_now x p.first q.va.0 event up.before c.read w is) ∙ pointer);
+      } where
+        no_leaf : Leaf ≡ Pointer → ⊥
+        no_leaf same = cc
+
+  module _ (whole : IsMultiple q.va.0 q.width) (m : Mode) (mode : mode_of q ≡ Some m) (c : Found) (serve : Serves x p q c.read)
+      (held : IsHeld x p.first q.va.0 p.events c.read (until p.events c.last)) where
+    place_only : may_update x.ad ≡ true → kind_in x c.read.level c.read.word ≡ Leaf → (index : ℕ) → IsPlace x q.va.0 c.read index → (o : Outcome)
+        → Contains (place_says x p q m c index) o → Permits x p q o
+    place_only scheme leaf index place o has =
+        let words = updated_words c.last c.read.word (versions p.first.memory p.events c.read.table index) in
+        let at = flat_from (update_says x p q m c) words o has in
+        permits.served whole mode (updated_serves c serve held scheme leaf index place at.0 at.1) (says_only x p q m (with_word c.read at.0) o at.2)
+
+    pub updated_only : (o : Outcome) → Contains (updated_says x p q m c) o → Permits x p q o
+    updated_only o has =
+        let base = vpn (page_of q.va.0) 0 / 16 * 16 in
+        let at = guarded (may_update x.ad && is_kind (kind_in x c.read.level c.read.word) Leaf) (places_say x p q m c) o has in
+        let both = and_parts (may_update x.ad) (is_kind (kind_in x c.read.level c.read.word) Leaf) at.0 in
+        let leaf = kind_is (kind_in x c.read.level c.read.word) Leaf both.1 in
+        elim (either (is_of_group x c.read) (flat_map (λ n. place_says x p q m c (base + n)) (range_with_len 0 16)) (place_says x p q m c (index_of q c.read)) o at.1) [
+          | inr own ↦ place_only both.0 leaf (index_of q c.read) (inl refl) o own.1
+          | inl group ↦
+              let tests = and_parts (x.svnapot && c.read.level == 0) (is_napot 0 c.read.word) group.0 in
+              let first = and_parts x.svnapot (c.read.level == 0) tests.0 in
+              let one = flat_from (λ (n : ℕ). place_says x p q m c (base + n)) (range_with_len 0 16) o group.1 in
+              let small = range_low 16 one.0 one.1 in
+              let same : (base + one.0) / 16 ≡ vpn (page_of q.va.0) 0 / 16 = omega (arith, small) in
+              place_only both.0 leaf (base + one.0) (inr (first.0, eqb-true c.read.level 0 first.1, tests.1, same)) o one.2
+        ]
+
+  -- and each such word is one by which the search says what it does
+  updated_said : (m : Mode) (c : Found) (r : Read) (o : Outcome) → IsUpdated x p.first p.events q.va.0 c r → Says x p q m r o
+      → Contains (updated_says x p q m c) o
+  updated_said m c r o is told =
+      let up = is.update in
+      let w = is.word in
+      let past = subst (λ (e : Event). IsPast p.events (e ∷ is.before)) up.stores is.past in
+      let word = of_update (length p.events) p.first.memory p.events is.before c.read.table up.index c.last c.read.word up.was w past is.late up.before up.sets in
+      let here = subst (λ (os : List Outcome). Contains os o) (sym (says_alike x p q m (with_word c.read w) r is.alike)) (says_each x p q m r o told) in
+      let words = updated_words c.last c.read.word (versions p.first.memory p.events c.read.table up.index) in
+      let at = flat_contains (update_says x p q m c) words w o word here in
+      past_guard (may_update x.ad && is_kind (kind_in x c.read.level c.read.word) Leaf) (places_say x p q m c) o
+      (and_from (may_update x.ad) (is_kind (kind_in x c.read.level c.read.word) Leaf) up.scheme (is_same_kind (kind_in x c.read.level c.read.word) Leaf up.leaf))
+      (in_places (is_of_group x c.read) refl at) where
+        base : ℕ
+        base = vpn (page_of q.va.0) 0 / 16 * 16
+
+        of_group : c.read.level ≡ 0 → (index : ℕ) → IsPlace x q.va.0 c.read index → index / 16 ≡ vpn (page_of q.va.0) 0 / 16
+        of_group level index (inl same) = ap (λ (i : ℕ). i / 16) (same ∙ ap (vpn (page_of q.va.0)) level)
+        of_group level index (inr group) = group.3
+
+        own : is_of_group x c.read ≡ false → (index : ℕ) → IsPlace x q.va.0 c.read index → index ≡ index_of q c.read
+        own alone index (inl same) = same
+        own alone index (inr group) =
+            let is_one = and_from (x.svnapot && c.read.level == 0) (is_napot 0 c.read.word)
+            (and_from x.svnapot (c.read.level == 0) group.0 (eq-eqb c.read.level 0 group.1)) group.2 in
+            absurd (both_ways (is_of_group x c.read) alone is_one)
+
+        in_places : (b : Bool) → is_of_group x c.read ≡ b → Contains (place_says x p q m c is.update.index) o → Contains (places_say x p q m c) o
+        in_places true group at =
+            let tests = and_parts (x.svnapot && c.read.level == 0) (is_napot 0 c.read.word) group in
+            let level = eqb-true c.read.level 0 (and_parts x.svnapot (c.read.level == 0) tests.0).1 in
+            let same = of_group level is.update.index is.update.place in
+            let split : base + is.update.index % 16 ≡ is.update.index = omega (arith, same) in
+            let there = subst (λ (i : ℕ). Contains (place_says x p q m c i) o) (sym split) at in
+            rw group (flat_contains (λ (n : ℕ). place_says x p q m c (base + n)) (range_with_len 0 16) (is.update.index % 16) o
+            (range_contains 16 (is.update.index % 16) (omega arith)) there)
+        in_places false alone at = rw alone (subst (λ (i : ℕ). Contains (place_says x p q m c i) o) (own alone is.update.index is.update.place) at)
+
   -- ---- translated accesses
 
   module _ (whole : IsMultiple q.va.0 q.width) (m : Mode) (top : ℕ) (mode : mode_of q ≡ Some m) (highest : top_of (satp_of p) ≡ Some top)
@@ -108,35 +208,52 @@ module _ (x : Extensions) (p : Past) (us : List Use) (q : Request)
         subst (λ (w : Outcome). Permits x p q w) (alone (access_fault q) o at.1) (
         permits.unread whole mode highest canonical stand.1 (unread_only s stand.0 stand.2 stand.3 both.1))
     said_only (ended c) o has here =
-        let at = guarded (is_now c && not (fenced c)) (says x p q m c.read) o here in
+        let at = guarded (is_now c && not (fenced c)) (says x p q m c.read ++ updated_says x p q m c) o here in
         let both = and_parts (is_now c) (not (fenced c)) at.0 in
-        permits.served whole mode (serves c has both.0 both.1) (says_only x p q m c.read o at.1)
+        let serve = serves c has both.0 both.1 in
+        let held = ended_only c has (not-true (fenced c) both.1) in
+        elim (Contains-append_cases (says x p q m c.read) (updated_says x p q m c) o at.1) [
+          | inl own ↦ permits.served whole mode serve (says_only x p q m c.read o own)
+          | inr more ↦ updated_only whole m mode c serve held.0 o more
+        ]
 
     translated_only : (o : Outcome) → Contains (translated x p us q m) o → Permits x p q o
     translated_only o has =
         let at = flat_from (said x p q m) (search_all x p.first p.events us q.va.0) o has in
         said_only at.0 o at.1 at.2
 
+  -- a read of now is so whatever its word
+  now_of : (d r : Read) → Serves x p q r → IsAlike d r → is_of_now (satp_of p) q.va.0 d ≡ true
+  now_of d r serve alike =
+      let level = level_in (top_of (satp_of p)) q.va.0 d.level serve.present.0 serve.present.1 serve.present.2
+      (subst (λ (n : ℕ). n ≤ serve.present.0) (sym alike.level) serve.present.3) in
+      and_from (has_level_in (top_of (satp_of p)) q.va.0 d.level) (d.asid == asid (satp_of p) || d.global) level space where
+        space : (d.asid == asid (satp_of p) || d.global) ≡ true
+        space = elim alike.asid [
+          | inr global ↦ or_right (d.asid == asid (satp_of p)) d.global (alike.global ∙ global)
+          | inl own ↦ elim serve.space [
+            | inl present ↦ or_left (d.asid == asid (satp_of p)) d.global (eq-eqb d.asid (asid (satp_of p)) (own ∙ present))
+            | inr global ↦ or_right (d.asid == asid (satp_of p)) d.global (alike.global ∙ global)
+          ]
+        ]
+
+  ended_says : (m : Mode) (c : Found) (r : Read) (o : Outcome) → Serves x p q r → Says x p q m r o → fenced c ≡ false
+      → IsAlike c.read r ⊎ IsUpdated x p.first p.events q.va.0 c r → Contains (said x p q m (ended c)) o
+  ended_says m c r o serve told free (inl alike) =
+      let here = subst (λ (os : List Outcome). Contains os o) (sym (says_alike x p q m c.read r alike)) (says_each x p q m r o told) in
+      past_guard (is_now c && not (fenced c)) (says x p q m c.read ++ updated_says x p q m c) o
+      (and_from (is_now c) (not (fenced c)) (now_of c.read r serve alike) (not_from_false (fenced c) free))
+      (Contains-append_left (says x p q m c.read) (updated_says x p q m c) o here)
+  ended_says m c r o serve told free (inr is) =
+      past_guard (is_now c && not (fenced c)) (says x p q m c.read ++ updated_says x p q m c) o
+      (and_from (is_now c) (not (fenced c)) (now_of (with_word c.read is.word) r serve is.alike) (not_from_false (fenced c) free))
+      (Contains-append_right (says x p q m c.read) (updated_says x p q m c) o (updated_said m c r o is told))
+
   served_each : (m : Mode) (r : Read) (o : Outcome) → Serves x p q r → Says x p q m r o → Contains (translated x p us q m) o
   served_each m r o serve told =
       let found = ended_each r serve.since serve.held serve.last in
       let c = found.0 in
-      let alike = found.3 in
-      let level = level_in (top_of (satp_of p)) q.va.0 c.read.level serve.present.0 serve.present.1 serve.present.2
-      (subst (λ (n : ℕ). n ≤ serve.present.0) (sym alike.level) serve.present.3) in
-      let space = own_or_global c r serve alike in
-      let now = and_from (has_level_in (top_of (satp_of p)) q.va.0 c.read.level) (c.read.asid == asid (satp_of p) || c.read.global) level space in
-      let here = subst (λ (os : List Outcome). Contains os o) (sym (says_alike x p q m c.read r alike)) (says_each x p q m r o told) in
-      flat_contains (said x p q m) (search_all x p.first p.events us q.va.0) (ended c) o found.1 (
-      past_guard (is_now c && not (fenced c)) (says x p q m c.read) o (and_from (is_now c) (not (fenced c)) now (not_from_false (fenced c) found.2)) here) where
-        own_or_global : (c : Found) (r : Read) → Serves x p q r → IsAlike c.read r → (c.read.asid == asid (satp_of p) || c.read.global) ≡ true
-        own_or_global c r serve alike = elim alike.asid [
-          | inr global ↦ or_right (c.read.asid == asid (satp_of p)) c.read.global (alike.global ∙ global)
-          | inl own ↦ elim serve.space [
-            | inl present ↦ or_left (c.read.asid == asid (satp_of p)) c.read.global (eq-eqb c.read.asid (asid (satp_of p)) (own ∙ present))
-            | inr global ↦ or_right (c.read.asid == asid (satp_of p)) c.read.global (alike.global ∙ global)
-          ]
-        ]
+      flat_contains (said x p q m) (search_all x p.first p.events us q.va.0) (ended c) o found.1 (ended_says m c r o serve told found.2 found.3)
 
   unread_said : (m : Mode) (top : ℕ) (r : Read) → top_of (satp_of p) ≡ Some top → is_canonical top q.va.0 ≡ true → MayStandAt x p q r
       → (memory_of p r.table (index_of q r) ≡ None) ⊎ MayFail p privilege.Supervisor access.Load (place q r) 8 → Contains (translated x p us q m) (access_fault q)

@@ -5,7 +5,7 @@ use Rattle.access_history.specs.declared.outcome.Outcome.{Outcome}
 use Rattle.access_judge.specs.Judging.{stand_of}
 use Rattle.access_judge.specs.Listing.{no_element}
 use Rattle.access_judge.specs.Search.{Stand}
-use Rattle.access_judge.specs.Sifting.{AreSaid, Sifts}
+use Rattle.access_judge.specs.Sifting.{Sifts}
 use Rattle.access_judge.specs.declared.question.Table.{Table}
 
 pub sifts_as : {S : Type 0} {gains : S → List Outcome → S → Type 0} {has : S → List Outcome → Type 0} {says : Stand → List Outcome}

@@ -9,10 +9,10 @@ use Rattle.access_judge.specs.Search.{Version, first_version, versions, versions
 use Rattle.access_judge.proofs.SearchLists.{contains_cases, contains_head, contains_later, contains_none}
 
 -- a store is to a place, or not
-abbrev IsSame : ℕ → ℕ → ℕ → ℕ → Bool → Type 0
+abbrev pub IsSame : ℕ → ℕ → ℕ → ℕ → Bool → Type 0
 IsSame p i table index b = ((p == table && i == index) ≡ b) × ((table == p && index == i) ≡ b)
 
-same_place : (p i table index : ℕ) → IsSame p i table index true ⊎ IsSame p i table index false
+pub same_place : (p i table index : ℕ) → IsSame p i table index true ⊎ IsSame p i table index false
 same_place p i table index = elim (cases_eq p table) [
   | inr other ↦
       inr (and_left (p == table) (i == index) (ne_eqb p table other), and_left (table == p) (index == i) (ne_eqb table p (λ e. other (sym e))))

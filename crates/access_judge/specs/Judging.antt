@@ -6,7 +6,7 @@ use Rattle.walk_rules.specs.Addresses.{top_of}
 use Rattle.access_history.specs.Permits.{Past}
 use Rattle.access_history.specs.Held.{read_of}
 use Rattle.access_history.specs.declared.outcome.Outcome.{Outcome}
-use Rattle.access_judge.specs.Search.{Found, Item, Stand, Use, Version, below_of, ended, found_by, is_kind, is_of_epoch, is_pointer, root_at, said, search, until, versions}
+use Rattle.access_judge.specs.Search.{Found, Item, Stand, Use, Version, below_of, ended, found_by, is_kind, is_of_epoch, is_pointer, place_says, root_at, said, search, until, update_says, updated_behind, versions}
 use Rattle.sv39_entry.specs.declared.entry.Kind.TheVariants.{Leaf}
 use Rattle.walk_rules.specs.Kinds.{is_napot, kind_in}
 use Rattle.access_judge.specs.Log.{use_of}
@@ -96,3 +96,19 @@ IsRootTable ss last (Some t) = (ss ≡ stand_of t ∷ []) × (t.level ≤ 4) × 
 abbrev pub IsLatestIfSome : Option Use → Option PastSatp → Type 0
 IsLatestIfSome o None = Unit {0}
 IsLatestIfSome o (Some s) = Some (use_of s) ≡ o
+
+-- ---- a leaf with the words that it may have by updates
+
+unfoldable pub update_says_of : Question → Past → Found → ℕ → List Outcome
+update_says_of a p c w = update_says a.extensions p a.request a.mode c w
+
+-- by a newer word that a place had, and the older ones
+unfoldable pub behind_say : Question → Past → Found → ℕ → List Version → List Outcome
+behind_say a p c new vs = flat_map (update_says_of a p c) (updated_behind c.last c.read.word new vs)
+
+unfoldable pub place_says_of : Question → Past → Found → ℕ → List Outcome
+place_says_of a p c index = place_says a.extensions p a.request a.mode c index
+
+-- by each place of a group of 16 from an index on
+unfoldable pub group_says_since : Question → Past → Found → ℕ → List Outcome
+group_says_since a p c first = flat_map (λ n. place_says_of a p c (first + n)) (range_with_len 0 16)

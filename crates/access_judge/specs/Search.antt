@@ -22,7 +22,7 @@ use Rattle.walk_rules.specs.declared.memory_type.MemoryType.TheVariants.{Pma}
 use Rattle.walk_rules.specs.declared.pmp.PmpEntry.{PmpEntry}
 use Rattle.walk_rules.specs.declared.status.Privilege.{Privilege}
 use Rattle.walk_rules.specs.declared.status.Privilege.TheVariants as privilege
-use Rattle.access_history.specs.Held.{Read, has_global, reach_in, read_of}
+use Rattle.access_history.specs.Held.{Read, has_global, reach_in, read_of, sets_ad, with_word}
 use Rattle.access_history.specs.History.{First, Memory, pmp_at, pmps_at, satp_at}
 use Rattle.access_history.specs.Permits.{Past, Permits, index_of, is_there, memory_of, mode_of, place, privilege_of, satp_of, update}
 use Rattle.access_history.specs.declared.event.Event.{Event}
@@ -315,6 +315,37 @@ says x p q m r =
     then (if has_ad q.kind r.word then ends_by p q r None else faults_by x q ++ updates_by x p q r)
     else page_fault q ∷ []
 
+-- ---- what a hart may have set in a leaf since
+
+-- behind a newer word that a place had, of the older ones, the newest first: those that were stored after a moment as an update of A and D by a leaf
+abbrev pub updated_behind : ℕ → ℕ → ℕ → List Version → List ℕ
+updated_behind last w new [] = []
+updated_behind last w new (v ∷ vs) = (if nat_le last v.last && sets_ad w v.word new then new ∷ [] else []) ++ updated_behind last w v.word vs
+
+abbrev pub updated_words : ℕ → ℕ → List Version → List ℕ
+updated_words last w [] = []
+updated_words last w (v ∷ vs) = updated_behind last w v.word vs
+
+-- what a leaf says with one of the words that it may have by updates in a place
+abbrev pub update_says : Extensions → Past → Request → Mode → Found → ℕ → List Outcome
+update_says x p q m c w = says x p q m (with_word c.read w)
+
+abbrev pub place_says : Extensions → Past → Request → Mode → Found → ℕ → List Outcome
+place_says x p q m c index =
+    flat_map (update_says x p q m c) (updated_words c.last c.read.word (versions p.first.memory p.events c.read.table index))
+
+-- a NAPOT leaf, in whose group a hart may update any of 16 PTEs
+abbrev pub is_of_group : Extensions → Read → Bool
+is_of_group x r = x.svnapot && r.level == 0 && is_napot 0 r.word
+
+abbrev pub places_say : Extensions → Past → Request → Mode → Found → List Outcome
+places_say x p q m c =
+    if is_of_group x c.read then flat_map (λ n. place_says x p q m c (vpn (page_of q.va.0) 0 / 16 * 16 + n)) (range_with_len 0 16)
+    else place_says x p q m c (index_of q c.read)
+
+abbrev pub updated_says : Extensions → Past → Request → Mode → Found → List Outcome
+updated_says x p q m c = if may_update x.ad && is_kind (kind_in x c.read.level c.read.word) Leaf then places_say x p q m c else []
+
 -- the PTE of a stand may be unreadable
 abbrev pub is_unread : Past → ℕ → Stand → Bool
 is_unread p va s =
@@ -325,7 +356,7 @@ is_unread p va s =
 abbrev pub said : Extensions → Past → Request → Mode → Item → List Outcome
 said x p q m (stood s) = if s.last == length p.events && is_unread p q.va.0 s then access_fault q ∷ [] else []
 said x p q m (ended c) =
-    if is_of_now (satp_of p) q.va.0 c.read && not (is_fenced x p.first p.events q.va.0 c) then says x p q m c.read else []
+    if is_of_now (satp_of p) q.va.0 c.read && not (is_fenced x p.first p.events q.va.0 c) then says x p q m c.read ++ updated_says x p q m c else []
 
 abbrev pub translated : Extensions → Past → List Use → Request → Mode → List Outcome
 translated x p us q m = flat_map (said x p q m) (search_all x p.first p.events us q.va.0)

@@ -3,7 +3,7 @@
 ghost use Rattle.std.specs.Prelude.{◌≡◌, ◌<◌, ◌≤◌, ◌&&◌, length, nat_lt, not};
 ghost use Rattle.sv39_entry.specs.declared.entry.Kind.TheVariants.{Leaf};
 ghost use Rattle.access_history.specs.Held.{reach_in};
-ghost use Rattle.walk_rules.specs.Kinds.{kind_in};
+ghost use Rattle.walk_rules.specs.Kinds.{is_napot, kind_in};
 ghost use Rattle.access_judge.specs.Judging.{IsStep, found_of, item_says};
 ghost use Rattle.access_judge.specs.Search.{address_fence, became_leaf, ended, is_fenced, is_fenced_by, is_kind, is_of_now, space_fence, space_of};
 
@@ -12,6 +12,7 @@ use crate::question::Question;
 use crate::saying::say;
 use crate::search::has_level;
 use crate::sink::{Sink, Step};
+use crate::updated::say_updated;
 use sv39_entry::{Entry, Kind, Satp, Va};
 use walk_rules::reach;
 
@@ -23,6 +24,7 @@ pub(crate) fn judge<L: Log, S: Sink>(log: &L, question: &Question, step: &Step, 
 {
     if is_of_now(log.satp(), question.request.va, step) && !is_fenced(log, question, step) {
         say(log, question, step, sink);
+        say_updated(log, question, step, sink);
     }
 }
 
@@ -120,6 +122,16 @@ fn became_leaf<L: Log>(log: &L, question: &Question, step: &Step, number: usize)
     }
     false
 }
+
+/// Whether a leaf in a last table is a NAPOT one.
+pub(crate) fn is_napot(entry: Entry) -> bool
+    ensures { result ≡ is_napot 0 entry }
+{
+    reach(entry, 0) == NAPOT_REACH
+}
+
+/// How many low bits a NAPOT leaf leaves alone: it maps 64 KiB.
+const NAPOT_REACH: u32 = 16;
 
 pub(crate) fn is_leaf(question: &Question, entry: Entry, level: u32) -> bool
     ensures { result ≡ is_kind (kind_in question.now.extensions level entry) Leaf }

@@ -15,6 +15,7 @@ mod saying;
 mod search;
 mod seen;
 mod sink;
+mod updated;
 mod way;
 
 pub use findings::Findings;

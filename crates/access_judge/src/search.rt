@@ -15,7 +15,7 @@ ghost use Rattle.access_judge.specs.Older.{HidesOlder};
 ghost use Rattle.access_judge.specs.Sifting.{Sifts};
 ghost use Rattle.access_judge.specs.Search.{below_of, found_by, follows, has_level_in, is_kind, is_pointer, is_unread, later, latest, may_pass, place_at, stood, until};
 
-use crate::judge::{is_leaf, judge};
+use crate::judge::{is_leaf, is_napot, judge};
 use crate::log::{Log, PastSatp};
 use crate::present::fails_now;
 use crate::question::{Question, Table, access_fault};
@@ -23,7 +23,7 @@ use crate::seen::Seen;
 use crate::sink::{Sink, Step};
 use bitflags::Flags;
 use sv39_entry::{Access, Entry, EntryFlags, Kind, PAGE_SIZE, Satp, Va};
-use walk_rules::{Privilege, is_canonical, reach, top_level};
+use walk_rules::{Privilege, is_canonical, top_level};
 
 /// Tells what walks come to from a table on.
 #[cycle(walks)]
@@ -324,14 +324,11 @@ fn table_below<L: Log>(log: &L, question: &Question, table: &Table, step: &Step)
 /// How many low bits a leaf in a last table leaves alone: it maps 4 KiB.
 const PAGE_BITS: u32 = 12;
 
-/// How many low bits a NAPOT leaf leaves alone: it maps 64 KiB.
-const NAPOT_REACH: u32 = 16;
-
 /// Whether a PTE in a last table is a NAPOT leaf.
 fn is_napot_leaf(question: &Question, entry: Entry) -> bool
     ensures { result ≡ (is_napot 0 entry && is_kind (kind_in question.now.extensions 0 entry) Leaf) }
 {
-    reach(entry, 0) == NAPOT_REACH && is_leaf(question, entry, 0)
+    is_napot(entry) && is_leaf(question, entry, 0)
 }
 
 /// Returns the PTE of a table with a word that memory had until a moment.

@@ -16,7 +16,7 @@ pub struct Step {
     pub ppn: u64,
     pub index: usize,
     pub entry: Entry,
-    /// The last moment at which memory had it, of those at which the walk may have read it.
+    /// The last moment at which memory had it, of those at which the walk may have read it, or the hart may have set A or D in it.
     pub last: usize,
     /// The ASID under which it was read.
     pub asid: u16,

@@ -7,8 +7,8 @@ use Rattle.std.specs.List.{Contains}
 use Rattle.sv39_entry.specs.Satp.{mode}
 use Rattle.walk_rules.specs.Addresses.{top_of}
 use Rattle.walk_rules.specs.declared.extensions.Extensions.{Extensions}
-use Rattle.access_history.specs.Harts.{Kept, Runs, happens, kept, reads, starts}
-use Rattle.access_history.specs.Held.{IsCovered, IsHeld, Read, at_root, below, stays}
+use Rattle.access_history.specs.Harts.{IsLeft, Kept, Runs, happens, kept, reads, starts}
+use Rattle.access_history.specs.Held.{IsHeld, Read, at_root, below, stays, updated, with_word}
 use Rattle.access_history.specs.History.{First, satp_at}
 use Rattle.access_history.specs.Permits.{Past, Permits}
 use Rattle.access_history.specs.Permits as permits
@@ -63,11 +63,21 @@ module _ (x : Extensions) (f : First) (va : ℕ) where
       let some = up.2.1 in
       let few = up.3 in
       let only = λ (c : Kept) (has : Contains (kept r past ∷ []) c). elim (Contains-push_cases [] (kept r past) c has)
-      as (λ _. Contains up.0 c × (IsCovered x f va e earlier c.read c.past → ⊥)) [
+      as (λ _. IsLeft x f va e earlier up.0 c) [
         | inl old ↦ absurd (none c old)
-        | inr same ↦ subst (λ (k : Kept). Contains up.0 k × (IsCovered x f va e earlier k.read k.past → ⊥)) same (up.2, free)
+        | inr same ↦ subst (λ (k : Kept). IsLeft x f va e earlier up.0 k) same (inl (up.2, free))
       ] in
       (kept r past ∷ [], (happens up.1.0 only, (up.1.1, omega arith)), Contains-push [] (kept r past), omega (arith, some, few))
+  keeps h past r (updated {h = earlier} {past = since} {r = b} {e = e} {w = w} was is) =
+      let up = keeps earlier since b was in
+      let some = up.2.1 in
+      let few = up.3 in
+      let new = kept (with_word b w) (e ∷ earlier) in
+      let only = λ (c : Kept) (has : Contains (new ∷ []) c). elim (Contains-push_cases [] new c has) as (λ _. IsLeft x f va e earlier up.0 c) [
+        | inl old ↦ absurd (none c old)
+        | inr same ↦ inr (kept b since, w, up.2, is, same)
+      ] in
+      (new ∷ [], (happens up.1.0 only, (up.1.1, omega arith)), Contains-push [] new, omega (arith, some, few))
 
 module _ (x : Extensions) (p : Past) (q : Request) where
   abbrev pub SomeSmall : Outcome → Type 0

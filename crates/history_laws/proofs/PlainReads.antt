@@ -17,9 +17,10 @@ use Rattle.walk_rules.specs.Addresses.{top_of}
 use Rattle.walk_rules.specs.Kinds.{kind_in}
 use Rattle.walk_rules.specs.declared.extensions.Extensions.{Extensions}
 use Rattle.walk_rules.specs.declared.status.Privilege.TheVariants as privilege
-use Rattle.access_history.specs.Held.{HadWord, IsHeld, IsKept, MayRead, Read, has_global, read_of, at_root, below, stays, now, next}
+use Rattle.access_history.specs.Held.{HadWord, IsHeld, IsKept, IsUpdate, MayRead, Read, has_global, read_of, at_root, below, stays, updated, now, next}
 use Rattle.access_history.specs.History.{First, Memory, memory_at, satp_at}
 use Rattle.access_history.specs.declared.event.Event.{Event}
+use Rattle.access_history.proofs.Updates.{stored}
 use Rattle.history_laws.specs.PlainWalks.{IsFresh, IsPlainHart, IsQuiet, IsSettled, fenced, fresh, quiet}
 use Rattle.history_laws.proofs.FreePmp.{passes}
 use Rattle.history_laws.proofs.PlainEntries.{of_pointer, pointer_of, valid_v}
@@ -205,6 +206,14 @@ pub read_now : (x : Extensions) (f : First) (va : ℕ) (h past : List Event) (r 
 read_now x f va h past r none same (inl had) = same ∙ had
 read_now x f va h past r none same (inr other) = absurd (false≢true (sym none ∙ other.0))
 
+-- an update stores the word in the place of the address's PTE, as without Svnapot there is no other
+pub word_updated : (x : Extensions) → IsPlainHart x → (f : First) (va : ℕ) (e : Event) (h : List Event) (r : Read) (w : ℕ) → IsUpdate x f va e h r w
+    → memory_at f.memory (e ∷ h) r.table (vpn (page_of va) r.level) ≡ Some w
+word_updated x plain f va e h r w is = elim is.place [
+  | inl own ↦ subst (λ (i : ℕ). memory_at f.memory (e ∷ h) r.table i ≡ Some w) own (stored x f va e h r w is)
+  | inr group ↦ absurd (false≢true (sym plain.napot ∙ group.0))
+]
+
 pub read_of_held : (x : Extensions) (plain : IsPlainHart x) (f : First) (va : ℕ) (s : Scheme) (h past : List Event) (r : Read)
     → scheme_of (satp_at f.satp h) ≡ Some s → IsSettled f s (page_of va) h → IsHeld x f va h r past → IsRead f va h s r
 read_of_held x plain f va s h past r is settled (at_root may root) =
@@ -218,3 +227,8 @@ read_of_held x plain f va s h past r is (fresh fenced) (stays was free) = absurd
 read_of_held x plain f va s h past r is (quiet settled q) (stays {h = before} {e = e} was free) =
     let same : scheme_of (satp_at f.satp before) ≡ Some s = sym (ap scheme_of q.satp) ∙ is in
     read_on f va s e before q r (read_of_held x plain f va s before past r same settled was)
+read_of_held x plain f va s h past r is (fresh fenced) (updated was u) = let bad = u.stores in cc
+read_of_held x plain f va s h past r is (quiet settled q) (updated {h = before} {past = since} {r = b} {e = e} {w = w} was u) =
+    let same : scheme_of (satp_at f.satp before) ≡ Some s = sym (ap scheme_of q.satp) ∙ is in
+    let on = read_on f va s e before q b (read_of_held x plain f va s before since b same settled was) in
+    record { low = on.low; way = on.way; word = word_updated x plain f va e before b w u }

@@ -12,14 +12,14 @@ use Rattle.table_walk.specs.Walk.{IsAt}
 use Rattle.walk_rules.specs.Addresses.{top_of}
 use Rattle.walk_rules.specs.Kinds.{kind_in}
 use Rattle.walk_rules.specs.declared.extensions.Extensions.{Extensions}
-use Rattle.access_history.specs.Held.{IsHeld, IsKept, Read, at_root, below, next, now, stays}
+use Rattle.access_history.specs.Held.{IsHeld, IsKept, Read, at_root, below, next, now, stays, updated}
 use Rattle.access_history.specs.History.{First, Memory, IsPast, memory_at, satp_at}
 use Rattle.access_history.specs.History as history
 use Rattle.access_history.specs.declared.event.Event.{Event}
 use Rattle.history_laws.specs.PlainWalks.{IsPlainHart}
 use Rattle.history_laws.specs.SpaceWalks.{HasNoGlobals, IsFreshFor, IsSpaceSettled, LeavesWalk, fenced, fenced_all, fresh, quiet}
 use Rattle.history_laws.proofs.PlainEntries.{pointer_of}
-use Rattle.history_laws.proofs.PlainReads.{IsRead, read_now, top_is}
+use Rattle.history_laws.proofs.PlainReads.{IsRead, read_now, top_is, word_updated}
 
 -- the walk from the root of a satp over memory at a moment reads an entry
 pub record IsReadBy (f : First) (va satp : ℕ) (h : List Event) (s : Scheme) (r : Read) : Type 0 where
@@ -123,6 +123,11 @@ module _ (x : Extensions) (plain : IsPlainHart x) (f : First) (va satp : ℕ) (s
       absurd (free ((mine, none before past r (history.older history.now) was), tt))
   read_by h past r none (quiet settled q own) (stays {h = before} {e = e} was free) mine =
       read_on f va satp s e before q r (read_by before past r (λ k at read in_past. none k at read (history.older in_past)) settled was mine)
+  read_by h past r none (fresh fenced_all own) (updated was u) mine = let bad = u.stores in cc
+  read_by h past r none (fresh fenced own) (updated was u) mine = let bad = u.stores in cc
+  read_by h past r none (quiet settled q own) (updated {h = before} {past = since} {r = b} {e = e} {w = w} was u) mine =
+      let on = read_on f va satp s e before q b (read_by before since b (λ k at read in_past. none k at read (history.older in_past)) settled was mine) in
+      record { low = on.low; way = on.way; word = word_updated x plain f va e before b w u }
 
 -- for the present satp
 pub read_of_space : (x : Extensions) (plain : IsPlainHart x) (f : First) (va : ℕ) (s : Scheme) (h past : List Event) (r : Read)

@@ -9,8 +9,9 @@ ghost use Rattle.history_laws.specs.HartAnswers.{IsWithin, MayAnswer};
 ghost use Rattle.walk_rules.specs.declared.extensions.Extensions.{Extensions};
 
 /// An outcome is permitted exactly if some hart may answer it: one that at any moment reads one page table entry more by a walk and keeps it, at
-/// any event loses what the event covers, and whatever else it likes (`Runs`), and goes by what it keeps. So what is permitted is the union over all
-/// harts with caches of any size (`same`). Five places for an address, one for each level, are enough (`few`).
+/// any event loses what the event covers, and whatever else it likes, and has A or D set in a leaf that it kept, if the event sets them (`Runs`), and
+/// goes by what it keeps. So what is permitted is the union over all harts with caches of any size (`same`). Five places for an address, one for each
+/// level, are enough (`few`).
 pub fn outcomes_are_of_harts()
     ensures same { (x : Extensions) (p : Past) (q : Request) (o : Outcome)
         → Permits x p q o ↔ ((cs : List Kept) × Runs x p.first q.va.0 p.events cs × MayAnswer x p q cs o) }

@@ -1,6 +1,4 @@
-use Rattle.std.proofs.Common.{[], List, subst}
-use Rattle.access_history.specs.declared.outcome.Outcome.{Outcome}
-use Rattle.access_judge.specs.Judging.{stand_of, table_says}
+use Rattle.access_judge.specs.Judging.{stand_of}
 use Rattle.access_judge.specs.Log.{use_of}
 use Rattle.access_judge.proofs.Sifting.{sifts_as, sifts_nothing, sifts_on, sifts_told}
 use Rattle.access_judge.proofs.TableSays.{root_goes, root_stops}

@@ -1,6 +1,5 @@
-use Rattle.std.proofs.Common.{◌≤◌, ◌+◌, ◌-◌, ◌++◌, ◌<◌, ℕ, List, [], true, refl, sym, ap, ◌∙◌, subst, arith}
-use Rattle.access_history.specs.declared.outcome.Outcome.{Outcome}
-use Rattle.access_judge.specs.Judging.{found_of, stand_of, step_says, versions_of, word_says, words_say}
+use Rattle.std.proofs.Common.{◌≤◌, ◌+◌, ◌-◌, ◌++◌, ◌<◌, ℕ, [], true, refl, sym, ap, ◌∙◌, arith}
+use Rattle.access_judge.specs.Judging.{found_of, stand_of, versions_of, word_says, words_say}
 use Rattle.access_judge.specs.Search.{Version, found_by, until, versions}
 use Rattle.access_judge.proofs.FencedOlder.{words_hide}
 use Rattle.access_judge.proofs.Sifting.{sifts_as, sifts_kept, sifts_nothing, sifts_on, sifts_seen, sifts_told}
