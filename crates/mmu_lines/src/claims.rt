@@ -1,4 +1,4 @@
-// Whether an access may have an outcome that a client means (`permitted_outcome`).
+// Whether an access may have an outcome that a client means (`permitted_outcome`), and in what one that it may have differs (`difference`).
 
 ghost use Rattle.std.specs.Prelude.{◌≡◌, ◌≤◌, IfNone, IfSome};
 ghost use Rattle.access_history.specs.Permits.{Permits};
@@ -6,7 +6,7 @@ ghost use Rattle.access_history.specs.declared.outcome.Outcome.{Outcome};
 ghost use Rattle.mmu.specs.Pasts.{past};
 ghost use Rattle.mmu_lines.specs.Claims.{Tells, meant};
 
-use access_history::{Outcome, Request};
+use access_history::{Outcome, Request, Update};
 use access_judge::permits;
 use mmu::Mmu;
 use mmu_requests::{Claim, End};
@@ -65,4 +65,24 @@ pub(crate) fn permitted_outcome(
         return Some(device);
     }
     None
+}
+
+/// Whether two PTEs that a hart wrote stand at one place.
+fn is_at_place(update: Update, other: Update) -> bool {
+    update.table == other.table && update.index == other.index
+}
+
+/// Returns in what a permitted outcome of the same end, which is not what a client tells, is another: the PTE that the hart wrote, or the memory type.
+pub(crate) fn difference(told: Option<Update>, outcome: Outcome) -> &'static str {
+    let (Outcome::Granted { update, .. } | Outcome::Refused { update, .. }) = outcome;
+    match (told, update) {
+        (None, Some(_)) => "A or D is 0, and the hart sets them",
+        (Some(_), None) => "the hart sets no PTE",
+        (Some(told), Some(update)) if !is_at_place(told, update) => {
+            "the PTE that the hart sets is at another place"
+        }
+        (Some(told), Some(update)) if told.word != update.word =>
+            "the hart sets the PTE to another word",
+        _ => "the memory type is another",
+    }
 }

@@ -17,7 +17,7 @@ ghost use Rattle.mmu_requests.specs.declared.requests.Request.TheVariants as ask
 ghost use Rattle.script_language.specs.Lines.{fields_of};
 ghost use Rattle.walk_rules.specs.Addresses.{top_of};
 
-use crate::claims::permitted_outcome;
+use crate::claims::{difference, permitted_outcome};
 use crate::writes::{cut_asid, lock_of, satp_written};
 use access_history::{Outcome, Update};
 use access_judge::{Findings, Log, Told, Way, faulting_part, outcomes};
@@ -221,7 +221,7 @@ impl MmuPlayer {
                 return Some("by another PTE alone");
             }
             if claim.is_end(told.outcome) {
-                text = Some("the memory type, or the PTE that the hart sets, is another");
+                text = Some(difference(claim.update, told.outcome));
             }
         }
         text
@@ -261,12 +261,13 @@ impl MmuPlayer {
         if let Some(text) = self.near_miss(claim) {
             return out.push_str(text);
         }
+        let telling = self.telling(request, &[]);
         if let End::Granted { pa, .. } = claim.end {
-            if self.put_refused(out, request, pa)? {
+            if telling.put_translated(out, pa)? || self.put_refused(out, request, pa)? {
                 return Ok(());
             }
         }
-        self.telling(request, &[]).put_walk(out, claim)
+        telling.put_walk(out, claim)
     }
 
     /// Appends why an outcome is not permitted.

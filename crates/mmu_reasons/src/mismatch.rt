@@ -180,7 +180,10 @@ impl Telling<'_> {
     }
 
     /// Appends that the access is translated, if a client tells the virtual address as the physical one; returns whether it does.
-    fn put_translated(&self, out: &mut String, pa: u64) -> Result<bool, AllocError> {
+    ///
+    /// # Errors
+    /// `AllocError`: the host is out of memory.
+    pub fn put_translated(&self, out: &mut String, pa: u64) -> Result<bool, AllocError> {
         if self.walk().is_none() || pa != self.request.va.0 {
             return Ok(false);
         }
@@ -192,9 +195,7 @@ impl Telling<'_> {
     /// Appends what the walk over all as it is says against what a client tells, if one bit or check decides; returns whether one does.
     pub fn put_present(&self, out: &mut String, claim: Claim) -> Result<bool, AllocError> {
         match claim.end {
-            End::Granted { pa, .. } => {
-                Ok(self.put_lack(out, claim, pa)? || self.put_translated(out, pa)?)
-            }
+            End::Granted { pa, .. } => self.put_lack(out, claim, pa),
             End::Refused(cause) => {
                 if cause == self.request.kind.page_fault_cause() {
                     self.put_overlooked(out, claim)
