@@ -39,6 +39,17 @@ pub(crate) struct Harts {
     has_forked: bool,
 }
 
+impl Hart {
+    /// Removes the entries of a slot's process, if the slot is marked.
+    fn unmark(&mut self, slot: usize) {
+        if self.marked.as_slice().contains(&slot) {
+            let asid = (slot as u64).saturating_add(1);
+            self.entries.retain(|entry| entry.asid != asid);
+            self.marked.retain(|it| *it != slot);
+        }
+    }
+}
+
 impl Harts {
     /// Returns so many idle harts.
     pub fn new(alloc: Global, count: u64, asids: bool) -> Result<Harts, AllocError> {
@@ -115,12 +126,23 @@ impl Harts {
         }
     }
 
-    /// Marks a slot on every hart.
-    pub fn mark(&mut self, slot: usize) -> Result<(), AllocError> {
-        for hart in self.harts.as_mut_slice() {
-            hart.marked.push(slot)?;
+    /// Adds a process.
+    pub fn add_process(&mut self, quiz: &mut Quiz, process: Result<Process, AllocError>) {
+        let Ok(process) = process else {
+            return quiz.lose();
+        };
+        if self.processes.push(process).is_err() {
+            quiz.lose();
         }
-        Ok(())
+    }
+
+    /// Marks a slot on every hart.
+    pub fn mark(&mut self, quiz: &mut Quiz, slot: usize) {
+        for hart in self.harts.as_mut_slice() {
+            if hart.marked.push(slot).is_err() {
+                quiz.lose();
+            }
+        }
     }
 
     /// The hart's TLB is emptied, if fences do that.
@@ -139,50 +161,56 @@ impl Harts {
         let Some(slot) = self.slot() else {
             return;
         };
-        let asid = (slot as u64).saturating_add(1);
         if let Some(hart) = self.harts.get_mut(self.hart) {
-            if hart.marked.as_slice().contains(&slot) {
-                hart.entries.retain(|entry| entry.asid != asid);
-                hart.marked.retain(|it| *it != slot);
-            }
+            hart.unmark(slot);
         }
         self.set_place(Place::User);
     }
 
-    /// Adds a line of this word and the hart.
-    fn say(&self, quiz: &mut Quiz, word: &str, answer: &str) -> Result<(), AllocError> {
+    /// Returns the text of this word, the hart and a number.
+    fn numbered(&self, word: &str, number: usize) -> Result<String, AllocError> {
         let hart = self.hart;
-        quiz.say(format!(in self.alloc; "{word} {hart}")?, answer)
+        format!(in self.alloc; "{word} {hart} {number}")
+    }
+
+    /// Returns the text of this word and the hart.
+    fn line(&self, word: &str) -> Result<String, AllocError> {
+        let hart = self.hart;
+        format!(in self.alloc; "{word} {hart}")
+    }
+
+    /// Adds a line of this word and the hart.
+    fn say(&self, quiz: &mut Quiz, word: &str, answer: &str) {
+        quiz.say(self.line(word), answer);
     }
 
     /// The hart enters the kernel, if it is in user mode.
-    pub fn to_kernel(&mut self, quiz: &mut Quiz) -> Result<(), AllocError> {
+    pub fn to_kernel(&mut self, quiz: &mut Quiz) {
         if self.place() != Place::User {
-            return Ok(());
+            return;
         }
         self.fence();
         self.set_place(Place::Kernel);
-        self.say(quiz, "enter", "ok")
+        self.say(quiz, "enter", "ok");
     }
 
     /// The hart returns to user mode, if it is in the kernel.
-    pub fn to_user(&mut self, quiz: &mut Quiz) -> Result<(), AllocError> {
+    pub fn to_user(&mut self, quiz: &mut Quiz) {
         if self.place() != Place::Kernel {
-            return Ok(());
+            return;
         }
         self.clean();
-        self.say(quiz, "leave", "ok")
+        self.say(quiz, "leave", "ok");
     }
 
     /// Puts the process of a slot on the hart, which is in the kernel or idle.
-    pub fn put_on(&mut self, quiz: &mut Quiz, slot: usize) -> Result<(), AllocError> {
-        self.to_kernel(quiz)?;
+    pub fn put_on(&mut self, quiz: &mut Quiz, slot: usize) {
+        self.to_kernel(quiz);
         if let Some(hart) = self.harts.get_mut(self.hart) {
             hart.slot = Some(slot);
         }
         self.clean();
-        let hart = self.hart;
-        quiz.say(format!(in self.alloc; "on {hart} {slot}")?, "ok")
+        quiz.say(self.numbered("on", slot), "ok");
     }
 
     /// Returns whether the process of a slot is on a hart.
@@ -209,41 +237,40 @@ impl Harts {
     }
 
     /// Puts another process on the hart, if one waits.
-    pub fn switch(&mut self, quiz: &mut Quiz) -> Result<(), AllocError> {
+    pub fn switch(&mut self, quiz: &mut Quiz) {
         match self.waiting(quiz) {
             Some(slot) => self.put_on(quiz, slot),
-            None => Ok(()),
+            None => {}
         }
     }
 
     /// The next steps are made on another hart, if there are two; it gets a process if it has none.
-    pub fn turn(&mut self, quiz: &mut Quiz) -> Result<(), AllocError> {
+    pub fn turn(&mut self, quiz: &mut Quiz) {
         if self.harts.len() < 2 {
             return self.switch(quiz);
         }
         let other = if self.hart == 0 { 1 } else { 0 };
         if quiz.random.chance(300) {
-            self.idle(quiz)?;
+            self.idle(quiz);
         }
         self.hart = other;
         if self.is_idle() {
-            self.switch(quiz)?;
+            self.switch(quiz);
         }
-        Ok(())
     }
 
     /// The hart becomes idle.
-    fn idle(&mut self, quiz: &mut Quiz) -> Result<(), AllocError> {
+    fn idle(&mut self, quiz: &mut Quiz) {
         if self.is_idle() {
-            return Ok(());
+            return;
         }
-        self.to_kernel(quiz)?;
+        self.to_kernel(quiz);
         self.set_place(Place::Idle);
         if let Some(hart) = self.harts.get_mut(self.hart) {
             hart.slot = None;
         }
         let hart = self.hart;
-        quiz.say(format!(in self.alloc; "switch {hart} -")?, "ok")
+        quiz.say(format!(in self.alloc; "switch {hart} -"), "ok");
     }
 
     /// Returns the ASID under which the hart fills entries.
@@ -258,39 +285,47 @@ impl Harts {
     }
 
     /// Fills an entry, which is worth a question if `asks`.
-    pub fn fill(&mut self, quiz: &mut Quiz, address: u64, asks: bool) -> Result<(), AllocError> {
-        let (hart, number, asid) = (self.hart, self.entries(), self.asid());
-        if let Some(it) = self.harts.get_mut(hart) {
-            let page = page_of(address);
-            it.entries.push(Entry { page, asid })?;
+    pub fn fill(&mut self, quiz: &mut Quiz, address: u64, asks: bool) {
+        let (hart, number) = (self.hart, self.entries());
+        self.add_entry(quiz, page_of(address));
+        let Ok(words) = format!(in self.alloc; "entry {number}") else {
+            return quiz.lose();
+        };
+        let text = format!(in self.alloc; "fill {hart} {address:#x}");
+        quiz.put(asks, text, words.as_str());
+    }
+
+    /// Adds an entry to the hart's TLB.
+    fn add_entry(&mut self, quiz: &mut Quiz, page: u64) {
+        let asid = self.asid();
+        if let Some(it) = self.harts.get_mut(self.hart)
+            && it.entries.push(Entry { page, asid }).is_err()
+        {
+            quiz.lose();
         }
-        let words = format!(in self.alloc; "entry {number}")?;
-        let text = format!(in self.alloc; "fill {hart} {address:#x}")?;
-        quiz.put(asks, text, words.as_str())
     }
 
     /// Removes an entry, or is refused.
-    pub fn evict(&mut self, quiz: &mut Quiz, entry: usize) -> Result<(), AllocError> {
-        let hart = self.hart;
-        let text = format!(in self.alloc; "evict {hart} {entry}")?;
+    pub fn evict(&mut self, quiz: &mut Quiz, entry: usize) {
+        let text = self.numbered("evict", entry);
         if entry >= self.entries() {
             return quiz.ask(text, "refused 20");
         }
-        if let Some(it) = self.harts.get_mut(hart)
+        if let Some(it) = self.harts.get_mut(self.hart)
             && entry < it.entries.len()
         {
             it.entries.remove(entry);
         }
-        quiz.ask(text, "ok")
+        quiz.ask(text, "ok");
     }
 
     /// The process traps: the hart is before the first instruction of kernel entry.
-    pub fn trap(&mut self, quiz: &mut Quiz) -> Result<(), AllocError> {
-        self.say(quiz, "trap", "ok")
+    pub fn trap(&mut self, quiz: &mut Quiz) {
+        self.say(quiz, "trap", "ok");
     }
 
     /// The hart executes an instruction of kernel entry, by its number from 0: a fence, a write of satp, a fence.
-    pub fn next(&mut self, quiz: &mut Quiz, number: u64) -> Result<(), AllocError> {
+    pub fn next(&mut self, quiz: &mut Quiz, number: u64) {
         if number == 1 {
             if let Some(it) = self.harts.get_mut(self.hart) {
                 it.by_user_table = false;
@@ -301,7 +336,7 @@ impl Harts {
         if number == 2 {
             self.set_place(Place::Kernel);
         }
-        self.say(quiz, "next", "ok")
+        self.say(quiz, "next", "ok");
     }
 
     /// Returns the text of an access on the hart.
@@ -348,51 +383,56 @@ impl Harts {
         }
     }
 
-    /// Accesses by an entry.
-    pub fn access_by(
-        &mut self,
-        quiz: &mut Quiz,
-        touch: Touch,
-        entry: usize,
-    ) -> Result<(), AllocError> {
+    /// Returns the text of an access by an entry.
+    fn text_by(&self, touch: Touch, entry: usize) -> Result<String, AllocError> {
         let mut text = self.text(touch)?;
         write!(&mut text, " @{entry}")?;
+        Ok(text)
+    }
+
+    /// Accesses by an entry.
+    pub fn access_by(&mut self, quiz: &mut Quiz, touch: Touch, entry: usize) {
+        let text = self.text_by(touch, entry);
         if !self.serves(entry, touch.address) {
             return quiz.ask(text, "refused 20");
         }
         let words = self.words(touch);
-        quiz.ask(text, words)?;
-        self.serve(quiz, touch, words)
+        quiz.ask(text, words);
+        self.serve(quiz, touch, words);
     }
 
     /// Accesses by a walk.
-    pub fn access_by_walk(&mut self, quiz: &mut Quiz, touch: Touch) -> Result<(), AllocError> {
-        let (text, words) = (self.text(touch)?, self.words(touch));
-        quiz.ask(text, words)?;
-        self.serve(quiz, touch, words)
+    pub fn access_by_walk(&mut self, quiz: &mut Quiz, touch: Touch) {
+        let (text, words) = (self.text(touch), self.words(touch));
+        quiz.ask(text, words);
+        self.serve(quiz, touch, words);
     }
 
     /// Serves an access, if it faults. If it is denied, the process ends.
-    fn serve(&mut self, quiz: &mut Quiz, touch: Touch, words: &str) -> Result<(), AllocError> {
+    fn serve(&mut self, quiz: &mut Quiz, touch: Touch, words: &str) {
         if words != "fault" {
-            return Ok(());
+            return;
         }
-        let hart = self.hart;
-        let text = format!(in self.alloc; "fix {hart}")?;
+        let text = self.line("fix");
         let granted = self.grants(touch.access, touch.address);
         self.fence();
         if granted {
-            if let Some(me) = self.me_mut() {
-                me.serve(touch.access, touch.address)?;
-            }
-            if let Some(slot) = self.slot() {
-                self.mark(slot)?;
-            }
-            self.clean();
+            self.make_ready(quiz, touch);
             return quiz.say(text, "ready");
         }
         self.end();
-        quiz.ask(text, "ended")
+        quiz.ask(text, "ended");
+    }
+
+    /// Makes the page of an access ready, and returns to the process.
+    fn make_ready(&mut self, quiz: &mut Quiz, touch: Touch) {
+        if let Some(me) = self.me_mut() {
+            quiz.note(me.serve(touch.access, touch.address));
+        }
+        if let Some(slot) = self.slot() {
+            self.mark(quiz, slot);
+        }
+        self.clean();
     }
 
     /// The process on the hart has ended. It is never put on a hart again.
@@ -417,28 +457,33 @@ impl Harts {
     }
 
     /// Forks, once.
-    pub fn fork(&mut self, quiz: &mut Quiz) -> Result<(), AllocError> {
+    pub fn fork(&mut self, quiz: &mut Quiz) {
         let Some(slot) = self.slot() else {
-            return Ok(());
+            return;
         };
         if self.has_forked || self.has_ended() {
-            return Ok(());
+            return;
         }
         self.has_forked = true;
-        self.to_kernel(quiz)?;
+        self.fork_from(quiz, slot);
+    }
+
+    /// Forks the process of this slot, which is on the hart.
+    fn fork_from(&mut self, quiz: &mut Quiz, slot: usize) {
+        self.to_kernel(quiz);
         let child = self.processes.len();
-        self.say(quiz, "fork", "slot")?;
+        self.say(quiz, "fork", "slot");
         let alloc = self.alloc;
         let Some(me) = self.me_mut() else {
-            return Ok(());
+            return;
         };
         let is_new = me.mark();
-        let process = me.child(alloc, child as u64)?;
-        self.processes.push(process)?;
+        let process = me.child(alloc, child as u64);
+        self.add_process(quiz, process);
         if is_new {
-            self.mark(slot)?;
+            self.mark(quiz, slot);
         }
-        self.mark(child)?;
-        self.to_user(quiz)
+        self.mark(quiz, child);
+        self.to_user(quiz);
     }
 }

@@ -4,7 +4,6 @@
 use crate::process::Access;
 use crate::quiz::{Place, Quiz};
 use crate::steps::Touch;
-use std::alloc::AllocError;
 use usertest_world::{PAGE, rounded_up};
 
 /// By how much heaps grow: from less than a page to so much that their pages need several page tables.
@@ -22,20 +21,24 @@ impl Quiz {
     }
 
     /// Grows the heap.
-    fn grow(&mut self) -> Result<(), AllocError> {
-        self.to_kernel()?;
+    fn grow(&mut self) {
+        self.to_kernel();
         let growth = self.random.choice(&GROWTHS);
         let (_, size) = self.heap();
         if let Some(me) = self.me_mut() {
             me.resize(size.saturating_add(growth));
         }
-        let text = format!(in self.alloc; "sbrk 0 {growth:#x}")?;
-        self.ask(text, "old")
+        self.ask_sbrk("", growth, "old");
+    }
+
+    /// Asks for an sbrk of so many bytes, with this sign before them.
+    fn ask_sbrk(&mut self, sign: &str, bytes: u64, words: &str) {
+        self.ask(format!(in self.alloc; "sbrk 0 {sign}{bytes:#x}"), words);
     }
 
     /// Shrinks the heap by some of its pages, and asks what audit says then.
-    fn shrink(&mut self) -> Result<(), AllocError> {
-        self.to_kernel()?;
+    fn shrink(&mut self) {
+        self.to_kernel();
         let (base, size) = self.heap();
         let most = size.saturating_sub(base);
         if most == 0 {
@@ -49,25 +52,23 @@ impl Quiz {
         if let Some(me) = self.me_mut() {
             me.resize(size.saturating_sub(less));
         }
-        let text = format!(in self.alloc; "sbrk 0 -{less:#x}")?;
-        self.ask(text, "old")?;
-        self.audit(true)
+        self.ask_sbrk("-", less, "old");
+        self.audit(true);
     }
 
     /// Asks for a heap that is refused.
-    fn refuse_heap(&mut self) -> Result<(), AllocError> {
-        self.to_kernel()?;
+    fn refuse_heap(&mut self) {
+        self.to_kernel();
         let (base, size) = self.heap();
-        let text = if self.random.chance(500) {
+        if self.random.chance(500) {
             let less = size
                 .saturating_sub(base)
                 .saturating_add(self.random.between(1, 0x1000));
-            format!(in self.alloc; "sbrk 0 -{less:#x}")?
+            self.ask_sbrk("-", less, "refused");
         } else {
             let more = 0x3f_ffff_e000_u64.saturating_sub(self.random.below(2).saturating_mul(PAGE));
-            format!(in self.alloc; "sbrk 0 {more:#x}")?
-        };
-        self.ask(text, "refused")
+            self.ask_sbrk("", more, "refused");
+        }
     }
 
     /// Returns a place in the heap: in its first page, its last page or any; `None` if it has none.
@@ -89,9 +90,9 @@ impl Quiz {
     }
 
     /// Accesses the heap. Returns whether the process goes on.
-    fn touch_heap(&mut self) -> Result<bool, AllocError> {
+    fn touch_heap(&mut self) -> bool {
         let Some(address) = self.heap_spot() else {
-            return Ok(true);
+            return true;
         };
         if self.random.chance(500) {
             let value = self.random.between(0x10, 0x100);
@@ -102,25 +103,25 @@ impl Quiz {
     }
 
     /// The kernel copies to the end of the heap, and maybe past it.
-    fn copy_to_end(&mut self) -> Result<(), AllocError> {
+    fn copy_to_end(&mut self) {
         let (_, size) = self.heap();
         let before = self.random.between(1, 8);
         let address = rounded_up(size).saturating_sub(before);
         let count = self.random.between(2, 12);
-        self.copy_out(address, count)?;
-        self.audit(true)
+        self.copy_out(address, count);
+        self.audit(true);
     }
 
     /// The kernel copies from the last page of the heap, and maybe from past it.
-    fn copy_from_end(&mut self) -> Result<(), AllocError> {
+    fn copy_from_end(&mut self) {
         let (_, size) = self.heap();
         let address = rounded_up(size).saturating_sub(self.random.between(1, 6));
         let count = self.random.between(2, 8);
-        self.copy_in(address, count)
+        self.copy_in(address, count);
     }
 
     /// Makes an access that is denied. Returns false.
-    fn deny_lazy(&mut self) -> Result<bool, AllocError> {
+    fn deny_lazy(&mut self) -> bool {
         let (base, size) = self.heap();
         let touch = match self.random.below(4) {
             0 => Touch::load(rounded_up(size)),
@@ -139,41 +140,43 @@ impl Quiz {
     }
 
     /// Makes a step. Returns whether the process goes on.
-    fn step_lazy(&mut self) -> Result<bool, AllocError> {
+    fn step_lazy(&mut self) -> bool {
         match self.random.below(20) {
             0..=7 => return self.touch_heap(),
-            8 | 9 => self.grow()?,
-            10..=12 => self.shrink()?,
-            13 | 14 => self.copy_to_end()?,
-            15 | 16 => self.copy_from_end()?,
-            17 => self.refuse_heap()?,
+            8 | 9 => self.grow(),
+            10..=12 => self.shrink(),
+            13 | 14 => self.copy_to_end(),
+            15 | 16 => self.copy_from_end(),
+            17 => self.refuse_heap(),
             _ if self.lines.len() > 15 => return self.deny_lazy(),
             _ => return self.touch_heap(),
         }
-        Ok(true)
+        true
     }
 
     /// Makes a quiz about a lazy heap.
-    pub(crate) fn make_lazy(&mut self) -> Result<(), AllocError> {
+    pub(crate) fn make_lazy(&mut self) {
         let (pages, over) = (self.random.between(1, 5), self.random.below(3));
         let size = PAGE
             .saturating_mul(pages)
             .saturating_sub(over.saturating_mul(0x123));
-        self.declare(format!(in self.alloc;
-            "image 0x0:0x1000:rx:13050000 0x1000:{size:#x}:rw:-"
-        )?)?;
-        self.begin("boot 1 64 1 full", pages)?;
-        self.to_kernel()?;
-        self.audit(false)?;
-        self.grow()?;
+        self.declare_zeros(size);
+        self.begin("boot 1 64 1 full", pages);
+        self.to_kernel();
+        self.audit(false);
+        self.grow();
+        self.go_on_lazy();
+    }
+
+    /// Makes steps until the script is long, or the process has ended; then counts the frames.
+    fn go_on_lazy(&mut self) {
         for _ in 0..30 {
-            if self.is_long() || self.place == Place::Idle || !self.step_lazy()? {
+            if self.is_long() || self.place == Place::Idle || !self.step_lazy() {
                 break;
             }
         }
         if self.place == Place::Idle {
-            self.audit(true)?;
+            self.audit(true);
         }
-        Ok(())
     }
 }

@@ -11,11 +11,11 @@ use std::alloc::{AllocError, Global};
 pub fn make(alloc: Global, subject: Subject, seed: u64, attempt: u64) -> Result<Quiz, AllocError> {
     let mut quiz = Quiz::new(alloc, subject, seed, attempt);
     match subject {
-        Subject::Cow => quiz.make_cow()?,
-        Subject::Lazy => quiz.make_lazy()?,
-        Subject::Mmap => quiz.make_mmap()?,
-        Subject::Tlb => quiz.make_tlb()?,
-        Subject::Walk => quiz.make_walk()?,
+        Subject::Cow => quiz.make_cow(),
+        Subject::Lazy => quiz.make_lazy(),
+        Subject::Mmap => quiz.make_mmap(),
+        Subject::Tlb => quiz.make_tlb(),
+        Subject::Walk => quiz.make_walk(),
     }
-    Ok(quiz)
+    quiz.finish()
 }

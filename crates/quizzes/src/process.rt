@@ -207,6 +207,19 @@ impl Process {
         self.settle(page, false, stored)
     }
 
+    /// `serve`, for so many bytes from an address on.
+    pub fn serve_bytes(
+        &mut self,
+        access: Access,
+        address: u64,
+        count: u64,
+    ) -> Result<(), AllocError> {
+        for number in 0..count {
+            self.serve(access, address.saturating_add(number))?;
+        }
+        Ok(())
+    }
+
     /// Marks the pages that a fork shares. Returns whether one was not marked.
     pub fn mark(&mut self) -> bool {
         let mut is_new = false;
@@ -248,7 +261,7 @@ impl Process {
     }
 
     /// Notes that the pages of a range have no frames.
-    pub fn release(&mut self, start: u64, end: u64) {
+    fn release(&mut self, start: u64, end: u64) {
         self.settled
             .retain(|settled| settled.page < start || end <= settled.page);
     }
@@ -275,8 +288,55 @@ impl Process {
         done
     }
 
+    /// Adds a mapping of a file, of so many bytes of pages.
+    pub fn map(
+        &mut self,
+        size: u64,
+        writable: bool,
+        shared: bool,
+        file: u64,
+    ) -> Result<(), AllocError> {
+        let start = self.place_of_mapping(size);
+        let region = Region {
+            start,
+            end: start.saturating_add(size),
+            writable,
+            executable: false,
+            shared,
+            file: Some(file),
+        };
+        self.regions.push(region)?;
+        Ok(())
+    }
+
+    /// Unmaps a part of a region, which is at its front or its back, or the whole.
+    pub fn unmap(&mut self, number: usize, start: u64, end: u64) {
+        self.release(start, end);
+        if let Some(region) = self.regions.get_mut(number) {
+            if region.start == start {
+                region.start = end;
+            } else {
+                region.end = start;
+            }
+        }
+        self.regions.retain(|region| region.start < region.end);
+    }
+
+    /// Returns the first mapping in a round of the regions from this one on, with its place among them; `None` if there is none.
+    pub fn mapping_from(&self, first: usize) -> Option<(usize, Region)> {
+        let count = self.regions.len();
+        for step in 0..count {
+            let number = place_after(first, step, count);
+            match self.regions.get(number) {
+                Some(region) if region.file.is_some() => return Some((number, *region)),
+                _ => {}
+            }
+        }
+        None
+    }
+
     /// Returns where the model's mmap puts so many bytes of pages: in the highest gap below the trapframe.
-    pub fn place_of_mapping(&self, size: u64) -> u64 {
+    fn place_of_mapping(&self, size: u64) -> u64 {
         let mut end = TRAPFRAME;
         for _ in 0..self.regions.len() {
             match self.lowest_between(end.saturating_sub(size), end) {

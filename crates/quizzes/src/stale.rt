@@ -12,7 +12,7 @@ const G: u64 = 32;
 
 impl Quiz {
     /// Asks for a load or a store in user mode.
-    fn ask_user(&mut self, address: u64) -> Result<(), AllocError> {
+    fn ask_user(&mut self, address: u64) {
         let word = if self.random.chance(400) {
             "load"
         } else {
@@ -20,65 +20,69 @@ impl Quiz {
         };
         let offset = self.random.below(512).saturating_mul(8);
         let address = address.saturating_add(offset);
-        self.ask(format!(in self.alloc; "{word} {address:#x} 8 U")?, "walk")
+        self.ask(format!(in self.alloc; "{word} {address:#x} 8 U"), "walk");
     }
 
     /// Changes a leaf: takes W or V away, or names another page.
-    fn change_leaf(&mut self, tables: Tables, more: u64) -> Result<(), AllocError> {
+    fn change_leaf(&mut self, tables: Tables, more: u64) {
         let page = self.data_page();
         let flags = match self.random.below(4) {
             0 => GOOD.saturating_sub(W),
             1 => GOOD.saturating_sub(V),
             _ => GOOD,
         };
-        self.write_leaf(tables, more, page, flags)
+        self.write_leaf(tables, more, page, flags);
     }
 
     /// Fences for some of the addresses and ASIDs.
-    fn fence_some(&mut self, tables: Tables) -> Result<(), AllocError> {
+    fn fence_some(&mut self, tables: Tables) {
         let more = self.random.below(2);
         let page = tables.page(more);
         let asid = self.random.between(1, 3);
-        let text = match self.random.below(4) {
-            0 => format!(in self.alloc; "sfence {page:#x}")?,
-            1 => format!(in self.alloc; "sfence - {asid}")?,
-            2 => format!(in self.alloc; "sfence {page:#x} {asid}")?,
-            _ => format!(in self.alloc; "sfence")?,
-        };
-        self.say(text, "ok")
+        let sort = self.random.below(4);
+        self.say(self.fence_text(page, asid, sort), "ok");
+    }
+
+    /// Returns the text of a fence of one of four sorts.
+    fn fence_text(&self, page: u64, asid: u64, sort: u64) -> Result<String, AllocError> {
+        match sort {
+            0 => format!(in self.alloc; "sfence {page:#x}"),
+            1 => format!(in self.alloc; "sfence - {asid}"),
+            2 => format!(in self.alloc; "sfence {page:#x} {asid}"),
+            _ => String::from_str(self.alloc, "sfence"),
+        }
     }
 
     /// Changes a leaf, the ASID, or fences; then asks for accesses.
-    fn step_stale(&mut self, tables: Tables) -> Result<(), AllocError> {
+    fn step_stale(&mut self, tables: Tables) {
         let more = self.random.below(2);
         match self.random.below(6) {
-            0..=2 => self.change_leaf(tables, more)?,
+            0..=2 => self.change_leaf(tables, more),
             3 => {
                 let asid = self.random.between(1, 3);
-                self.write_satp(asid)?;
+                self.write_satp(asid);
             }
-            _ => self.fence_some(tables)?,
+            _ => self.fence_some(tables),
         }
         let page = tables.page(more);
-        self.ask_user(page)
+        self.ask_user(page);
     }
 
     /// Makes a quiz about entries that change without a fence.
-    pub(crate) fn make_stale(&mut self) -> Result<(), AllocError> {
+    pub(crate) fn make_stale(&mut self) {
         self.teller = Teller::Mmu;
         let tables = self.indices();
-        self.write_pointers(tables)?;
+        self.write_pointers(tables);
         for more in 0..2 {
             let global = if self.random.chance(300) { G } else { 0 };
             let page = self.data_page();
-            self.write_leaf(tables, more, page, GOOD.saturating_add(global))?;
+            self.write_leaf(tables, more, page, GOOD.saturating_add(global));
         }
-        self.write_satp(1)?;
-        self.say_words("sfence", "ok")?;
-        self.ask_user(tables.page(0))?;
+        self.write_satp(1);
+        self.say_words("sfence", "ok");
+        self.ask_user(tables.page(0));
         for _ in 0..6 {
-            self.step_stale(tables)?;
+            self.step_stale(tables);
         }
-        Ok(())
     }
 }

@@ -47,46 +47,60 @@ impl Touch {
 }
 
 impl Quiz {
+    /// Declares an image with a page of code and so many bytes of zeros.
+    pub(crate) fn declare_zeros(&mut self, size: u64) {
+        self.declare(format!(in self.alloc; "image 0x0:0x1000:rx:13050000 0x1000:{size:#x}:rw:-"));
+    }
+
     /// Boots a machine, and puts a process with so many pages of data on its hart. Its image was declared.
-    pub(crate) fn begin(&mut self, boot: &str, data_pages: u64) -> Result<(), AllocError> {
-        self.say_words(boot, "ok")?;
-        self.say_words("start 0", "slot 0")?;
-        self.say_words("on 0 0", "ok")?;
-        let process = Process::new(self.alloc, 0, data_pages)?;
-        self.processes.push(process)?;
+    pub(crate) fn begin(&mut self, boot: &str, data_pages: u64) {
+        self.say_words(boot, "ok");
+        self.say_words("start 0", "slot 0");
+        self.say_words("on 0 0", "ok");
+        let process = Process::new(self.alloc, 0, data_pages);
+        self.add_process(process);
         self.current = 0;
         self.place = Place::User;
-        Ok(())
+    }
+
+    /// Adds a process.
+    fn add_process(&mut self, process: Result<Process, AllocError>) {
+        let Ok(process) = process else {
+            return self.lose();
+        };
+        if self.processes.push(process).is_err() {
+            self.lose();
+        }
     }
 
     /// The hart enters the kernel, if it is in user mode.
-    pub(crate) fn to_kernel(&mut self) -> Result<(), AllocError> {
+    pub(crate) fn to_kernel(&mut self) {
         if self.place != Place::User {
-            return Ok(());
+            return;
         }
         self.place = Place::Kernel;
-        self.say_words("enter 0", "ok")
+        self.say_words("enter 0", "ok");
     }
 
     /// The hart returns to user mode, if it is in the kernel.
-    pub(crate) fn to_user(&mut self) -> Result<(), AllocError> {
+    pub(crate) fn to_user(&mut self) {
         if self.place != Place::Kernel {
-            return Ok(());
+            return;
         }
         self.place = Place::User;
-        self.say_words("leave 0", "ok")
+        self.say_words("leave 0", "ok");
     }
 
     /// Puts another process on the hart.
-    pub(crate) fn to_process(&mut self, number: usize) -> Result<(), AllocError> {
-        self.to_kernel()?;
+    pub(crate) fn to_process(&mut self, number: usize) {
+        self.to_kernel();
         self.current = number;
         self.place = Place::User;
         let slot = match self.me() {
             Some(me) => me.slot,
             None => 0,
         };
-        self.say(format!(in self.alloc; "on 0 {slot}")?, "ok")
+        self.say(format!(in self.alloc; "on 0 {slot}"), "ok");
     }
 
     /// Returns the place of a living process other than the current one; `None` if there is none.
@@ -122,62 +136,60 @@ impl Quiz {
     }
 
     /// Makes an access in user mode, worth a question if `asks`. Returns whether it faults.
-    fn try_touch(&mut self, touch: Touch, asks: bool) -> Result<bool, AllocError> {
-        self.to_user()?;
+    fn try_touch(&mut self, touch: Touch, asks: bool) -> bool {
+        self.to_user();
         let (_, ready) = self.judged(touch);
         let words = match touch.access {
             _ if !ready => "fault",
             Access::Store => "stored",
             _ => "value",
         };
-        let text = self.touch_text(touch)?;
-        self.put(asks, text, words)?;
-        Ok(!ready)
+        let text = self.touch_text(touch);
+        self.put(asks, text, words);
+        !ready
     }
 
     /// Serves the fault of an access. Returns whether the process goes on.
-    fn serve(&mut self, touch: Touch) -> Result<bool, AllocError> {
+    fn serve(&mut self, touch: Touch) -> bool {
         let (granted, _) = self.judged(touch);
         if granted {
             if let Some(me) = self.me_mut() {
-                me.serve(touch.access, touch.address)?;
+                let served = me.serve(touch.access, touch.address);
+                self.note(served);
             }
-            self.say_words("fix 0", "ready")?;
-            return Ok(true);
+            self.say_words("fix 0", "ready");
+            return true;
         }
-        if let Some(me) = self.me_mut() {
-            me.lives = false;
-        }
-        self.place = Place::Idle;
-        let text = String::from_str(self.alloc, "fix 0")?;
-        self.ask(text, "ended")?;
-        Ok(false)
+        self.end();
+        let text = String::from_str(self.alloc, "fix 0");
+        self.ask(text, "ended");
+        false
     }
 
     /// Makes an access; if it faults, serves it, asks what audit says then if `counts`, and makes it again. Returns whether the process
     /// goes on.
-    pub(crate) fn touch(&mut self, touch: Touch, counts: bool) -> Result<bool, AllocError> {
-        if !self.try_touch(touch, true)? {
-            return Ok(true);
+    pub(crate) fn touch(&mut self, touch: Touch, counts: bool) -> bool {
+        if !self.try_touch(touch, true) {
+            return true;
         }
-        if !self.serve(touch)? {
-            return Ok(false);
+        if !self.serve(touch) {
+            return false;
         }
         if counts {
-            self.audit(true)?;
+            self.audit(true);
         }
-        let text = self.touch_text(touch)?;
+        let text = self.touch_text(touch);
         match touch.access {
-            Access::Store => self.say(text, "stored")?,
-            _ => self.ask(text, "value")?,
+            Access::Store => self.say(text, "stored"),
+            _ => self.ask(text, "value"),
         }
-        Ok(true)
+        true
     }
 
     /// Counts the frames.
-    pub(crate) fn audit(&mut self, asks: bool) -> Result<(), AllocError> {
-        let text = String::from_str(self.alloc, "audit")?;
-        self.put(asks, text, "free")
+    pub(crate) fn audit(&mut self, asks: bool) {
+        let text = String::from_str(self.alloc, "audit");
+        self.put(asks, text, "free");
     }
 
     /// Returns whether a living process is in this slot.
@@ -202,63 +214,62 @@ impl Quiz {
     }
 
     /// Forks; the parent stays on the hart, in the kernel.
-    pub(crate) fn fork(&mut self) -> Result<(), AllocError> {
-        self.to_kernel()?;
+    pub(crate) fn fork(&mut self) {
+        self.to_kernel();
         let slot = self.free_slot();
-        self.say_words("fork 0", "slot")?;
+        self.say_words("fork 0", "slot");
         let alloc = self.alloc;
         let child = match self.me_mut() {
             Some(me) => {
                 me.mark();
-                me.child(alloc, slot)?
+                me.child(alloc, slot)
             }
-            None => return Ok(()),
+            None => return,
         };
-        self.processes.push(child)?;
-        Ok(())
+        self.add_process(child);
     }
 
     /// The process on the hart exits.
-    pub(crate) fn exit(&mut self) -> Result<(), AllocError> {
-        self.to_kernel()?;
+    pub(crate) fn exit(&mut self) {
+        self.to_kernel();
         let status = self.random.below(100);
-        self.say(format!(in self.alloc; "exit 0 {status}")?, "exited")?;
+        self.say(format!(in self.alloc; "exit 0 {status}"), "exited");
+        self.end();
+    }
+
+    /// The process on the hart has ended.
+    fn end(&mut self) {
         self.place = Place::Idle;
         if let Some(me) = self.me_mut() {
             me.lives = false;
         }
-        Ok(())
     }
 
     /// The kernel copies bytes to the process, as many as `bytes` has.
-    pub(crate) fn copy_out(&mut self, address: u64, count: u64) -> Result<(), AllocError> {
-        self.to_kernel()?;
-        let mut text = format!(in self.alloc; "copyout 0 {address:#x} ")?;
-        for _ in 0..count {
-            let byte = self.random.between(0x10, 0x100);
-            write!(&mut text, "{byte:02x}")?;
-        }
-        let done = self.copied(Access::Store, address, count)?;
-        self.ask_copy(text, done, count)
+    pub(crate) fn copy_out(&mut self, address: u64, count: u64) {
+        self.to_kernel();
+        let text = format!(in self.alloc; "copyout 0 {address:#x} ");
+        let text = self.with_bytes(text, count);
+        let done = self.copied(Access::Store, address, count);
+        self.ask_copy(text, done, count);
     }
 
     /// The kernel copies bytes from the process.
-    pub(crate) fn copy_in(&mut self, address: u64, count: u64) -> Result<(), AllocError> {
-        self.to_kernel()?;
-        let done = self.copied(Access::Load, address, count)?;
-        let text = format!(in self.alloc; "copyin 0 {address:#x} {count}")?;
-        self.ask_copy(text, done, count)
+    pub(crate) fn copy_in(&mut self, address: u64, count: u64) {
+        self.to_kernel();
+        let done = self.copied(Access::Load, address, count);
+        let text = format!(in self.alloc; "copyin 0 {address:#x} {count}");
+        self.ask_copy(text, done, count);
     }
 
     /// Notes that the pages of a copy are ready, as far as it comes. Returns how many bytes are copied.
-    fn copied(&mut self, access: Access, address: u64, count: u64) -> Result<u64, AllocError> {
+    fn copied(&mut self, access: Access, address: u64, count: u64) -> u64 {
         let Some(me) = self.me_mut() else {
-            return Ok(0);
+            return 0;
         };
         let done = me.copies(access == Access::Store, address, count);
-        for number in 0..done {
-            me.serve(access, address.saturating_add(number))?;
-        }
-        Ok(done)
+        let served = me.serve_bytes(access, address, done);
+        self.note(served);
+        done
     }
 }

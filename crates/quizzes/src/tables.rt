@@ -1,7 +1,6 @@
 // `Tables`: page tables of Sv39 in the memory of a reference MMU, with the lines that write them.
 
 use crate::quiz::Quiz;
-use std::alloc::AllocError;
 
 /// Physical page numbers: of the root, of the table of level 1, of the table of level 0.
 const ROOT: u64 = 0x80001;
@@ -67,53 +66,37 @@ impl Quiz {
     }
 
     /// Writes a word of a table.
-    pub(crate) fn write_word(
-        &mut self,
-        table: u64,
-        index: u64,
-        word: u64,
-    ) -> Result<(), AllocError> {
+    pub(crate) fn write_word(&mut self, table: u64, index: u64, word: u64) {
         let place = table
             .saturating_mul(4096)
             .saturating_add((index % 512).saturating_mul(8));
-        self.say(format!(in self.alloc; "mem {place:#x} {word:#x}")?, "ok")
+        self.say(format!(in self.alloc; "mem {place:#x} {word:#x}"), "ok");
     }
 
     /// Writes a leaf of the last table.
-    pub(crate) fn write_leaf(
-        &mut self,
-        tables: Tables,
-        more: u64,
-        page: u64,
-        flags: u64,
-    ) -> Result<(), AllocError> {
+    pub(crate) fn write_leaf(&mut self, tables: Tables, more: u64, page: u64, flags: u64) {
         let index = tables.index0.saturating_add(more);
-        self.write_word(LAST, index, entry(page, flags))
+        self.write_word(LAST, index, entry(page, flags));
     }
 
     /// Describes the memory, and writes the entries that lead to the last table.
-    pub(crate) fn write_pointers(&mut self, tables: Tables) -> Result<(), AllocError> {
-        self.say_words("ram 0x80000000 0x400000", "ok")?;
-        self.write_word(ROOT, tables.index2, entry(MIDDLE, V))?;
-        self.write_word(MIDDLE, tables.index1, entry(LAST, V))
+    pub(crate) fn write_pointers(&mut self, tables: Tables) {
+        self.say_words("ram 0x80000000 0x400000", "ok");
+        self.write_word(ROOT, tables.index2, entry(MIDDLE, V));
+        self.write_word(MIDDLE, tables.index1, entry(LAST, V));
     }
 
     /// Writes the leaf of a large page.
-    pub(crate) fn write_large(
-        &mut self,
-        tables: Tables,
-        page: u64,
-        flags: u64,
-    ) -> Result<(), AllocError> {
-        self.write_word(MIDDLE, tables.index1.saturating_add(1), entry(page, flags))
+    pub(crate) fn write_large(&mut self, tables: Tables, page: u64, flags: u64) {
+        self.write_word(MIDDLE, tables.index1.saturating_add(1), entry(page, flags));
     }
 
     /// Writes satp, with an ASID.
-    pub(crate) fn write_satp(&mut self, asid: u64) -> Result<(), AllocError> {
+    pub(crate) fn write_satp(&mut self, asid: u64) {
         let word = (8_u64 << 60)
             .saturating_add((asid % 65536).saturating_mul(1 << 44))
             .saturating_add(ROOT);
-        self.say(format!(in self.alloc; "satp {word:#x}")?, "satp")
+        self.say(format!(in self.alloc; "satp {word:#x}"), "satp");
     }
 
     /// Returns the flags of a leaf.
