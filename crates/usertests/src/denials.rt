@@ -1,6 +1,6 @@
 // Accesses that must end the process.
 
-use crate::state::Maker;
+use crate::state::{Maker, begins};
 use std::alloc::AllocError;
 use usertest_world::{Base, NOBODYS, PAGE, Place, rounded_up};
 
@@ -113,8 +113,11 @@ impl Maker {
     }
 
     /// Returns an access that must end the process.
-    fn choose_denied(&mut self) -> Result<Denied, AllocError> {
-        let read_only = self.read_only_mappings()?;
+    fn choose_denied(&mut self) -> Denied {
+        let Ok(read_only) = self.read_only_mappings() else {
+            self.lose();
+            return self.above_heap();
+        };
         let unmapped = if self.world.me().unmapped.is_empty() {
             0
         } else {
@@ -122,98 +125,124 @@ impl Maker {
         };
         let kept = if read_only.is_empty() { 0 } else { 5 };
         let sort = self.random.below(8 + unmapped + kept);
-        Ok(match sort {
+        match sort {
             0..=3 => self.above_heap(),
             4..=5 => self.in_guard(),
             6 => self.at_nobodys(),
             7 => self.to_text(),
             _ if sort < 8 + unmapped => self.in_unmapped(),
             _ => self.to_read_only(read_only.as_slice()),
-        })
+        }
     }
 
     /// Adds the lines of an access that must end the process.
-    fn say_denied(&mut self, access: Denied) -> Result<(), AllocError> {
-        let (alloc, address, width) = (self.alloc, access.place.address, access.width);
+    fn say_denied(&mut self, access: Denied) {
+        let (address, width) = (access.place.address, access.width);
         let text = if access.store {
-            format!(in alloc; "store 0 {address:#x} {width} 0x55")?
+            format!(in self.alloc; "store 0 {address:#x} {width} 0x55")
         } else {
-            format!(in alloc; "load 0 {address:#x} {width}")?
+            format!(in self.alloc; "load 0 {address:#x} {width}")
         };
-        self.test.say_words(text.as_str(), "fault")?;
-        match access.rule {
-            Some(rule) => self
-                .test
-                .say_words("fix 0", format!(in alloc; "ended {rule}")?.as_str()),
-            None => self.test.say_words("fix 0", "ended"),
-        }
+        self.test.say_text(text, "fault");
+        self.say_ended(access.rule);
+    }
+
+    /// Adds the line by which an access ends the process, by the rule of this number.
+    fn say_ended(&mut self, rule: Option<u64>) {
+        let words = match rule {
+            Some(rule) => format!(in self.alloc; "ended {rule}"),
+            None => String::from_str(self.alloc, "ended"),
+        };
+        let text = String::from_str(self.alloc, "fix 0");
+        self.test.say(text, begins(words));
     }
 
     /// Adds a row that old versions of xv6 leave out if it is about the text: before 2023 they let programs store to it.
-    fn write_unless_old(&mut self, place: Place, text: String) -> Result<(), AllocError> {
+    fn write_unless_old(&mut self, place: Place, text: Result<String, AllocError>) {
         if !matches!(place.base, Base::Text) {
             return self.write_text(text);
         }
+        let Ok(text) = text else {
+            return self.lose();
+        };
         let shown = text.as_str();
-        self.write_text(format!(in self.alloc; "#ifndef KIT_OLD\n{shown}#endif\n")?)
+        self.write_text(format!(in self.alloc; "#ifndef KIT_OLD\n{shown}#endif\n"));
     }
 
     /// A child makes an access that ends it.
-    pub(crate) fn deny(&mut self, access: Denied) -> Result<(), AllocError> {
+    pub(crate) fn deny(&mut self, access: Denied) {
         let step = self.test.next_line();
-        self.begin_child()?;
-        self.say_denied(access)?;
-        self.schedule(self.world.current)?;
+        self.begin_child();
+        self.say_denied(access);
+        self.schedule(self.world.current);
         let (place, width, store) = (access.place, access.width, access.store as u64);
-        let text = format!(in self.alloc; "  denied({step}, {store}, {place}, {width});\n")?;
-        self.write_unless_old(place, text)
+        let text = format!(in self.alloc; "  denied({step}, {store}, {place}, {width});\n");
+        self.write_unless_old(place, text);
     }
 
     /// A child makes any access that ends it.
-    pub(crate) fn deny_any(&mut self) -> Result<bool, AllocError> {
-        let access = self.choose_denied()?;
-        self.deny(access)?;
-        Ok(true)
+    pub(crate) fn deny_any(&mut self) -> bool {
+        let access = self.choose_denied();
+        self.deny(access);
+        true
+    }
+
+    /// Returns the call of an access.
+    fn access_text(&self, access: Denied) -> Result<String, AllocError> {
+        let (place, width) = (access.place, access.width);
+        if access.store {
+            format!(in self.alloc; "set({place}, {width}, 0x55);")
+        } else {
+            format!(in self.alloc; "get({place}, {width});")
+        }
+    }
+
+    /// Returns the row of an access by which a process ends itself in this step.
+    fn end_text(&self, step: usize, access: Denied) -> Result<String, AllocError> {
+        let text = self.access_text(access)?;
+        let shown = text.as_str();
+        format!(in self.alloc;
+            "  at({step}); {shown} fail({step}, \"this access must end the process\");\n"
+        )
+    }
+
+    /// Returns a row that old versions of xv6 leave out: there the process just ends.
+    fn unless_old(
+        &self,
+        step: usize,
+        row: Result<String, AllocError>,
+    ) -> Result<String, AllocError> {
+        let text = row?;
+        let shown = text.as_str();
+        format!(in self.alloc; "#ifdef KIT_OLD\n  done({step}, -1);\n#else\n{shown}#endif\n")
     }
 
     /// Writes the access by which the process on the hart ends itself in this step.
-    fn write_end(&mut self, step: usize, access: Denied) -> Result<(), AllocError> {
-        let (alloc, place, width) = (self.alloc, access.place, access.width);
-        let text = if access.store {
-            format!(in alloc; "set({place}, {width}, 0x55);")?
+    fn write_end(&mut self, step: usize, access: Denied) {
+        let row = self.end_text(step, access);
+        if matches!(access.place.base, Base::Text) {
+            self.write_text(self.unless_old(step, row));
         } else {
-            format!(in alloc; "get({place}, {width});")?
-        };
-        let shown = text.as_str();
-        let text = format!(in alloc;
-            "  at({step}); {shown} fail({step}, \"this access must end the process\");\n"
-        )?;
-        if !matches!(place.base, Base::Text) {
-            return self.write_text(text);
+            self.write_text(row);
         }
-        let shown = text.as_str();
-        let text = format!(in alloc;
-            "#ifdef KIT_OLD\n  done({step}, -1);\n#else\n{shown}#endif\n"
-        )?;
-        self.write_text(text)
     }
 
     /// The process on the hart exits, or makes an access that ends it. Returns whether it did: the first does not, and none that has
     /// children.
-    pub(crate) fn end(&mut self) -> Result<bool, AllocError> {
+    pub(crate) fn end(&mut self) -> bool {
         let current = self.world.current;
         if self.world.me().parent.is_none() || self.world.has_children(current) {
-            return Ok(false);
+            return false;
         }
         if !self.random.chance(300) {
-            self.exit()?;
-            return Ok(true);
+            self.exit();
+            return true;
         }
         let step = self.test.next_line();
-        let access = self.choose_denied()?;
-        self.say_denied(access)?;
-        self.write_end(step, access)?;
-        self.leave_family(step)?;
-        Ok(true)
+        let access = self.choose_denied();
+        self.say_denied(access);
+        self.write_end(step, access);
+        self.leave_family(step);
+        true
     }
 }

@@ -37,7 +37,7 @@ enum Sort {
 type Weight = (Sort, [u64; 4]);
 
 /// The steps with their weights.
-const WEIGHTS: [Weight; 23] = [
+static WEIGHTS: [Weight; 23] = [
     (Sort::Load, [80, 70, 80, 80]),
     (Sort::Store, [90, 60, 80, 80]),
     (Sort::Map, [0, 0, 60, 40]),
@@ -71,17 +71,16 @@ fn weight_of(weights: &[u64], kind: Kind) -> u64 {
 impl Maker {
     /// Returns the sort of the next step.
     fn next_sort(&mut self) -> Sort {
-        let steps = WEIGHTS;
         let mut total = 0u64;
-        for (_, weights) in steps.iter() {
+        for (_, weights) in WEIGHTS.iter() {
             total = total.saturating_add(weight_of(weights, self.kind));
         }
         let drawn = self.random.below(total);
-        sort_at(&steps, self.kind, drawn)
+        sort_at(&WEIGHTS, self.kind, drawn)
     }
 
     /// Makes a step, and returns whether it can be made now; else nothing is done.
-    fn make_step(&mut self, sort: Sort) -> Result<bool, AllocError> {
+    fn make_step(&mut self, sort: Sort) -> bool {
         match sort {
             Sort::Load => self.load_any(),
             Sort::Store => self.store_any(),
@@ -100,7 +99,7 @@ impl Maker {
     }
 
     /// `make_step`, for the other steps.
-    fn make_rare_step(&mut self, sort: Sort) -> Result<bool, AllocError> {
+    fn make_rare_step(&mut self, sort: Sort) -> bool {
         match sort {
             Sort::Denied => self.deny_any(),
             Sort::Peek => self.peek(),
@@ -113,45 +112,38 @@ impl Maker {
             Sort::Kill => self.kill_child(),
             Sort::KillAfterStores => self.kill_after_stores(),
             Sort::Huge => self.huge(),
-            _ => Ok(false),
+            _ => false,
         }
     }
 
     /// Makes up to so many steps: fewer only if 100 times as many cannot be made.
-    fn make_steps(&mut self, steps: u32) -> Result<(), AllocError> {
+    fn make_steps(&mut self, steps: u32) {
         let mut made = 0u32;
         for _ in 0..u64::from(steps).saturating_mul(100) {
             if made >= steps {
                 break;
             }
             let sort = self.next_sort();
-            if self.make_step(sort)? {
+            if self.make_step(sort) {
                 made = made.saturating_add(1);
             }
         }
-        Ok(())
     }
 
     /// Makes up the files of the model. With `offsets`, two of them are parts of one file of the C program.
-    fn make_files(&mut self, offsets: bool) -> Result<(), AllocError> {
+    fn make_files(&mut self, offsets: bool) {
         let of_two = self.random.between(PAGE + 100, 3 * PAGE);
         let small = self.random.between(100, 2 * PAGE);
         let fixed = self.random.between(PAGE, 2 * PAGE);
         let (second, offset) = if offsets { (0, 2 * PAGE) } else { (3, 0) };
-        self.add_file(0, 0, 2 * PAGE, false)?;
-        self.add_file(second, offset, of_two, false)?;
-        self.add_file(1, 0, small, false)?;
-        self.add_file(2, 0, fixed, true)
+        self.add_file(0, 0, 2 * PAGE, false);
+        self.add_file(second, offset, of_two, false);
+        self.add_file(1, 0, small, false);
+        self.add_file(2, 0, fixed, true);
     }
 
     /// Adds a file, and declares it in the script.
-    fn add_file(
-        &mut self,
-        c_number: u64,
-        offset: u64,
-        size: u64,
-        read_only: bool,
-    ) -> Result<(), AllocError> {
+    fn add_file(&mut self, c_number: u64, offset: u64, size: u64, read_only: bool) {
         let file = File {
             number: self.world.files.len(),
             c_number,
@@ -160,117 +152,124 @@ impl Maker {
             seed: self.random.between(1, 250),
             read_only,
         };
-        self.world.files.push(file)?;
-        let mode = if read_only { "ro" } else { "rw" };
+        if self.world.files.push(file).is_err() {
+            self.lose();
+        }
+        let text = self.file_text(&file);
+        self.test.say(text, Ok(Expected::Nothing));
+    }
+
+    /// Returns the declaration of a file.
+    fn file_text(&self, file: &File) -> Result<String, AllocError> {
+        let size = file.size;
+        let mode = if file.read_only { "ro" } else { "rw" };
         let mut text = format!(in self.alloc; "file {size} {mode} ")?;
         for at in 0..size {
             let byte = file.byte_at(at);
             write!(&mut text, "{byte:02x}")?;
         }
-        self.test.say(text, Expected::Nothing)
+        Ok(text)
     }
 
     /// Begins the script: declares an image, boots a machine and starts a process of the image. Returns the step of an audit then.
-    fn begin(&mut self, offsets: bool) -> Result<usize, AllocError> {
-        self.test.begin_life(0)?;
+    fn begin(&mut self, offsets: bool) -> usize {
+        self.test.begin_life(0);
         if self.kind.has_maps() {
-            self.make_files(offsets)?;
+            self.make_files(offsets);
         }
         let image = "image 0x0:0x1000:rx:13050000 0x1000:0x1000:rw:-";
         self.test
-            .say(String::from_str(self.alloc, image)?, Expected::Nothing)?;
-        self.test.say_words("boot 1 1024 32 full", "ok")?;
-        self.test.say_words("start 0", "slot 0")?;
-        self.test.say_words("on 0 0", "ok")?;
+            .say(String::from_str(self.alloc, image), Ok(Expected::Nothing));
+        self.test.say_words("boot 1 1024 32 full", "ok");
+        self.test.say_words("start 0", "slot 0");
+        self.test.say_words("on 0 0", "ok");
         let audit = self.test.next_line();
-        self.test.say_words("audit", "free")?;
-        Ok(audit)
+        self.test.say_words("audit", "free");
+        audit
     }
 
     /// Makes a load from the heap, if the heap has so many bytes.
-    fn look_at(&mut self, offset: u64) -> Result<(), AllocError> {
+    fn look_at(&mut self, offset: u64) {
         let has_room = offset.saturating_add(8) <= self.world.me().size;
         if offset.is_multiple_of(8) && has_room {
-            self.load(Place::heap(offset), 8)
-        } else {
-            Ok(())
+            self.load(Place::heap(offset), 8);
         }
     }
 
     /// Loads from the last `count` of some heap offsets.
-    fn look_at_last(&mut self, offsets: &[u64], count: usize) -> Result<(), AllocError> {
+    fn look_at_last(&mut self, offsets: Result<Vec<u64>, AllocError>, count: usize) {
+        let Ok(offsets) = offsets else {
+            return self.lose();
+        };
         let before = offsets.len().saturating_sub(count);
-        for offset in offsets.iter().skip(before) {
-            self.look_at(*offset)?;
+        for at in before..offsets.len() {
+            if let Some(offset) = offsets.get(at).copied() {
+                self.look_at(offset);
+            }
         }
-        Ok(())
     }
 
     /// Makes loads before a process ends, from where its family has stored.
-    fn last_looks(&mut self) -> Result<(), AllocError> {
-        let spots = Vec::from_slice(self.alloc, self.world.me().spots.as_slice())?;
-        self.look_at_last(spots.as_slice(), 4)?;
+    fn last_looks(&mut self) {
+        let spots = Vec::from_slice(self.alloc, self.world.me().spots.as_slice());
+        self.look_at_last(spots, 4);
         if self.kind.shares_copies() {
-            let hot = Vec::from_slice(self.alloc, self.hot.as_slice())?;
-            self.look_at_last(hot.as_slice(), 3)?;
+            let hot = Vec::from_slice(self.alloc, self.hot.as_slice());
+            self.look_at_last(hot, 3);
         }
-        self.load_any()?;
-        Ok(())
+        self.load_any();
     }
 
-    /// Returns any living process but the first that has no children; `None` if there is none.
-    fn any_leaf(&mut self) -> Result<Option<usize>, AllocError> {
+    /// Returns the living processes but the first that have no children.
+    fn leaves(&self) -> Result<Vec<usize>, AllocError> {
         let mut leaves = Vec::new(self.alloc);
         for number in 1..self.world.count() {
             if self.world.process(number).lives && !self.world.has_children(number) {
                 leaves.push(number)?;
             }
         }
-        let at = self.random.index(leaves.len());
-        Ok(leaves.get(at).copied())
+        Ok(leaves)
     }
 
     /// All processes but the first end, children first.
-    fn end_children(&mut self) -> Result<(), AllocError> {
+    fn end_children(&mut self) {
         for _ in 0..self.world.count() {
-            let Some(leaf) = self.any_leaf()? else {
+            let leaves = self.leaves();
+            let Some(leaf) = self.any_of(leaves) else {
                 break;
             };
-            self.pass_turn(leaf)?;
-            self.last_looks()?;
-            self.end()?;
+            self.pass_turn(leaf);
+            self.last_looks();
+            self.end();
         }
-        Ok(())
     }
 
     /// The first process ends. Returns the step in which it does.
-    fn end_first(&mut self) -> Result<usize, AllocError> {
-        self.pass_turn(0)?;
-        self.last_looks()?;
+    fn end_first(&mut self) -> usize {
+        self.pass_turn(0);
+        self.last_looks();
         let step = self.test.next_line();
-        self.test.say_exit("0")?;
-        self.write_text(format!(in self.alloc; "  done({step}, 0);\n")?)?;
+        self.test.say_exit(String::from_str(self.alloc, "exit 0 0"));
+        self.write_text(format!(in self.alloc; "  done({step}, 0);\n"));
         self.world.end(0);
         self.test.is_over = true;
-        Ok(step)
+        step
     }
 
     /// Shows all pages of a file that labs determine.
-    fn show_file(&mut self, file: &File) -> Result<(), AllocError> {
+    fn show_file(&mut self, file: &File) {
         for page in 0..file.pages() {
-            self.show(file, page)?;
+            self.show(file, page);
         }
-        Ok(())
     }
 
     /// Shows all pages of files that labs determine.
-    fn show_files(&mut self) -> Result<(), AllocError> {
+    fn show_files(&mut self) {
         for number in 0..self.world.files.len() {
             if let Some(file) = self.world.files.get(number).copied() {
-                self.show_file(&file)?;
+                self.show_file(&file);
             }
         }
-        Ok(())
     }
 
     /// Returns the rows that make the files in C, or those that remove them.
@@ -291,68 +290,83 @@ impl Maker {
     }
 
     /// Makes the end of the test: all processes end, and the files are shown. `audit` is the step of the first audit.
-    fn finish(&mut self, audit: usize) -> Result<(), AllocError> {
-        self.end_children()?;
-        let step = self.end_first()?;
-        self.show_files()?;
-        let (before, after) = (self.file_rows(true)?, self.file_rows(false)?);
-        self.test.end_lives()?;
-        self.test.write_first(before.as_str(), audit, step)?;
-        self.test.write_last(after.as_str())
+    fn finish(&mut self, audit: usize) {
+        self.end_children();
+        let step = self.end_first();
+        self.show_files();
+        let (before, after) = (self.file_rows(true), self.file_rows(false));
+        self.test.end_lives();
+        self.test.write_first(before, audit, step);
+        self.test.write_last(after);
     }
 }
 
 impl Test {
     /// Ends the functions of processes, and puts those of children before that of their parent.
-    fn end_lives(&mut self) -> Result<(), AllocError> {
-        for life in self.lives.as_mut_slice() {
-            let end = String::from_str(self.alloc, "}\n")?;
-            life.rows.push(Row::Text(end))?;
+    fn end_lives(&mut self) {
+        for number in 0..self.lives.len() {
+            self.write_words(number, String::from_str(self.alloc, "}\n"));
         }
         self.lives.as_mut_slice().reverse();
-        Ok(())
     }
 
     /// Adds the beginning of the function that makes the test, after the rows that make the files: it starts the first process, which ends
     /// in this step, and waits for it.
-    fn write_first(&mut self, files: &str, audit: usize, step: usize) -> Result<(), AllocError> {
-        let (alloc, prefix, name) = (self.alloc, self.prefix.as_str(), self.name.as_str());
-        let begin = format!(in alloc;
+    fn write_first(&mut self, files: Result<String, AllocError>, audit: usize, step: usize) {
+        let at = self.lives.len();
+        let begin = self.first_text(files, step);
+        self.begin_function(begin);
+        self.write_call(at, Call::Held, audit, "");
+        let prefix = self.prefix.as_str();
+        let spawn = format!(in self.alloc; "  spawn(0, 0, {prefix}p0);\n");
+        self.write_words(at, spawn);
+        self.write_call(at, Call::Reap, step, "0, ");
+    }
+
+    /// Returns the text with which that function begins.
+    fn first_text(
+        &self,
+        files: Result<String, AllocError>,
+        step: usize,
+    ) -> Result<String, AllocError> {
+        let files = files?;
+        let (prefix, name, files) = (self.prefix.as_str(), self.name.as_str(), files.as_str());
+        format!(in self.alloc;
             "\nstatic void {prefix}test(void)\n{{\n{files}  begin_all(\"{name}\", {step});\n"
-        )?;
-        let spawn = format!(in alloc; "  spawn(0, 0, {prefix}p0);\n")?;
-        let held = StepRow {
-            call: Call::Held,
-            step: audit,
-            arguments: String::new(alloc),
+        )
+    }
+
+    /// Adds a call with these arguments to a function.
+    fn write_call(&mut self, function: usize, call: Call, step: usize, arguments: &str) {
+        let Ok(arguments) = String::from_str(self.alloc, arguments) else {
+            return self.lose();
         };
-        let reap = StepRow {
-            call: Call::Reap,
+        let row = StepRow {
+            call,
             step,
-            arguments: String::from_str(alloc, "0, ")?,
+            arguments,
         };
-        let mut rows = Vec::new(alloc);
-        rows.push(Row::Text(begin))?;
-        rows.push(Row::Step(held))?;
-        rows.push(Row::Text(spawn))?;
-        rows.push(Row::Step(reap))?;
-        self.lives.push(Life {
-            rows,
-            last_turn: None,
-        })?;
-        Ok(())
+        self.write_row(function, Row::Step(row));
     }
 
     /// Adds what this function does after the first process has ended, before the rows that remove the files.
-    fn write_last(&mut self, files: &str) -> Result<(), AllocError> {
-        let end = format!(in self.alloc; "{files}  end_all();\n}}\n")?;
-        self.last_rows.push(Row::Text(end))?;
+    fn write_last(&mut self, files: Result<String, AllocError>) {
         let last = Life {
             rows: std::mem::replace(&mut self.last_rows, Vec::new(self.alloc)),
             last_turn: None,
         };
-        self.lives.push(last)?;
-        Ok(())
+        let at = self.lives.len();
+        if self.lives.push(last).is_err() {
+            self.lose();
+        }
+        self.write_words(at, self.last_text(files));
+    }
+
+    /// Returns the text with which that function ends.
+    fn last_text(&self, files: Result<String, AllocError>) -> Result<String, AllocError> {
+        let files = files?;
+        let files = files.as_str();
+        format!(in self.alloc; "{files}  end_all();\n}}\n")
     }
 }
 
@@ -382,14 +396,14 @@ pub fn make(
     parts: usize,
 ) -> Result<Test, AllocError> {
     let mut maker = Maker::new(alloc, kind, seed, parts)?;
-    let audit = maker.begin(offsets)?;
+    let audit = maker.begin(offsets);
     if kind != Kind::Mmap && maker.random.chance(800) {
-        maker.sbrk()?;
+        maker.sbrk();
     }
     if kind.shares_copies() && maker.random.chance(300) {
-        maker.fork_of_many_pages()?;
+        maker.fork_of_many_pages();
     }
-    maker.make_steps(steps)?;
-    maker.finish(audit)?;
-    Ok(maker.test)
+    maker.make_steps(steps);
+    maker.finish(audit);
+    maker.test.finish()
 }

@@ -1,7 +1,7 @@
 // Processes: how they start and end, and who has the turn. The script says the order of all steps of all processes. In C a turn goes
 // along the tree, by back() on the way up and give() on the way down.
 
-use crate::state::{Maker, Test};
+use crate::state::{Maker, Test, begins};
 use std::alloc::AllocError;
 use usertest_rows::{Call, Life, Row, StepRow};
 
@@ -19,28 +19,34 @@ const MOST_EXECS: u64 = 2;
 
 impl Test {
     /// Begins the function of a process.
-    pub(crate) fn begin_life(&mut self, process: usize) -> Result<(), AllocError> {
+    pub(crate) fn begin_life(&mut self, process: usize) {
         let prefix = self.prefix.as_str();
-        let text = format!(in self.alloc; "\nstatic void {prefix}p{process}(void)\n{{\n")?;
-        let mut rows = Vec::new(self.alloc);
-        rows.push(Row::Text(text))?;
+        let text = format!(in self.alloc; "\nstatic void {prefix}p{process}(void)\n{{\n");
+        self.begin_function(text);
+    }
+
+    /// Begins a function with this text.
+    pub(crate) fn begin_function(&mut self, text: Result<String, AllocError>) {
+        let at = self.lives.len();
         let life = Life {
-            rows,
+            rows: Vec::new(self.alloc),
             last_turn: None,
         };
-        self.lives.push(life)?;
-        Ok(())
+        if self.lives.push(life).is_err() {
+            self.lose();
+        }
+        self.write_words(at, text);
     }
 
     /// In C: the process gives the turn back to its parent.
-    fn write_back(&mut self, process: usize) -> Result<(), AllocError> {
-        let text = String::from_str(self.alloc, "  back();\n")?;
-        self.write_row(process, Row::Text(text))
+    fn write_back(&mut self, process: usize) {
+        let text = String::from_str(self.alloc, "  back();\n");
+        self.write_words(process, text);
     }
 
     /// In C: the parent gives the turn to this process, its child of this index. Notes the row.
-    fn write_give(&mut self, parent: usize, process: usize, index: u64) -> Result<(), AllocError> {
-        let text = format!(in self.alloc; "  give({index});\n")?;
+    fn write_give(&mut self, parent: usize, process: usize, index: u64) {
+        let text = format!(in self.alloc; "  give({index});\n");
         let row = match self.lives.get(parent) {
             Some(life) => life.rows.len(),
             None => 0,
@@ -48,173 +54,225 @@ impl Test {
         if let Some(life) = self.lives.get_mut(process) {
             life.last_turn = Some(row);
         }
-        self.write_row(parent, Row::Text(text))
+        self.write_words(parent, text);
     }
 
     /// In C: in place of the row in which the parent gives a process its last turn, it waits for its end.
     fn write_reap(&mut self, parent: usize, process: usize, reap: Row) {
-        let turn = match self.lives.get(process) {
+        if let Some(at) = self.last_turn(process) {
+            self.replace_row(parent, at, reap);
+        }
+    }
+
+    /// Returns the row of the parent's function in which a process got its last turn.
+    fn last_turn(&self, process: usize) -> Option<usize> {
+        match self.lives.get(process) {
             Some(life) => life.last_turn,
             None => None,
-        };
-        if let Some(at) = turn
-            && let Some(life) = self.lives.get_mut(parent)
-            && let Some(row) = life.rows.get_mut(at)
+        }
+    }
+
+    /// Puts a row in place of another of the function of a process.
+    fn replace_row(&mut self, process: usize, at: usize, row: Row) {
+        if let Some(life) = self.lives.get_mut(process)
+            && let Some(old) = life.rows.get_mut(at)
         {
-            *row = reap;
+            *old = row;
         }
     }
 }
 
 impl Maker {
     /// Puts a process on the hart, which is in the kernel.
-    pub(crate) fn schedule(&mut self, process: usize) -> Result<(), AllocError> {
+    pub(crate) fn schedule(&mut self, process: usize) {
         let slot = self.world.process(process).slot;
-        let text = format!(in self.alloc; "on 0 {slot}")?;
-        self.test.say_words(text.as_str(), "ok")?;
+        let text = format!(in self.alloc; "on 0 {slot}");
+        self.test.say_text(text, "ok");
         self.world.current = process;
-        Ok(())
     }
 
     /// In C: the turn goes up from the process on the hart to the first process of this line.
-    fn write_up(&mut self, up: &[usize], down: &[usize]) -> Result<(), AllocError> {
+    fn write_up(&mut self, up: &[usize], down: &[usize]) {
         for process in up {
             if down.contains(process) {
                 break;
             }
-            self.test.write_back(*process)?;
+            self.test.write_back(*process);
         }
-        Ok(())
     }
 
     /// In C: the turn goes down to a process.
-    fn write_down(&mut self, up: &[usize], down: &[usize]) -> Result<(), AllocError> {
+    fn write_down(&mut self, up: &[usize], down: &[usize]) {
         for number in down.iter().rev() {
             if !up.contains(number) {
                 let process = self.world.process(*number);
                 let parent = process.parent.unwrap_or(0);
-                self.test.write_give(parent, *number, process.index)?;
+                self.test.write_give(parent, *number, process.index);
             }
         }
-        Ok(())
     }
 
     /// Gives the turn to another process.
-    pub(crate) fn pass_turn(&mut self, to: usize) -> Result<(), AllocError> {
+    pub(crate) fn pass_turn(&mut self, to: usize) {
         if to == self.world.current {
-            return Ok(());
+            return;
         }
-        let up = self.world.line_of(self.world.current)?;
-        let down = self.world.line_of(to)?;
-        self.write_up(up.as_slice(), down.as_slice())?;
-        self.write_down(up.as_slice(), down.as_slice())?;
-        self.test.say_words("enter 0", "ok")?;
-        self.schedule(to)
+        let Ok(up) = self.world.line_of(self.world.current) else {
+            return self.lose();
+        };
+        let Ok(down) = self.world.line_of(to) else {
+            return self.lose();
+        };
+        self.write_up(up.as_slice(), down.as_slice());
+        self.write_down(up.as_slice(), down.as_slice());
+        self.test.say_words("enter 0", "ok");
+        self.schedule(to);
+    }
+
+    /// Returns whether there are not too many processes for a fork of one with so many children.
+    fn may_fork(&self, children: usize) -> bool {
+        self.world.living() < MOST_LIVING
+            && children < MOST_CHILDREN
+            && self.world.count() < MOST_SPAWNED
+            && self.world.me().spawned < MOST_SPAWNED as u64
+    }
+
+    /// Adds the lines of a fork whose child gets this slot.
+    fn say_fork(&mut self, slot: u64) {
+        let words = format!(in self.alloc; "slot {slot}");
+        let text = String::from_str(self.alloc, "fork 0");
+        self.test.say_call(text, begins(words));
     }
 
     /// Forks. Returns whether it did: there are not too many processes.
-    pub(crate) fn fork(&mut self) -> Result<bool, AllocError> {
-        let children = self.world.children_of(self.world.current)?.len();
+    pub(crate) fn fork(&mut self) -> bool {
+        let Ok(children) = self.world.children_of(self.world.current) else {
+            self.lose();
+            return false;
+        };
+        if !self.may_fork(children.len()) {
+            return false;
+        }
+        let (step, slot) = (self.test.next_line(), self.world.free_slot());
         let spawned = self.world.me().spawned;
-        if self.world.living() >= MOST_LIVING
-            || children >= MOST_CHILDREN
-            || self.world.count() >= MOST_SPAWNED
-            || spawned >= MOST_SPAWNED as u64
-        {
-            return Ok(false);
-        }
-        let (alloc, step, slot) = (self.alloc, self.test.next_line(), self.world.free_slot());
-        self.test
-            .say_kernel("fork 0", format!(in alloc; "slot {slot}")?.as_str())?;
-        let child = self.world.fork()?;
-        self.test.begin_life(child)?;
+        self.say_fork(slot);
+        let Ok(child) = self.world.fork() else {
+            self.lose();
+            return false;
+        };
+        self.test.begin_life(child);
         let prefix = self.test.prefix.as_str();
-        let text = format!(in alloc; "  spawn({step}, {spawned}, {prefix}p{child});\n")?;
-        self.write_text(text)?;
+        let text = format!(in self.alloc; "  spawn({step}, {spawned}, {prefix}p{child});\n");
+        self.write_text(text);
         if self.random.chance(500) {
-            self.pass_turn(child)?;
+            self.pass_turn(child);
         }
-        Ok(true)
+        true
     }
 
     /// Forks a child that lives for some steps only, in which it must end: in C the runtime forks it. It is on the hart then.
-    pub(crate) fn begin_child(&mut self) -> Result<(), AllocError> {
-        let (alloc, slot) = (self.alloc, self.world.free_slot());
-        self.test
-            .say_kernel("fork 0", format!(in alloc; "slot {slot}")?.as_str())?;
+    pub(crate) fn begin_child(&mut self) {
+        let slot = self.world.free_slot();
+        self.say_fork(slot);
         self.world.note_fork();
-        self.test.say_words("enter 0", "ok")?;
+        self.test.say_words("enter 0", "ok");
         self.test
-            .say_words(format!(in alloc; "on 0 {slot}")?.as_str(), "ok")
+            .say_text(format!(in self.alloc; "on 0 {slot}"), "ok");
     }
 
     /// The child exits, and the parent is on the hart again.
-    pub(crate) fn end_child(&mut self, status: u64) -> Result<(), AllocError> {
+    pub(crate) fn end_child(&mut self, status: u64) {
         self.test
-            .say_exit(format!(in self.alloc; "{status}")?.as_str())?;
-        self.schedule(self.world.current)
+            .say_exit(format!(in self.alloc; "exit 0 {status}"));
+        self.schedule(self.world.current);
     }
 
-    /// Gives the turn to any other process. Returns whether there is one.
-    pub(crate) fn switch(&mut self) -> Result<bool, AllocError> {
+    /// Returns the processes that live, but the one on the hart.
+    fn others(&self) -> Result<Vec<usize>, AllocError> {
         let mut others = Vec::new(self.alloc);
         for number in 0..self.world.count() {
             if number != self.world.current && self.world.process(number).lives {
                 others.push(number)?;
             }
         }
-        let at = self.random.index(others.len());
-        match others.get(at).copied() {
+        Ok(others)
+    }
+
+    /// Gives the turn to any other process. Returns whether there is one.
+    pub(crate) fn switch(&mut self) -> bool {
+        let others = self.others();
+        match self.any_of(others) {
             Some(other) => {
-                self.pass_turn(other)?;
-                Ok(true)
+                self.pass_turn(other);
+                true
             }
-            None => Ok(false),
+            None => false,
         }
     }
 
     /// Executes the program anew, with an empty heap. Returns whether it did: what exec does with mappings, labs leave open.
-    pub(crate) fn execute(&mut self) -> Result<bool, AllocError> {
-        let (alloc, step, current) = (self.alloc, self.test.next_line(), self.world.current);
+    pub(crate) fn execute(&mut self) -> bool {
+        let step = self.test.next_line();
         if !self.world.me().mappings.is_empty() || self.world.me().execs >= MOST_EXECS {
-            return Ok(false);
+            return false;
         }
-        self.test.say_kernel("exec 0 0", "ok")?;
-        self.world.process_mut(current).execute();
+        self.test
+            .say_kernel(String::from_str(self.alloc, "exec 0 0"), "ok");
+        self.world.me_mut().execute();
         self.counted = false;
+        let name = self.part_name();
+        self.begin_part(step, name);
+        true
+    }
+
+    /// Returns the name of the function that goes on after the exec of the process on the hart.
+    fn part_name(&self) -> Result<String, AllocError> {
+        let (current, execs) = (self.world.current, self.world.me().execs);
+        let prefix = self.test.prefix.as_str();
+        format!(in self.alloc; "{prefix}p{current}_{execs}")
+    }
+
+    /// Begins the function of this name, which goes on after an exec in this step.
+    fn begin_part(&mut self, step: usize, name: Result<String, AllocError>) {
+        let Ok(name) = name else {
+            return self.lose();
+        };
         let part = self.test.parts_before.saturating_add(self.test.parts.len());
-        let (prefix, execs) = (self.test.prefix.as_str(), self.world.me().execs);
-        let name = format!(in alloc; "{prefix}p{current}_{execs}")?;
         let shown = name.as_str();
-        let text = format!(in alloc;
+        let text = format!(in self.alloc;
             "  again({step}, {part});\n}}\n\nstatic void {shown}(void)\n{{\n"
-        )?;
-        self.test.parts.push(name)?;
-        self.write_text(text)?;
-        Ok(true)
+        );
+        if self.test.parts.push(name).is_err() {
+            self.lose();
+        }
+        self.write_text(text);
     }
 
     /// The process on the hart has ended in this step, in its last turn: its parent goes on, and waits for it.
-    pub(crate) fn leave_family(&mut self, step: usize) -> Result<(), AllocError> {
+    pub(crate) fn leave_family(&mut self, step: usize) {
         let process = self.world.current;
         let ended = self.world.process(process);
         let (index, parent) = (ended.index, ended.parent.unwrap_or(0));
-        let reap = Row::Step(StepRow {
+        let Ok(arguments) = format!(in self.alloc; "{index}, ") else {
+            return self.lose();
+        };
+        let reap = StepRow {
             call: Call::Reap,
             step,
-            arguments: format!(in self.alloc; "{index}, ")?,
-        });
-        self.test.write_reap(parent, process, reap);
+            arguments,
+        };
+        self.test.write_reap(parent, process, Row::Step(reap));
         self.world.end(process);
-        self.schedule(parent)
+        self.schedule(parent);
     }
 
     /// The process on the hart exits.
-    pub(crate) fn exit(&mut self) -> Result<(), AllocError> {
-        let (alloc, step, status) = (self.alloc, self.test.next_line(), self.random.below(60));
-        self.test.say_exit(format!(in alloc; "{status}")?.as_str())?;
-        self.write_text(format!(in alloc; "  done({step}, {status});\n")?)?;
-        self.leave_family(step)
+    pub(crate) fn exit(&mut self) {
+        let (step, status) = (self.test.next_line(), self.random.below(60));
+        self.test
+            .say_exit(format!(in self.alloc; "exit 0 {status}"));
+        self.write_text(format!(in self.alloc; "  done({step}, {status});\n"));
+        self.leave_family(step);
     }
 
     /// Returns the children that can be killed: they have none themselves.
@@ -247,13 +305,14 @@ impl Maker {
     pub(crate) fn kill(&mut self, child: usize) -> Result<Vec<(usize, usize)>, AllocError> {
         let (parent, step) = (self.world.current, self.test.next_line());
         let index = self.world.process(child).index;
-        self.test.say_words("enter 0", "ok")?;
-        self.schedule(child)?;
-        self.test.say_exit("-1")?;
-        let stored = self.stored_pages(child)?;
+        self.test.say_words("enter 0", "ok");
+        self.schedule(child);
+        self.test
+            .say_exit(String::from_str(self.alloc, "exit 0 -1"));
+        let stored = self.stored_pages(child);
         self.world.end(child);
-        self.schedule(parent)?;
-        self.write_text(format!(in self.alloc; "  slay({step}, {index});\n")?)?;
-        Ok(stored)
+        self.schedule(parent);
+        self.write_text(format!(in self.alloc; "  slay({step}, {index});\n"));
+        stored
     }
 }
