@@ -117,21 +117,29 @@ class Writer:
         self.ok(f"mem {place:#x} {word:#x}")
 
     def age(self):
-        """A or D is set in a PTE, as by a hart that walked to it; then perhaps its table is no longer found, and the page is accessed."""
-        rng = self.rng
+        """A global leaf, to which a fence of the ASID leaves no way, so that a hart may hold it and no walk reads it; A or D is set in its place, or
+        another word, and the page is accessed."""
+        rng, top, root = self.rng, top_of(self.hart.satp), root_of(self.hart.satp)
         va = rng.choice(self.vas)
-        level = rng.choice([0, 0, *self.tables])
-        place = rng.choice(self.tables[level]) * 4096 + index_of(va, level) * 8
-        if place not in self.hart.memory:
+        if top is None or not is_canonical(va, top) or root not in self.tables[top]:
             return
+        level, table = rng.choice([0, 0, *range(top)]), root
+        for above in range(top, level, -1):
+            below = rng.choice([it for it in self.tables[above - 1] if it != OUTSIDE])
+            self.mem(above, table * 4096 + index_of(va, above) * 8, below << 10 | 1)
+            table = below
+        place, word = table * 4096 + index_of(va, level) * 8, (BASE >> 9 * level << 9 * level) << 10 | rng.choice([0x37, 0x37, 0x77, 0x27, 0x6F])
+        if level == 0 and self.profile.svnapot and rng.random() < 0.5:  # read, and perhaps changed, in the place of another of its pages
+            word |= 1 << 63 | 0x2000
+            self.mem(level, place, word)
+            place ^= 8 << rng.randrange(4)
+        self.mem(level, place, word)
         self.hart.speculate()
-        self.mem(level, place, aged(self.hart.memory[place], rng.choice(["load", "store"])))
-        if rng.random() < 0.6:
-            above = rng.choice(list(self.tables))
-            self.mem(above, rng.choice(self.tables[above]) * 4096 + index_of(va, above) * 8, self.word(above))
-        if rng.random() < 0.4:
-            self.mem(level, place, aged(self.hart.memory[place], "store"))
-        self.access(va)
+        self.mem(top, root * 4096 + index_of(va, top) * 8, 0)
+        self.fence(None, asid_of(self.hart.satp))
+        for _ in range(rng.randrange(1, 3)):
+            self.mem(level, place, aged(self.hart.memory[place], rng.choice(["load", "store"])) ^ (rng.random() < 0.2) << 10)
+            self.access(va)
 
     def satp(self):
         rng = self.rng
