@@ -26,13 +26,21 @@ struct Table {
 impl Table {
     /// Returns how many of the last lines of the handout can be found in so many last lines of the file.
     fn at(&self, handout: usize, student: usize) -> u16 {
-        match self.rows.get(handout) {
-            Some(row) => match row.get(student) {
-                Some(most) => *most,
-                None => 0,
-            },
+        let Some(row) = self.rows.get(handout) else {
+            return 0;
+        };
+        match row.get(student) {
+            Some(most) => *most,
             None => 0,
         }
+    }
+
+    /// Returns how many of the last lines of the handout can be found in the lines of the file after this place.
+    fn after(&self, handout: usize, student: &[Line], place: usize) -> u16 {
+        self.at(
+            handout,
+            student.len().saturating_sub(place).saturating_sub(1),
+        )
     }
 }
 
@@ -46,8 +54,11 @@ fn next_row(
     let mut row = Vec::with_capacity(alloc, above.len())?;
     let (mut left, mut corner) = (0u16, 0u16);
     row.push(0)?;
-    'lines: for (written, up) in student.iter().rev().zip(above.iter().skip(1)) {
-        let most = if is_kept(&asked.line, written) {
+    'lines: for count in 0..student.len() {
+        let Some(up) = above.get(count + 1) else {
+            break;
+        };
+        let most = if is_kept(&asked.line, &student[student.len() - count - 1]) {
             corner.saturating_add(1)
         } else {
             left.max(*up)
@@ -61,24 +72,24 @@ fn next_row(
 
 /// Returns the row of no line of the handout.
 fn first_row(alloc: Global, student: &[Line]) -> Result<Vec<u16>, AllocError> {
-    let mut row = Vec::new(alloc);
-    row.push(0)?;
-    'lines: for _ in student {
-        row.push(0)?;
+    Ok(vec![in alloc; 0; student.len().saturating_add(1)]?)
+}
+
+/// Returns the last of some rows.
+fn last_row(rows: &[Vec<u16>]) -> &[u16] {
+    match rows.last() {
+        Some(row) => row.as_slice(),
+        None => &[],
     }
-    Ok(row)
 }
 
 /// Returns how many lines can be found, for all ends of both.
 fn table_of(alloc: Global, handout: &[Asked], student: &[Line]) -> Result<Table, AllocError> {
     let mut rows = Vec::new(alloc);
     rows.push(first_row(alloc, student)?)?;
-    'lines: for asked in handout.iter().rev() {
-        let above = match rows.last() {
-            Some(above) => above.as_slice(),
-            None => &[],
-        };
-        let row = next_row(alloc, asked, student, above)?;
+    'lines: for count in 0..handout.len() {
+        let asked = &handout[handout.len() - count - 1];
+        let row = next_row(alloc, asked, student, last_row(rows.as_slice()))?;
         rows.push(row)?;
     }
     Ok(Table { rows })
@@ -94,12 +105,12 @@ fn place_of(
     next: usize,
 ) -> Option<usize> {
     let most = table.at(after.saturating_add(1), student.len().saturating_sub(next));
-    'lines: for (place, written) in student.iter().enumerate().skip(next) {
-        let rest = table.at(after, student.len().saturating_sub(place).saturating_sub(1));
-        if rest.saturating_add(1) < most {
+    'lines: for place in next..student.len() {
+        let with_it = table.after(after, student, place).saturating_add(1);
+        if with_it < most {
             return None;
         }
-        if rest.saturating_add(1) == most && is_kept(&asked.line, written) {
+        if with_it == most && is_kept(&asked.line, &student[place]) {
             return Some(answered_place(table, asked, after, student, place));
         }
     }
@@ -115,10 +126,10 @@ fn answered_place(
     student: &[Line],
     place: usize,
 ) -> usize {
-    let most = table.at(after, student.len().saturating_sub(place).saturating_sub(1));
-    'lines: for (next, written) in student.iter().enumerate().skip(place) {
-        let rest = table.at(after, student.len().saturating_sub(next).saturating_sub(1));
-        if rest < most || !is_kept(&asked.line, written) {
+    let most = table.after(after, student, place);
+    'lines: for next in place..student.len() {
+        let written = &student[next];
+        if table.after(after, student, next) < most || !is_kept(&asked.line, written) {
             break;
         }
         if matches!(written.answer, Answer::Given(_)) {
@@ -160,6 +171,24 @@ fn first_place(places: &[Option<usize>], end: usize) -> usize {
     end
 }
 
+/// Returns where a line of the handout is: at `place`, if it is kept; else `next` stands in its place, if that is before the first of the
+/// places from this line's on, or before `end` if there is none.
+fn found_at(place: Option<usize>, next: usize, rest: &[Option<usize>], end: usize) -> Found {
+    match place {
+        Some(place) => Found::Kept(place),
+        None if next < first_place(rest, end) => Found::Changed(next),
+        None => Found::Missing,
+    }
+}
+
+/// Returns the line of the file after one that is found; `next` if none is.
+fn line_after(found: Found, next: usize) -> usize {
+    match found {
+        Found::Kept(place) | Found::Changed(place) => place.saturating_add(1),
+        Found::Missing => next,
+    }
+}
+
 /// Finds each line of the handout in a student's file. As many as can be are kept, in order: each the first that may be it, or, if that has no
 /// answer, the first copy next to it that has one. Between two that are kept, the lines of the handout that are not, and those of the file,
 /// stand in one another's place one by one.
@@ -174,15 +203,8 @@ pub fn align(alloc: Global, handout: &[Asked], student: &[Line]) -> Result<Vec<F
     let mut next = 0usize;
     'lines: for (number, place) in places.iter().enumerate() {
         let rest = places.get(number..).unwrap_or(&[]);
-        let one = match place {
-            Some(place) => Found::Kept(*place),
-            None if next < first_place(rest, student.len()) => Found::Changed(next),
-            None => Found::Missing,
-        };
-        next = match one {
-            Found::Kept(place) | Found::Changed(place) => place.saturating_add(1),
-            Found::Missing => next,
-        };
+        let one = found_at(*place, next, rest, student.len());
+        next = line_after(one, next);
         found.push(one)?;
     }
     Ok(found)

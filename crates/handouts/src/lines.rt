@@ -3,6 +3,7 @@
 
 use crate::expected::split;
 use memchr::memmem;
+use script_reader::trim_return;
 use std::alloc::{AllocError, Global};
 
 /// What a line says after its `=>`.
@@ -50,18 +51,24 @@ fn answer_of(alloc: Global, answer: Option<&[u8]>) -> Result<Answer, AllocError>
     }
 }
 
-/// Returns a line of a file; `None` if it is empty or a comment.
-fn line_of(alloc: Global, number: usize, text: &[u8]) -> Result<Option<Line>, AllocError> {
+/// Adds a line of a file, which has this number, unless it is empty or a comment.
+fn put_line(
+    alloc: Global,
+    lines: &mut Vec<Line>,
+    number: usize,
+    text: &[u8],
+) -> Result<(), AllocError> {
     let text = without_comment(text.trim_ascii());
     if text.is_empty() || text.starts_with(b"#") {
-        return Ok(None);
+        return Ok(());
     }
     let given = split(text);
-    Ok(Some(Line {
+    lines.push(Line {
         number,
         bare: Vec::from_slice(alloc, given.line)?,
         answer: answer_of(alloc, given.answer)?,
-    }))
+    })?;
+    Ok(())
 }
 
 /// Returns a text without the byte order mark that some editors and spreadsheets write before it.
@@ -72,20 +79,19 @@ pub fn without_mark(text: &[u8]) -> &[u8] {
     }
 }
 
-/// Adds the lines of a text, which end by CR, that are neither empty nor comments; `number` is that of the line before. Returns that of the
-/// last.
+/// Adds the lines of a text, which end by this byte, that are neither empty nor comments; `number` is that of the line before. Returns that
+/// of the last.
 fn put_lines(
     alloc: Global,
     lines: &mut Vec<Line>,
     number: usize,
     text: &[u8],
+    end: u8,
 ) -> Result<usize, AllocError> {
     let mut number = number;
-    'lines: for line in text.split(|byte| *byte == b'\r') {
+    'lines: for line in text.split(|byte| *byte == end) {
         number = number.saturating_add(1);
-        if let Some(line) = line_of(alloc, number, line)? {
-            lines.push(line)?;
-        }
+        put_line(alloc, lines, number, line)?;
     }
     Ok(number)
 }
@@ -99,8 +105,7 @@ pub fn student_lines(alloc: Global, text: &[u8]) -> Result<Vec<Line>, AllocError
     let mut lines = Vec::new(alloc);
     let mut number = 0usize;
     'parts: for part in without_mark(text).split(|byte| *byte == b'\n') {
-        let part = part.strip_suffix(b"\r").unwrap_or(part);
-        number = put_lines(alloc, &mut lines, number, part)?;
+        number = put_lines(alloc, &mut lines, number, trim_return(part), b'\r')?;
     }
     Ok(lines)
 }
@@ -111,12 +116,6 @@ pub fn student_lines(alloc: Global, text: &[u8]) -> Result<Vec<Line>, AllocError
 /// `AllocError`: the host is out of memory.
 pub fn lines_of(alloc: Global, text: &[u8]) -> Result<Vec<Line>, AllocError> {
     let mut lines = Vec::new(alloc);
-    let mut number = 0usize;
-    'lines: for line in without_mark(text).split(|byte| *byte == b'\n') {
-        number = number.saturating_add(1);
-        if let Some(line) = line_of(alloc, number, line)? {
-            lines.push(line)?;
-        }
-    }
+    put_lines(alloc, &mut lines, 0, without_mark(text), b'\n')?;
     Ok(lines)
 }

@@ -239,6 +239,11 @@ pub fn blank_count(handout: &[Asked]) -> usize
     blanks
 }
 
+/// Whether the last line of a handout is missing.
+fn is_cut(found: &[Found]) -> bool {
+    matches!(found.last(), Some(Found::Missing))
+}
+
 /// Grades a student's file.
 ///
 /// # Errors
@@ -250,7 +255,6 @@ pub fn grade_lines(alloc: Global, handout: &[Asked], student: &[Line]) -> Result
 {
     let found = align(alloc, handout, student)?;
     let blanks = marks_of(alloc, handout, student, found.as_slice())?;
-    let is_cut = matches!(found.last(), Some(Found::Missing));
     let Counts {
         kept,
         changed,
@@ -262,7 +266,7 @@ pub fn grade_lines(alloc: Global, handout: &[Asked], student: &[Line]) -> Result
         changed,
         missing,
         added,
-        is_cut,
+        is_cut: is_cut(found.as_slice()),
         blanks,
         found,
     })
