@@ -62,13 +62,46 @@ fn push_counts(
     fields: &mut ByteRecord,
     grade: &FileGrade,
 ) -> Result<(), AllocError> {
-    push_number(alloc, fields, grade.lines())?;
-    push_number(alloc, fields, grade.kept)?;
-    push_number(alloc, fields, grade.changed)?;
-    push_number(alloc, fields, grade.missing)?;
-    push_number(alloc, fields, grade.added)?;
-    push_number(alloc, fields, grade.blanks.len())?;
-    push_number(alloc, fields, grade.right)
+    let counts = [
+        grade.lines(),
+        grade.kept,
+        grade.changed,
+        grade.missing,
+        grade.added,
+        grade.blanks.len(),
+        grade.right,
+    ];
+    'counts: for count in counts.as_slice() {
+        push_number(alloc, fields, *count)?;
+    }
+    Ok(())
+}
+
+/// Adds the fields with whose file it is, and whether it could be read.
+fn push_names(alloc: Global, fields: &mut ByteRecord, grade: &FileGrade) -> Result<(), AllocError> {
+    let id = match &grade.id {
+        Some(id) => id.as_str(),
+        None => "",
+    };
+    push_text(alloc, fields, grade.file.as_str())?;
+    push_text(alloc, fields, id)?;
+    fields.push_field(grade.standing.name().as_bytes())
+}
+
+/// Adds the field with the number of the first wrong line, which is empty if there is none.
+fn push_wrong(alloc: Global, fields: &mut ByteRecord, grade: &FileGrade) -> Result<(), AllocError> {
+    match grade.first_wrong() {
+        Some(blank) => push_number(alloc, fields, blank.line),
+        None => fields.push_field(b""),
+    }
+}
+
+/// Adds the fields of a graded file, in the order of the names.
+fn push_all(alloc: Global, fields: &mut ByteRecord, grade: &FileGrade) -> Result<(), AllocError> {
+    push_names(alloc, fields, grade)?;
+    push_counts(alloc, fields, grade)?;
+    push_wrong(alloc, fields, grade)?;
+    push_text(alloc, fields, notes_of(alloc, grade)?.as_str())
 }
 
 /// Returns a graded file as a row, with its line feed.
@@ -77,20 +110,6 @@ fn push_counts(
 /// `AllocError`: the host is out of memory.
 pub fn csv_row(alloc: Global, grade: &FileGrade) -> Result<Vec<u8>, AllocError> {
     let mut fields = ByteRecord::new(alloc);
-    push_text(alloc, &mut fields, grade.file.as_str())?;
-    match &grade.id {
-        Some(id) => push_text(alloc, &mut fields, id.as_str())?,
-        None => fields.push_field(b"")?,
-    }
-    fields.push_field(grade.standing.name().as_bytes())?;
-    push_counts(alloc, &mut fields, grade)?;
-    match grade.first_wrong() {
-        Some(blank) => {
-            let line = blank.line;
-            fields.push_field(format!(in alloc; "{line}")?.as_bytes())?;
-        }
-        None => fields.push_field(b"")?,
-    }
-    push_text(alloc, &mut fields, notes_of(alloc, grade)?.as_str())?;
+    push_all(alloc, &mut fields, grade)?;
     row_of(alloc, &fields)
 }

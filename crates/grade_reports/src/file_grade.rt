@@ -4,8 +4,8 @@ ghost use Rattle.std.specs.Prelude.{◌≡◌, ◌+◌, ◌≤◌, ◌==◌, IfO
 ghost use Rattle.handouts.specs.Marks.{blanks_of, rights_of};
 
 use crate::line_notes::LineNotes;
-use crate::reasons::{put_reason, reason_of, word_of};
-use handouts::{Asked, Grade, Line, Mark, grade_lines};
+use crate::reasons::{Reason, put_reason, reason_of, word_of};
+use handouts::{Asked, BlankMark, Grade, Line, Mark, grade_lines};
 use std::alloc::{AllocError, Global};
 
 /// Whether a student's file could be read, and as what.
@@ -32,6 +32,15 @@ pub enum Standing {
 }
 
 impl Standing {
+    /// Returns what a file with these lines is; `is_cut`: it ends before the handout's last.
+    fn with(self, student: &[Line], is_cut: bool) -> Standing {
+        match self {
+            Standing::Whole if student.is_empty() => Standing::Empty,
+            Standing::Whole if is_cut => Standing::Truncated,
+            standing => standing,
+        }
+    }
+
     /// Returns what it is called.
     pub fn name(self) -> &'static str {
         match self {
@@ -91,6 +100,41 @@ pub struct FileGrade {
     pub noted: LineNotes,
 }
 
+/// Returns why a blank is wrong, in words; `bare` is its line.
+fn words_of(
+    alloc: Global,
+    bare: &[u8],
+    reason: Option<Reason>,
+) -> Result<Option<String>, AllocError> {
+    let Some(reason) = reason else {
+        return Ok(None);
+    };
+    let mut text = String::new(alloc);
+    put_reason(&mut text, word_of(bare), &reason)?;
+    Ok(Some(text))
+}
+
+/// Returns the text of a blank.
+fn text_of(
+    alloc: Global,
+    handout: &[Asked],
+    student: &[Line],
+    blank: BlankMark,
+) -> Result<BlankText, AllocError> {
+    let (line, bare) = match handout.get(blank.place) {
+        Some(asked) => (asked.line.number, asked.line.bare.as_slice()),
+        None => (0, b"".as_slice()),
+    };
+    let reason = reason_of(alloc, handout, student, blank)?;
+    let reason = words_of(alloc, bare, reason)?;
+    Ok(BlankText {
+        line,
+        bare: String::from_utf8_lossy(alloc, bare)?,
+        mark: blank.mark,
+        reason,
+    })
+}
+
 /// Returns the texts of the blanks of a file.
 fn texts_of(
     alloc: Global,
@@ -102,25 +146,7 @@ fn texts_of(
 {
     let mut texts = Vec::new(alloc);
     'blanks: for blank in grade.blanks.as_slice() {
-        let (line, bare) = match handout.get(blank.place) {
-            Some(asked) => (asked.line.number, asked.line.bare.as_slice()),
-            None => (0, b"".as_slice()),
-        };
-        let reason = match reason_of(alloc, handout, student, *blank)? {
-            Some(reason) => {
-                let mut text = String::new(alloc);
-                put_reason(&mut text, word_of(bare), &reason)?;
-                Some(text)
-            }
-            None => None,
-        };
-        let bare = String::from_utf8_lossy(alloc, bare)?;
-        texts.push(BlankText {
-            line,
-            bare,
-            mark: blank.mark,
-            reason,
-        })?;
+        texts.push(text_of(alloc, handout, student, *blank)?)?;
     }
     Ok(texts)
 }
@@ -144,11 +170,6 @@ impl FileGrade {
         let grade = grade_lines(alloc, handout, student)?;
         let blanks = texts_of(alloc, handout, student, &grade)?;
         let noted = LineNotes::of(alloc, handout, student, grade.found.as_slice())?;
-        let standing = match standing {
-            Standing::Whole if student.is_empty() => Standing::Empty,
-            Standing::Whole if grade.is_cut => Standing::Truncated,
-            standing => standing,
-        };
         Ok(FileGrade {
             file,
             id: None,
@@ -156,7 +177,7 @@ impl FileGrade {
             other_lab: None,
             is_of_page: false,
             why: String::new(alloc),
-            standing,
+            standing: standing.with(student, grade.is_cut),
             kept: grade.kept,
             changed: grade.changed,
             missing: grade.missing,

@@ -1,6 +1,7 @@
 // `form_of`: the parts of an answer, by the word of its line and its own; `Part`, an enum: one of them, and what it is called; `put_forms`:
 // the forms of all answers to a line, in words.
 
+use crate::joints::joint;
 use std::alloc::AllocError;
 
 /// A part of an answer after its word, and what it is called.
@@ -28,7 +29,7 @@ struct Row {
 }
 
 /// The words of the answers to each line, as docs/SCRIPTS.md has them.
-static ROWS: [Row; 25] = [
+static ROWS: [Row; 26] = [
     Row {
         word: "boot",
         answers: &["ok"],
@@ -129,28 +130,78 @@ static ROWS: [Row; 25] = [
         word: "show",
         answers: &["file"],
     },
+    Row {
+        word: "audit",
+        answers: &["free"],
+    },
 ];
 
-/// The word of the answer to `audit`.
-static AUDIT: [&str; 1] = ["free"];
+/// An answer's word, and the parts after it.
+#[derive(Clone, Copy)]
+struct Form {
+    word: &'static str,
+    parts: &'static [Part],
+}
 
-static SLOT: [Part; 1] = [Part::Decimal("slot")];
-
-static CAUSE: [Part; 1] = [Part::Decimal("cause")];
-
-static ENTRY: [Part; 1] = [Part::Decimal("entry")];
-
-static FRAME: [Part; 1] = [Part::Decimal("frame")];
-
-static VALUE: [Part; 1] = [Part::Hexadecimal("value")];
-
-static SIZE: [Part; 1] = [Part::Hexadecimal("size")];
-
-static ADDRESS: [Part; 1] = [Part::Hexadecimal("address")];
-
-static STATUS: [Part; 1] = [Part::Signed("status")];
-
-static RULE: [Part; 2] = [Part::Decimal("rule"), Part::Name("rule")];
+/// The forms of answers that are the same for all lines, but for those of `COUNTS`.
+static FORMS: [Form; 14] = [
+    Form {
+        word: "ok",
+        parts: &[],
+    },
+    Form {
+        word: "stored",
+        parts: &[],
+    },
+    Form {
+        word: "ready",
+        parts: &[],
+    },
+    Form {
+        word: "nothing",
+        parts: &[],
+    },
+    Form {
+        word: "slot",
+        parts: &[Part::Decimal("slot")],
+    },
+    Form {
+        word: "fault",
+        parts: &[Part::Decimal("cause")],
+    },
+    Form {
+        word: "entry",
+        parts: &[Part::Decimal("entry")],
+    },
+    Form {
+        word: "frame",
+        parts: &[Part::Decimal("frame")],
+    },
+    Form {
+        word: "value",
+        parts: &[Part::Hexadecimal("value")],
+    },
+    Form {
+        word: "old",
+        parts: &[Part::Hexadecimal("size")],
+    },
+    Form {
+        word: "at",
+        parts: &[Part::Hexadecimal("address")],
+    },
+    Form {
+        word: "exited",
+        parts: &[Part::Signed("status")],
+    },
+    Form {
+        word: "ended",
+        parts: &[Part::Decimal("rule"), Part::Name("rule")],
+    },
+    Form {
+        word: "file",
+        parts: &[Part::Decimal("length"), Part::Bytes("bytes")],
+    },
+];
 
 static REFUSAL: [Part; 2] = [Part::Decimal("refusal"), Part::Name("refusal")];
 
@@ -179,6 +230,7 @@ static SHORT_BYTES: [Part; 5] = [
     Part::Bytes("bytes"),
 ];
 
+/// The parts of the answer to `audit`, after its word `free`.
 static COUNTS: [Part; 7] = [
     Part::Decimal("free"),
     Part::Text("held"),
@@ -201,9 +253,6 @@ fn has_word(words: &[&str], word: &str) -> bool {
 
 /// Returns the words of the answers that lines of a word can have.
 fn answers_of(line: &str) -> &'static [&'static str] {
-    if line == "audit" {
-        return AUDIT.as_slice();
-    }
     'rows: for row in ROWS.as_slice() {
         if row.word == line {
             return row.answers;
@@ -239,28 +288,27 @@ fn short_of(line: &str) -> &'static [Part] {
     }
 }
 
+/// Returns the parts of an answer that are the same for all lines, by its word.
+fn parts_of(word: &str) -> &'static [Part] {
+    'forms: for form in FORMS.as_slice() {
+        if form.word == word {
+            return form.parts;
+        }
+    }
+    COUNTS.as_slice()
+}
+
 /// Returns the parts of an answer that has so many, by its word and that of its line; `None` if such a line has no such answer.
 pub fn form_of(line: &str, word: &str, count: usize) -> Option<&'static [Part]> {
     if !has_word(answers_of(line), word) {
         return None;
     }
-    match word {
-        "ok" | "stored" | "ready" | "nothing" => Some(&[]),
-        "slot" => Some(SLOT.as_slice()),
-        "fault" => Some(CAUSE.as_slice()),
-        "entry" => Some(ENTRY.as_slice()),
-        "frame" => Some(FRAME.as_slice()),
-        "value" => Some(VALUE.as_slice()),
-        "old" => Some(SIZE.as_slice()),
-        "at" => Some(ADDRESS.as_slice()),
-        "exited" => Some(STATUS.as_slice()),
-        "ended" => Some(RULE.as_slice()),
-        "refused" => Some(refusal_of(count)),
-        "copied" => Some(copied_of(line)),
-        "short" => Some(short_of(line)),
-        "file" => Some(BYTES.as_slice()),
-        _ => Some(COUNTS.as_slice()),
-    }
+    Some(match word {
+        "refused" => refusal_of(count),
+        "copied" => copied_of(line),
+        "short" => short_of(line),
+        _ => parts_of(word),
+    })
 }
 
 /// Whether all of some bytes are decimal digits.
@@ -387,8 +435,8 @@ fn put_form(text: &mut String, line: &str, word: &str) -> Result<(), AllocError>
     };
     text.push_str(word)?;
     'parts: for part in parts {
-        text.push_str(" ")?;
-        text.push_str(part.sign())?;
+        let sign = part.sign();
+        write!(text, " {sign}")?;
     }
     text.push_str(if word == "refused" { " .." } else { "" })
 }
@@ -400,11 +448,8 @@ fn put_form(text: &mut String, line: &str, word: &str) -> Result<(), AllocError>
 pub fn put_forms(text: &mut String, line: &str) -> Result<(), AllocError> {
     let words = answers_of(line);
     'words: for (number, word) in words.iter().enumerate() {
-        if number > 0 {
-            let is_last = number.saturating_add(1) == words.len();
-            text.push_str(if is_last { " or " } else { ", " })?;
-        }
-        text.push_str("`")?;
+        let before = joint(number, words.len(), " or ");
+        write!(text, "{before}`")?;
         put_form(text, line, word)?;
         text.push_str("`")?;
     }

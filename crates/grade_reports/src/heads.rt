@@ -12,15 +12,23 @@ fn is_comment(line: &[u8]) -> bool {
     line.starts_with(b"#")
 }
 
+/// Returns the digits that a text begins with.
+fn digits_of(text: &[u8]) -> &[u8] {
+    'bytes: for (place, byte) in text.iter().enumerate() {
+        if !byte.is_ascii_digit() {
+            return text.get(..place).unwrap_or(text);
+        }
+    }
+    text
+}
+
 /// Returns the number of the lab that a comment names, as `# Lab 4, copy-on-write fork.` does.
 fn lab_in(comment: &[u8]) -> Option<u32> {
     let rest = comment.strip_prefix(b"# Lab ")?;
-    let count = rest
-        .iter()
-        .take_while(|byte| (**byte).is_ascii_digit())
-        .count();
-    let digits = rest.get(..count)?;
-    std::str::from_utf8(digits).ok()?.parse::<u32>().ok()
+    std::str::from_utf8(digits_of(rest))
+        .ok()?
+        .parse::<u32>()
+        .ok()
 }
 
 /// Returns the number of the lab that the first comment of a script names.

@@ -8,6 +8,7 @@ mod csv_rows;
 mod file_grade;
 mod forms;
 mod heads;
+mod joints;
 mod line_notes;
 mod objects;
 mod reasons;

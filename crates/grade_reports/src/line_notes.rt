@@ -1,5 +1,6 @@
 // `LineNotes`, a struct: which lines of a handout a student's file has changed, left out or answered more than once; `put_lines`: that in words.
 
+use crate::joints::{joint, put_joint};
 use handouts::{Answer, Asked, Found, Line, is_kept};
 use std::alloc::{AllocError, Global};
 
@@ -82,13 +83,19 @@ struct Kept<'a> {
     place: usize,
 }
 
-/// Returns a blank of the handout with the line of the file that is it; `None` if it is no blank, or not there.
-fn kept_blank<'a>(asked: &'a Asked, student: &'a [Line], found: Found) -> Option<Kept<'a>> {
-    match found {
-        Found::Kept(place) if asked.is_blank() => Some(Kept {
+/// Returns the blank of this place in the handout with the line of the file that is it; `None` if it is no blank, or not there.
+fn kept_blank<'a>(
+    handout: &'a [Asked],
+    student: &'a [Line],
+    found: &[Found],
+    place: usize,
+) -> Option<Kept<'a>> {
+    let asked = handout.get(place)?;
+    match found.get(place) {
+        Some(Found::Kept(place)) if asked.is_blank() => Some(Kept {
             asked,
-            line: student.get(place)?,
-            place,
+            line: student.get(*place)?,
+            place: *place,
         }),
         _ => None,
     }
@@ -113,6 +120,17 @@ impl Copied<'_> {
         }
     }
 
+    /// Whether this line is for a blank that is not among `numbers`. If not, the blank is added to those above.
+    fn takes(self, blank: Kept<'_>, numbers: &[usize], above: &mut Above) -> bool {
+        let number = blank.asked.line.number;
+        let is_new = !has_number(numbers, number);
+        if is_new && self.is_for(blank) {
+            return true;
+        }
+        above.add(number, blank.place, is_new, self.is_same(blank));
+        false
+    }
+
     /// Returns the number of the blank that this line is a copy of: of equal ones above the first that it is for and that is not among `numbers`,
     /// else the one that `chosen` says.
     fn blank_of(
@@ -123,19 +141,13 @@ impl Copied<'_> {
         numbers: &[usize],
     ) -> Option<usize> {
         let mut above = Above::NOTHING;
-        'lines: for (asked, one) in handout.iter().zip(found) {
-            let Some(blank) = kept_blank(asked, student, *one) else {
+        'lines: for place in 0..handout.len() {
+            let Some(blank) = kept_blank(handout, student, found, place) else {
                 continue;
             };
-            if !self.is_below(blank) {
-                continue;
+            if self.is_below(blank) && self.takes(blank, numbers, &mut above) {
+                return Some(blank.asked.line.number);
             }
-            let number = asked.line.number;
-            let is_new = !has_number(numbers, number);
-            if is_new && self.is_for(blank) {
-                return Some(number);
-            }
-            above.add(number, blank.place, is_new, self.is_same(blank));
         }
         self.chosen(above)
     }
@@ -201,6 +213,37 @@ fn has_number(numbers: &[usize], number: usize) -> bool {
     false
 }
 
+/// Returns the number of the blank that a line of the file, at this place, answers again, if it is not among `numbers`; the lines of the file
+/// from `end` on are below all of the handout.
+fn again_at(
+    handout: &[Asked],
+    student: &[Line],
+    found: &[Found],
+    numbers: &[usize],
+    place: usize,
+    end: usize,
+) -> Option<usize> {
+    let line = student.get(place)?;
+    let Answer::Given(answer) = &line.answer else {
+        return None;
+    };
+    if is_used(found, place) {
+        return None;
+    }
+    let copied = Copied {
+        answer: answer.as_slice(),
+        line,
+        place,
+        is_past: end <= place,
+    };
+    let number = copied.blank_of(handout, student, found, numbers)?;
+    if has_number(numbers, number) {
+        None
+    } else {
+        Some(number)
+    }
+}
+
 /// Returns the numbers of the blanks that the file answers again.
 fn again_of(
     alloc: Global,
@@ -210,23 +253,9 @@ fn again_of(
 ) -> Result<Vec<usize>, AllocError> {
     let mut numbers = Vec::new(alloc);
     let end = used_end(found);
-    'lines: for (place, line) in student.iter().enumerate() {
-        let Answer::Given(answer) = &line.answer else {
-            continue;
-        };
-        if is_used(found, place) {
-            continue;
-        }
-        let copied = Copied {
-            answer: answer.as_slice(),
-            line,
-            place,
-            is_past: end <= place,
-        };
-        if let Some(number) = copied.blank_of(handout, student, found, numbers.as_slice()) {
-            if !has_number(numbers.as_slice(), number) {
-                numbers.push(number)?;
-            }
+    'lines: for place in 0..student.len() {
+        if let Some(number) = again_at(handout, student, found, numbers.as_slice(), place, end) {
+            numbers.push(number)?;
         }
     }
     numbers.sort()?;
@@ -271,11 +300,8 @@ fn put_numbers(text: &mut String, numbers: &[usize]) -> Result<(), AllocError> {
     let shown = numbers.get(..MOST_NUMBERS).unwrap_or(numbers);
     let more = numbers.len().saturating_sub(shown.len());
     'numbers: for (place, number) in shown.iter().enumerate() {
-        if place > 0 {
-            let is_last = more == 0 && place.saturating_add(1) == shown.len();
-            text.push_str(if is_last { " and " } else { ", " })?;
-        }
-        write!(text, "{number}")?;
+        let before = joint(place, shown.len(), if more == 0 { " and " } else { ", " });
+        write!(text, "{before}{number}")?;
     }
     if more > 0 {
         write!(text, " and {more} more")?;
@@ -293,9 +319,7 @@ fn put_some(
     if numbers.is_empty() {
         return Ok(());
     }
-    if !text.is_empty() {
-        text.push_str("; ")?;
-    }
+    put_joint(text)?;
     put_numbers(text, numbers)?;
     text.push_str(if numbers.len() == 1 { one } else { several })
 }

@@ -1,6 +1,8 @@
 // `FileObject`, a graded file as it is in JSON; `ResultsObject`, one as Gradescope takes it: the file `results.json` of an autograder.
 
 use crate::file_grade::{BlankText, FileGrade};
+use crate::joints::put_note;
+use crate::line_notes::LineNotes;
 use crate::table::notes_of;
 use handouts::Mark;
 use serde::Serialize;
@@ -114,28 +116,76 @@ fn some_numbers(alloc: Global, numbers: &[usize]) -> Result<Option<Vec<usize>>, 
     Ok(Some(Vec::from_slice(alloc, numbers)?))
 }
 
+/// Returns what a student has at each blank.
+fn marks_of(alloc: Global, blanks: &[BlankText]) -> Result<Vec<MarkObject>, AllocError> {
+    let mut marks = Vec::new(alloc);
+    'blanks: for blank in blanks {
+        marks.push(MarkObject {
+            line: blank.line,
+            mark: mark_name(blank.mark),
+            reason: again(alloc, &blank.reason)?,
+        })?;
+    }
+    Ok(marks)
+}
+
+/// The texts of a graded file, in the order of its object.
+#[derive(Drop)]
+struct Texts {
+    file: String,
+    id: Option<String>,
+    made_for: Option<String>,
+    why: Option<String>,
+}
+
+impl Texts {
+    /// Returns the texts of a graded file.
+    fn of(alloc: Global, grade: &FileGrade) -> Result<Texts, AllocError> {
+        Ok(Texts {
+            file: String::from_str(alloc, grade.file.as_str())?,
+            id: again(alloc, &grade.id)?,
+            made_for: again(alloc, &grade.other_id)?,
+            why: some_text(alloc, grade.why.as_str())?,
+        })
+    }
+}
+
+/// The numbers of lines of a graded file, in the order of its object.
+#[derive(Drop)]
+struct Numbers {
+    changed: Option<Vec<usize>>,
+    missing: Option<Vec<usize>>,
+    again: Option<Vec<usize>>,
+}
+
+impl Numbers {
+    /// Returns the numbers of the lines that are noted.
+    fn of(alloc: Global, noted: &LineNotes) -> Result<Numbers, AllocError> {
+        Ok(Numbers {
+            changed: some_numbers(alloc, noted.changed.as_slice())?,
+            missing: some_numbers(alloc, noted.missing.as_slice())?,
+            again: some_numbers(alloc, noted.again.as_slice())?,
+        })
+    }
+}
+
 impl FileObject {
     /// Returns a graded file as it is in JSON.
     ///
     /// # Errors
     /// `AllocError`: the host is out of memory.
     pub fn of(alloc: Global, grade: &FileGrade) -> Result<FileObject, AllocError> {
-        let mut marks = Vec::new(alloc);
-        'blanks: for blank in &grade.blanks {
-            marks.push(MarkObject {
-                line: blank.line,
-                mark: mark_name(blank.mark),
-                reason: again(alloc, &blank.reason)?,
-            })?;
-        }
+        let marks = marks_of(alloc, grade.blanks.as_slice())?;
+        let texts = Texts::of(alloc, grade)?;
+        let numbers = Numbers::of(alloc, &grade.noted)?;
         Ok(FileObject {
-            file: String::from_str(alloc, grade.file.as_str())?,
-            id: again(alloc, &grade.id)?,
-            made_for: again(alloc, &grade.other_id)?,
+            file: texts.file,
+            id: texts.id,
+            made_for: texts.made_for,
             made_for_lab: grade.other_lab,
             made_for_page: if grade.is_of_page { Some(true) } else { None },
             status: grade.standing.name(),
-            why: some_text(alloc, grade.why.as_str())?,
+            why: texts.why,
             lines: grade.lines(),
             kept: grade.kept,
             changed: grade.changed,
@@ -144,9 +194,9 @@ impl FileObject {
             blanks: grade.blanks.len(),
             right: grade.right,
             marks,
-            changed_lines: some_numbers(alloc, grade.noted.changed.as_slice())?,
-            missing_lines: some_numbers(alloc, grade.noted.missing.as_slice())?,
-            repeated_lines: some_numbers(alloc, grade.noted.again.as_slice())?,
+            changed_lines: numbers.changed,
+            missing_lines: numbers.missing,
+            repeated_lines: numbers.again,
         })
     }
 }
@@ -155,9 +205,10 @@ impl FileObject {
 fn test_of(alloc: Global, blank: &BlankText) -> Result<TestObject, AllocError> {
     let (line, bare) = (blank.line, blank.bare.as_str());
     let output = match &blank.reason {
-        Some(reason) => String::from_str(alloc, reason.as_str())?,
-        None => String::from_str(alloc, "right")?,
+        Some(reason) => reason.as_str(),
+        None => "right",
     };
+    let output = String::from_str(alloc, output)?;
     Ok(TestObject {
         name: format!(in alloc; "line {line}: {bare}")?,
         score: u32::from(blank.reason.is_none()),
@@ -167,29 +218,37 @@ fn test_of(alloc: Global, blank: &BlankText) -> Result<TestObject, AllocError> {
     })
 }
 
+/// Returns the blanks as tests.
+fn tests_of(alloc: Global, blanks: &[BlankText]) -> Result<Vec<TestObject>, AllocError> {
+    let mut tests = Vec::new(alloc);
+    'blanks: for blank in blanks {
+        tests.push(test_of(alloc, blank)?)?;
+    }
+    Ok(tests)
+}
+
+/// Returns what is said of all of a graded file.
+fn output_of(alloc: Global, grade: &FileGrade) -> Result<String, AllocError> {
+    let (kept, lines) = (grade.kept, grade.lines());
+    let (right, blanks) = (grade.right, grade.blanks.len());
+    let mut output = format!(in alloc; "{right} of {blanks} blanks, {kept} of {lines} lines kept")?;
+    let notes = notes_of(alloc, grade)?;
+    if !notes.is_empty() {
+        put_note(&mut output, notes.as_str())?;
+    }
+    Ok(output)
+}
+
 impl ResultsObject {
     /// Returns a graded file as Gradescope takes it: each blank is a test of one point.
     ///
     /// # Errors
     /// `AllocError`: the host is out of memory.
     pub fn of(alloc: Global, grade: &FileGrade) -> Result<ResultsObject, AllocError> {
-        let mut tests = Vec::new(alloc);
-        'blanks: for blank in &grade.blanks {
-            tests.push(test_of(alloc, blank)?)?;
-        }
-        let (kept, lines) = (grade.kept, grade.lines());
-        let (right, blanks) = (grade.right, grade.blanks.len());
-        let mut output = format!(in alloc;
-            "{right} of {blanks} blanks, {kept} of {lines} lines kept"
-        )?;
-        let notes = notes_of(alloc, grade)?;
-        if !notes.is_empty() {
-            output.push_str("; ")?;
-            output.push_str(notes.as_str())?;
-        }
+        let tests = tests_of(alloc, grade.blanks.as_slice())?;
         Ok(ResultsObject {
             score: grade.right,
-            output,
+            output: output_of(alloc, grade)?,
             tests,
         })
     }

@@ -2,6 +2,7 @@
 // words.
 
 use crate::forms::{Part, form_of, put_forms};
+use crate::joints::joint;
 use crate::visible::{is_unseen, put_quoted};
 use handouts::{Answer, Asked, BlankMark, Found, Line, Mark};
 use script_reader::first_field;
@@ -90,6 +91,20 @@ fn part_count(rest: Option<&str>) -> usize {
     }
 }
 
+/// Returns a part of what comes after an answer's word, by its number from 0.
+fn part_at(rest: &str, place: usize) -> Option<&str> {
+    rest.split(' ').nth(place)
+}
+
+/// Whether a text has the form of a part; `zeros`: there may be some before its number.
+fn is_fit(part: Part, text: &str, zeros: bool) -> bool {
+    if zeros {
+        part.fits_with_zeros(text)
+    } else {
+        part.fits(text)
+    }
+}
+
 /// Whether what comes after an answer's word has this form; `zeros`: there may be some before its numbers.
 fn fits(parts: &[Part], rest: Option<&str>, zeros: bool) -> bool {
     let Some(rest) = rest else {
@@ -98,14 +113,10 @@ fn fits(parts: &[Part], rest: Option<&str>, zeros: bool) -> bool {
     if part_count(Some(rest)) != parts.len() {
         return false;
     }
-    'parts: for (part, text) in parts.iter().zip(rest.split(' ')) {
-        let is_fit = if zeros {
-            part.fits_with_zeros(text)
-        } else {
-            part.fits(text)
-        };
-        if !is_fit {
-            return false;
+    'parts: for place in 0..parts.len() {
+        match part_at(rest, place) {
+            Some(text) if !is_fit(parts[place], text, zeros) => return false,
+            _ => {}
         }
     }
     true
@@ -139,12 +150,26 @@ fn without_question(text: &str) -> &str {
     text.trim_matches('?').trim_matches(' ')
 }
 
-/// Returns an answer with a blank in place of what cannot be seen, and one blank between its fields.
-fn seen(alloc: Global, answer: &str) -> Result<String, AllocError> {
+/// Returns a text without what is in parentheses after it.
+fn without_remark(text: &str) -> &str {
+    match text.split_once(" (") {
+        Some((bare, _)) => bare,
+        None => text,
+    }
+}
+
+/// Returns an answer with a blank in place of what cannot be seen.
+fn with_blanks(alloc: Global, answer: &str) -> Result<String, AllocError> {
     let mut text = String::new(alloc);
     'characters: for character in answer.chars() {
         text.push(if is_unseen(character) { ' ' } else { character })?;
     }
+    Ok(text)
+}
+
+/// Returns an answer with a blank in place of what cannot be seen, and one blank between its fields.
+fn seen(alloc: Global, answer: &str) -> Result<String, AllocError> {
+    let text = with_blanks(alloc, answer)?;
     let fields = joined(alloc, text.as_bytes())?;
     String::from_utf8_lossy(alloc, fields.as_slice())
 }
@@ -157,17 +182,13 @@ fn in_small(alloc: Global, answer: &str) -> Result<String, AllocError> {
 
 /// Returns what an answer that has no form has around it, if without that it has one; `word` is its line's.
 fn around(word: &str, answer: &str) -> Option<Excess> {
-    let bare = match answer.split_once(" (") {
-        Some((bare, _)) => bare,
-        None => answer,
-    };
     if has_form(word, without_question(answer), false) {
         Some(Excess::Question)
     } else if has_form(word, without_quotes(answer).trim_matches(' '), false) {
         Some(Excess::Quotes)
     } else if has_form(word, answer.trim_end_matches('.').trim_matches(' '), false) {
         Some(Excess::Stop)
-    } else if has_form(word, bare, false) {
+    } else if has_form(word, without_remark(answer), false) {
         Some(Excess::Remark)
     } else if has_form(word, answer, true) {
         Some(Excess::Zeros)
@@ -196,11 +217,12 @@ fn no_form(alloc: Global, word: &str, answer: &str) -> Result<Reason, AllocError
     Ok(Reason::Form(given, excess_of(alloc, word, answer)?))
 }
 
-/// Whether there is a part, and it is this text.
-fn is_text(part: Option<&str>, text: &str) -> bool {
-    match part {
-        Some(part) => part == text,
-        None => false,
+/// Whether two answers with one word differ in a part that the first has.
+fn is_wrong(given: &str, right: &str, place: usize) -> bool {
+    match (part_at(given, place), part_at(right, place)) {
+        (Some(text), Some(part)) => text != part,
+        (Some(_), None) => true,
+        (None, _) => false,
     }
 }
 
@@ -222,16 +244,35 @@ fn wrong_parts(
     right: &str,
 ) -> Result<Vec<&'static str>, AllocError> {
     let mut names: Vec<&'static str> = Vec::new(alloc);
-    let mut rights = right.split(' ');
-    'parts: for (part, text) in parts.iter().zip(given.split(' ')) {
-        if !is_text(rights.next(), text) {
-            put_name(&mut names, part.name())?;
+    'parts: for place in 0..parts.len() {
+        if is_wrong(given, right, place) {
+            put_name(&mut names, parts[place].name())?;
         }
     }
     if names.is_empty() {
         names.push("detail")?;
     }
     Ok(names)
+}
+
+/// Returns why an answer to a line, with one blank between its fields, is wrong, beside the right one; `word` is the line's.
+fn reason_beside(
+    alloc: Global,
+    word: &str,
+    given: &str,
+    right: &str,
+) -> Result<Reason, AllocError> {
+    let ((first, rest), (right_first, right_rest)) = (cut(given), cut(right));
+    match form_of(word, first, part_count(rest)) {
+        Some(parts) if fits(parts, rest, false) => {
+            if first != right_first {
+                return Ok(Reason::Word);
+            }
+            let names = wrong_parts(alloc, parts, rest.unwrap_or(""), right_rest.unwrap_or(""))?;
+            Ok(Reason::Parts(names))
+        }
+        _ => no_form(alloc, word, given),
+    }
 }
 
 /// Returns why an answer to a line is wrong, whatever blanks part its fields, beside the right one; `word` is the line's.
@@ -249,18 +290,7 @@ pub fn reason_of_text(
     let (Ok(given), Ok(right)) = (std::str::from_utf8(given), std::str::from_utf8(right)) else {
         return Ok(Reason::Form(String::from_utf8_lossy(alloc, given)?, None));
     };
-    let ((first, rest), (right_first, right_rest)) = (cut(given), cut(right));
-    let Some(parts) = form_of(word, first, part_count(rest)) else {
-        return no_form(alloc, word, given);
-    };
-    if !fits(parts, rest, false) {
-        return no_form(alloc, word, given);
-    }
-    if first != right_first {
-        return Ok(Reason::Word);
-    }
-    let names = wrong_parts(alloc, parts, rest.unwrap_or(""), right_rest.unwrap_or(""))?;
-    Ok(Reason::Parts(names))
+    reason_beside(alloc, word, given, right)
 }
 
 /// Returns what a student answered at a line.
@@ -317,10 +347,7 @@ fn is_plural(names: &[&'static str]) -> bool {
 /// Appends names, as `a, b and c`, and that they are wrong.
 fn put_names(text: &mut String, names: &[&'static str]) -> Result<(), AllocError> {
     'names: for (number, name) in names.iter().enumerate() {
-        if number > 0 {
-            let is_last = number.saturating_add(1) == names.len();
-            text.push_str(if is_last { " and " } else { ", " })?;
-        }
+        text.push_str(joint(number, names.len(), " and "))?;
         text.push_str(name)?;
     }
     text.push_str(if is_plural(names) {
@@ -330,6 +357,26 @@ fn put_names(text: &mut String, names: &[&'static str]) -> Result<(), AllocError
     })
 }
 
+/// Returns what to do about what an answer has too much; nothing if that is not known.
+fn advice_on(excess: Option<Excess>) -> &'static str {
+    match excess {
+        Some(Excess::Question) => ": write it without the ?",
+        Some(Excess::Quotes) => ": write it without the quotes",
+        Some(Excess::Stop) => ": write it without the full stop",
+        Some(Excess::Zeros) => ": write numbers without zeros before them",
+        Some(Excess::Unseen) => ": write it without the characters that cannot be seen",
+        Some(Excess::Capitals) => ": write it in small letters",
+        Some(Excess::Remark) => ": write nothing after it",
+        None => "",
+    }
+}
+
+/// Appends which forms the answers to a line have, by its word.
+fn put_wanted(text: &mut String, word: &str) -> Result<(), AllocError> {
+    write!(text, "an answer of {word} is ")?;
+    put_forms(text, word)
+}
+
 /// Appends which forms the answers to a line have, and what the student wrote, whose form is another; `word` is the line's.
 fn put_form(
     text: &mut String,
@@ -337,23 +384,20 @@ fn put_form(
     given: &str,
     excess: Option<Excess>,
 ) -> Result<(), AllocError> {
-    text.push_str("an answer of ")?;
-    text.push_str(word)?;
-    text.push_str(" is ")?;
-    put_forms(text, word)?;
+    put_wanted(text, word)?;
     text.push_str(", not ")?;
     put_quoted(text, given)?;
-    match excess {
-        Some(Excess::Question) => text.push_str(": write it without the ?"),
-        Some(Excess::Quotes) => text.push_str(": write it without the quotes"),
-        Some(Excess::Stop) => text.push_str(": write it without the full stop"),
-        Some(Excess::Zeros) => text.push_str(": write numbers without zeros before them"),
-        Some(Excess::Unseen) => text.push_str(
-            ": write it without the characters that cannot be seen",
-        ),
-        Some(Excess::Capitals) => text.push_str(": write it in small letters"),
-        Some(Excess::Remark) => text.push_str(": write nothing after it"),
-        None => Ok(()),
+    text.push_str(advice_on(excess))
+}
+
+/// Returns the words of a reason that are the same for all answers; none if they are not.
+fn fixed_words(reason: &Reason) -> &'static str {
+    match reason {
+        Reason::Open => "not filled in",
+        Reason::Changed => "the line is changed",
+        Reason::Gone => "the line is gone",
+        Reason::Word => "another word than the machine's",
+        Reason::Form(_, _) | Reason::Parts(_) => "",
     }
 }
 
@@ -362,14 +406,10 @@ fn put_form(
 /// # Errors
 /// `AllocError`: the host is out of memory.
 pub fn put_reason(text: &mut String, word: &str, reason: &Reason) -> Result<(), AllocError> {
-    text.push_str(word)?;
-    text.push_str(": ")?;
+    write!(text, "{word}: ")?;
     match reason {
-        Reason::Open => text.push_str("not filled in"),
-        Reason::Changed => text.push_str("the line is changed"),
-        Reason::Gone => text.push_str("the line is gone"),
         Reason::Form(given, excess) => put_form(text, word, given.as_str(), *excess),
-        Reason::Word => text.push_str("another word than the machine's"),
         Reason::Parts(names) => put_names(text, names.as_slice()),
+        other => text.push_str(fixed_words(other)),
     }
 }

@@ -172,30 +172,81 @@ fn keep(students: &mut Vec<Student>, student: Student) -> Result<(), AllocError>
     Ok(())
 }
 
+/// Returns where the columns of a list are, if this byte parts their names. `needs_file`: the column `file` is read.
+fn columns_by(
+    alloc: Global,
+    text: &[u8],
+    delimiter: u8,
+    needs_file: bool,
+) -> Result<Option<Columns>, ListFault> {
+    let mut reader = reader_of(alloc, text, delimiter);
+    let mut row = ByteRecord::new(alloc);
+    let _has_names = next_row(&mut reader, &mut row)?;
+    let file = if needs_file {
+        column(&row, "file")
+    } else {
+        None
+    };
+    match column(&row, "id") {
+        Some(id) if file.is_some() || !needs_file => Ok(Some(Columns {
+            delimiter,
+            id,
+            file,
+        })),
+        _ => Ok(None),
+    }
+}
+
 /// Returns where the columns of a list are, by the first byte of `DELIMITERS` that parts their names. `needs_file`: the column `file` is read.
 fn columns_of(alloc: Global, text: &[u8], needs_file: bool) -> Result<Option<Columns>, ListFault> {
     'delimiters: for delimiter in DELIMITERS.as_slice() {
-        let mut reader = reader_of(alloc, text, *delimiter);
-        let mut row = ByteRecord::new(alloc);
-        let _has_names = next_row(&mut reader, &mut row)?;
-        let id = column(&row, "id");
-        let file = if needs_file {
-            column(&row, "file")
-        } else {
-            None
-        };
-        if file.is_none() && needs_file {
-            continue;
-        }
-        if let Some(id) = id {
-            return Ok(Some(Columns {
-                delimiter: *delimiter,
-                id,
-                file,
-            }));
+        let columns = columns_by(alloc, text, *delimiter, needs_file)?;
+        if columns.is_some() {
+            return Ok(columns);
         }
     }
     Ok(None)
+}
+
+/// Adds the student of a row, which has this number, unless it has no text.
+fn keep_row(
+    alloc: Global,
+    students: &mut Vec<Student>,
+    row: &ByteRecord,
+    columns: Columns,
+    number: usize,
+) -> Result<(), ListFault>
+    ensures { OnOk result (All (λ s. 0 < string_len s.id) students.old.items → All (λ s. 0 < string_len s.id) students.new.items) }
+{
+    if is_blank(row) {
+        return Ok(());
+    }
+    text_fault(row, columns, number)?;
+    match student_of(alloc, row, columns, number)? {
+        Some(student) => Ok(keep(students, student)?),
+        None => Err(ListFault::NoId(number)),
+    }
+}
+
+/// Returns the students of the rows of a list below the first, which has the names. The rows have numbers below `end`.
+fn named_rows(
+    alloc: Global,
+    reader: &mut Reader<&[u8]>,
+    columns: Columns,
+    end: usize,
+) -> Result<Vec<Student>, ListFault>
+    ensures { IfOk result (λ students. All (λ s. 0 < string_len s.id) students.items) }
+{
+    let mut row = ByteRecord::new(alloc);
+    let _has_names = next_row(reader, &mut row)?;
+    let mut students = Vec::new(alloc);
+    'rows: for number in 2..end {
+        if !next_row(reader, &mut row)? {
+            break;
+        }
+        keep_row(alloc, &mut students, &row, columns, number)?;
+    }
+    Ok(students)
 }
 
 /// Returns the students of a list, in its order; `needs_file`: whether it must have the column `file`, which is not read else. Rows without any
@@ -211,23 +262,7 @@ fn rows_of(alloc: Global, text: &[u8], needs_file: bool) -> Result<Vec<Student>,
         return Err(ListFault::Columns);
     };
     let mut reader = reader_of(alloc, text, columns.delimiter);
-    let mut row = ByteRecord::new(alloc);
-    let _has_names = next_row(&mut reader, &mut row)?;
-    let mut students = Vec::new(alloc);
-    'rows: for number in 2..text.len().saturating_add(2) {
-        if !next_row(&mut reader, &mut row)? {
-            break;
-        }
-        if is_blank(&row) {
-            continue;
-        }
-        text_fault(&row, columns, number)?;
-        match student_of(alloc, &row, columns, number)? {
-            Some(student) => keep(&mut students, student)?,
-            None => return Err(ListFault::NoId(number)),
-        }
-    }
-    Ok(students)
+    named_rows(alloc, &mut reader, columns, text.len().saturating_add(2))
 }
 
 /// Returns the students of a list, in its order. Names of columns, in any case, and fields may have blanks around them; a byte order mark may

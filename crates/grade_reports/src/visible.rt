@@ -24,15 +24,20 @@ pub(crate) fn is_unseen(character: char) -> bool {
     }
 }
 
+/// Writes a character as it is shown.
+fn put_shown<W: fmt::Write>(f: &mut fmt::Formatter<W>, character: char) -> fmt::Result {
+    if is_unseen(character) {
+        let number = u32::from(character);
+        write!(f, "\\u{{{number:x}}}")
+    } else {
+        write!(f, "{character}")
+    }
+}
+
 impl fmt::Display for Visible<'_> {
     fn fmt<W: fmt::Write>(&self, f: &mut fmt::Formatter<W>) -> fmt::Result {
         'characters: for character in self.0.chars() {
-            if is_unseen(character) {
-                let number = u32::from(character);
-                write!(f, "\\u{{{number:x}}}")?;
-            } else {
-                write!(f, "{character}")?;
-            }
+            put_shown(f, character)?;
         }
         Ok(())
     }
@@ -51,6 +56,22 @@ fn put_character(out: &mut String, character: char) -> Result<(), AllocError> {
     }
 }
 
+/// Appends a character of a text of so many that is quoted, by its place there, or two dots for those that are left out.
+fn put_place(
+    out: &mut String,
+    place: usize,
+    count: usize,
+    character: char,
+) -> Result<(), AllocError> {
+    if count <= LONGEST_QUOTE
+        || place < QUOTED_FIRST
+        || place.saturating_add(QUOTED_LAST) >= count
+    {
+        return put_character(out, character);
+    }
+    out.push_str(if place == QUOTED_FIRST { ".." } else { "" })
+}
+
 /// Appends a text between quotes; of one with more than 60 characters the first 40 and the last 12, and two dots between them.
 ///
 /// # Errors
@@ -58,13 +79,8 @@ fn put_character(out: &mut String, character: char) -> Result<(), AllocError> {
 pub fn put_quoted(out: &mut String, text: &str) -> Result<(), AllocError> {
     out.push('"')?;
     let count = text.chars().count();
-    let is_short = count <= LONGEST_QUOTE;
     'characters: for (place, character) in text.chars().enumerate() {
-        if is_short || place < QUOTED_FIRST || place.saturating_add(QUOTED_LAST) >= count {
-            put_character(out, character)?;
-        } else if place == QUOTED_FIRST {
-            out.push_str("..")?;
-        }
+        put_place(out, place, count, character)?;
     }
     out.push('"')
 }

@@ -1,0 +1,25 @@
+// How texts are joined: `joint`, what stands before one of some; `put_note` and `put_joint`, notes one after the other.
+
+use std::alloc::AllocError;
+
+/// Returns what stands before one of some texts, by its number from 0 and how many they are; `last` stands before the last.
+pub fn joint(number: usize, count: usize, last: &'static str) -> &'static str {
+    if number == 0 {
+        ""
+    } else if number.saturating_add(1) == count {
+        last
+    } else {
+        ", "
+    }
+}
+
+/// Appends what stands between two notes, unless there is none yet.
+pub fn put_joint(notes: &mut String) -> Result<(), AllocError> {
+    notes.push_str(if notes.is_empty() { "" } else { "; " })
+}
+
+/// Appends a note; `; ` stands before all but the first.
+pub fn put_note(notes: &mut String, note: &str) -> Result<(), AllocError> {
+    put_joint(notes)?;
+    notes.push_str(note)
+}
