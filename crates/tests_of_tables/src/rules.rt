@@ -75,7 +75,7 @@ fn kinds(rt: HostRuntime) {
             ad: AdScheme::Svade,
         };
         let told = extensions.kind(Entry::from_word(word), level);
-        assert_eq!(rt; told, kind, "{word:#x} at level {level}");
+        assert_eq!(rt; (word, level, told), (word, level, kind));
     }
 }
 
@@ -104,7 +104,7 @@ static MEMORY_TYPES: [(u64, Option<MemoryType>); 5] = [
 fn memory_types(rt: HostRuntime) {
     for (word, memory_type) in &MEMORY_TYPES {
         let told = MemoryType::of_entry(Entry::from_word(*word));
-        assert_eq!(rt; told, *memory_type, "{word:#x}");
+        assert_eq!(rt; (*word, told), (*word, *memory_type));
     }
 }
 
@@ -228,7 +228,7 @@ fn leaves_allow(rt: HostRuntime) {
         };
         assert!(rt; level <= 4);
         let told = status.allows(mode, access, Entry::from_word(word), level);
-        assert_eq!(rt; told, allowed, "{word:#x} at level {level}");
+        assert_eq!(rt; (word, level, told), (word, level, allowed));
     }
 }
 
@@ -248,8 +248,8 @@ static ACCESSED_AND_DIRTY: [(Access, u64, bool, u64); 8] = [
 fn accessed_and_dirty(rt: HostRuntime) {
     for (access, word, ready, set) in &ACCESSED_AND_DIRTY {
         let entry = Entry::from_word(*word);
-        let told = (has_ad(*access, entry), with_ad(*access, entry).to_word());
-        assert_eq!(rt; told, (*ready, *set), "{word:#x}");
+        let (is_ready, written) = (has_ad(*access, entry), with_ad(*access, entry).to_word());
+        assert_eq!(rt; (*word, is_ready, written), (*word, *ready, *set));
     }
 }
 
@@ -265,7 +265,8 @@ static TOPS: [(u64, Option<u32>); 6] = [
 #[test]
 fn tops(rt: HostRuntime) {
     for (word, top) in &TOPS {
-        assert_eq!(rt; top_level(Satp::from_word(*word)), *top, "{word:#x}");
+        let told = top_level(Satp::from_word(*word));
+        assert_eq!(rt; (*word, told), (*word, *top));
     }
 }
 
@@ -289,7 +290,8 @@ static CANONICAL: [(u32, u64, bool); 13] = [
 fn canonical_addresses(rt: HostRuntime) {
     for (top, va, canonical) in &CANONICAL {
         assert!(rt; *top <= 4);
-        assert_eq!(rt; is_canonical(*top, Va(*va)), *canonical, "{va:#x}");
+        let told = is_canonical(*top, Va(*va));
+        assert_eq!(rt; (*va, told), (*va, *canonical));
     }
 }
 
@@ -310,8 +312,8 @@ fn physical_addresses(rt: HostRuntime) {
         let (word, level, va, bits, pa) = *row;
         let entry = Entry::from_word(word);
         assert!(rt; level <= 4);
-        let told = (reach(entry, level), leads_to(entry, level, Va(va)));
-        assert_eq!(rt; told, (bits, pa), "{word:#x} at level {level}");
+        let (reach, place) = (reach(entry, level), leads_to(entry, level, Va(va)));
+        assert_eq!(rt; (word, reach, place), (word, bits, pa));
     }
 }
 
@@ -349,12 +351,8 @@ fn regions(rt: HostRuntime) {
     for row in &REGIONS {
         let (config, address, below, matching, first, end) = *row;
         let entry = PmpEntry { config, address };
-        let told = (entry.matching(), entry.region(below));
-        assert_eq!(rt;
-            told,
-            (matching, Region { first, end }),
-            "{config:#x} {address:#x}"
-        );
+        let told = (address, entry.matching(), entry.region(below));
+        assert_eq!(rt; told, (address, matching, Region { first, end }));
     }
 }
 
@@ -469,7 +467,7 @@ fn pmp_verdicts(rt: HostRuntime) {
         for row in *rows {
             let (privilege, access, pa, width, permitted) = *row;
             let told = pmp_permits(entries, privilege, access, pa, width);
-            assert_eq!(rt; told, permitted, "{pa:#x}");
+            assert_eq!(rt; (pa, told), (pa, permitted));
         }
     }
 }
@@ -501,9 +499,10 @@ static PMP_PLACES: [(u64, bool, bool); 3] = [
 fn pmp_of_walks(rt: HostRuntime) {
     for (place, read, update) in &PMP_PLACES {
         let told = (
+            *place,
             pmp_permits_read(&PMP_ENTRIES, *place),
             pmp_permits_update(&PMP_ENTRIES, *place),
         );
-        assert_eq!(rt; told, (*read, *update), "{place:#x}");
+        assert_eq!(rt; told, (*place, *read, *update));
     }
 }

@@ -156,17 +156,22 @@ static LOADS_OF_THE_ROOT: [(u64, Walk); 11] = [
 
 /// Leaves in the root of Sv48. The address of the one at index 0 is a multiple of its size, and so is that at index 256, the
 /// first of the upper half. That of the one at index 1 is not.
-#[test]
-fn walks_from_the_root(rt: HostRuntime) -> Result<(), Fail> {
-    let mut words = vec![in rt.alloc(); 0; FRAMES * 512]?;
+fn leaves_in_the_root(alloc: Global) -> Result<Vec<u64>, AllocError> {
+    let mut words = vec![in alloc; 0; FRAMES * 512]?;
     words[512] = 0x000000d7;
     words[512 + 1] = DATA;
     words[512 + 256] = 0x000000d7;
+    Ok(words)
+}
+
+#[test]
+fn walks_from_the_root(rt: HostRuntime) -> Result<(), Fail> {
+    let words = leaves_in_the_root(rt.alloc())?;
     let mut memory = PlainWords::new(&words);
     let root = FrameNo(1).ppn();
     for (address, outcome) in &LOADS_OF_THE_ROOT {
         let told = translate(&mut memory, Scheme::Sv48, root, Va(*address), LOAD, USER);
-        assert_eq!(rt; told, *outcome, "at {address:x}");
+        assert_eq!(rt; (*address, told), (*address, *outcome));
     }
     Ok(())
 }
@@ -260,33 +265,56 @@ fn mapped(
     Ok((frames, seat, root, missing))
 }
 
+/// The number of the first mapping that `next_leaf_before` does not find in turn; 5 if it finds one more; `None` if it finds
+/// just the five.
+fn first_not_found(alloc: Global, scheme: Scheme, last: Va) -> Result<Option<usize>, AllocError> {
+    let (mut frames, mut seat, root, _) = mapped(alloc, scheme, last)?;
+    let mappings = mappings(last);
+    let end = scheme.page_limit();
+    let mut from = Va(0).page();
+    'found: for number in 0..5 {
+        let (va, _, word) = mappings[number];
+        let found = next_leaf_before(&mut frames, &mut seat, scheme, root, from, end);
+        if found != Some((va.page(), Entry::from_word(word))) {
+            return Ok(Some(number));
+        }
+        from = Va(va.0.wrapping_add(4096)).page();
+    }
+    let more = next_leaf_before(&mut frames, &mut seat, scheme, root, from, end);
+    Ok(if more.is_none() { None } else { Some(5) })
+}
+
+/// The number of the first mapping that `lookup` does not find as it was made; `None` if it finds all.
+fn first_not_walked(alloc: Global, scheme: Scheme, last: Va) -> Result<Option<usize>, AllocError> {
+    let (mut frames, mut seat, root, _) = mapped(alloc, scheme, last)?;
+    walks_of_tables();
+    let mappings = mappings(last);
+    let mut words = HeldWords {
+        store: &mut frames,
+        seat: &mut seat,
+    };
+    'walked: for number in 0..5 {
+        let (va, _, word) = mappings[number];
+        let leaf = Found::Leaf {
+            word,
+            level: 0,
+            global: false,
+        };
+        if lookup(&mut words, scheme, root.ppn(), va) != leaf {
+            return Ok(Some(number));
+        }
+    }
+    Ok(None)
+}
+
 #[test]
 fn finds_what_is_mapped(rt: HostRuntime) -> Result<(), Fail> {
     for (scheme, last, needed) in CASES {
-        let (mut frames, mut seat, root, missing) = mapped(rt.alloc(), scheme, last)?;
+        let (_, _, _, missing) = mapped(rt.alloc(), scheme, last)?;
         assert_eq!(rt; missing, needed);
-        walks_of_tables();
-        let end = scheme.page_limit();
-        let mut from = Va(0).page();
-        'found: for (va, _, word) in mappings(last) {
-            let found = next_leaf_before(&mut frames, &mut seat, scheme, root, from, end);
-            assert_eq!(rt; found, Some((va.page(), Entry::from_word(word))));
-            from = Va(va.0.wrapping_add(4096)).page();
-        }
-        let found = next_leaf_before(&mut frames, &mut seat, scheme, root, from, end);
-        assert_eq!(rt; found, None);
-        let mut words = HeldWords {
-            store: &mut frames,
-            seat: &mut seat,
-        };
-        'walked: for (va, _, word) in mappings(last) {
-            let leaf = Found::Leaf {
-                word,
-                level: 0,
-                global: false,
-            };
-            assert_eq!(rt; lookup(&mut words, scheme, root.ppn(), va), leaf);
-        }
+        let not_found = first_not_found(rt.alloc(), scheme, last)?;
+        let not_walked = first_not_walked(rt.alloc(), scheme, last)?;
+        assert_eq!(rt; (not_found, not_walked), (None, None));
     }
     Ok(())
 }
