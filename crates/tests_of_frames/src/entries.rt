@@ -19,7 +19,7 @@ fn writes_leaves(rt: HostRuntime) {
     for (executes, cow, dirty, word) in &LEAVES {
         let rights = if *executes { code } else { data };
         let leaf = Entry::leaf(FrameNo(5), rights, true, *cow, *dirty);
-        assert_eq!(rt; leaf.to_word(), *word, "at {word:x}");
+        assert_eq!(rt; leaf.to_word(), *word);
     }
 }
 
@@ -69,7 +69,8 @@ static KINDS: [(u64, Kind); 16] = [
 #[test]
 fn knows_kinds(rt: HostRuntime) {
     for (word, kind) in &KINDS {
-        assert_eq!(rt; Entry::from_word(*word).kind(), *kind, "at {word:x}");
+        let told = Entry::from_word(*word).kind();
+        assert_eq!(rt; (*word, told), (*word, *kind));
     }
 }
 
@@ -87,9 +88,9 @@ static ACCESSES: [(u64, Access, Mode, bool); 8] = [
 #[test]
 fn judges_accesses(rt: HostRuntime) {
     for row in &ACCESSES {
-        let (word, access, mode, allowed) = *row;
+        let (word, access, mode, _) = *row;
         let permits = Entry::from_word(word).permits(access, mode);
-        assert_eq!(rt; permits, allowed, "at {word:x}: {row:?}");
+        assert_eq!(rt; (word, access, mode, permits), *row);
     }
 }
 
@@ -119,8 +120,8 @@ static ADDRESSES: [(u64, u64, u64, Indices); 5] = [
 fn takes_addresses_apart(rt: HostRuntime) {
     for (address, number, rest, wanted) in &ADDRESSES {
         let (page, offset) = (Va(*address).page(), Va(*address).offset());
-        assert_eq!(rt; (page.number(), offset), (*number, *rest), "at {address:x}");
-        assert_eq!(rt; (page.at(offset).0, indices(page)), (*address, *wanted));
+        let told = (page.at(offset).0, page.number(), offset, indices(page));
+        assert_eq!(rt; told, (*address, *number, *rest, *wanted));
     }
 }
 
@@ -154,8 +155,12 @@ static CANONICAL: [(u64, bool, bool); 8] = [
 fn knows_canonical_addresses(rt: HostRuntime) {
     for (address, in_sv39, in_sv48) in &CANONICAL {
         let va = Va(*address);
-        let told = (Scheme::Sv39.is_canonical(va), Scheme::Sv48.is_canonical(va));
-        assert_eq!(rt; told, (*in_sv39, *in_sv48), "at {address:x}");
+        let told = (
+            *address,
+            Scheme::Sv39.is_canonical(va),
+            Scheme::Sv48.is_canonical(va),
+        );
+        assert_eq!(rt; told, (*address, *in_sv39, *in_sv48));
     }
 }
 
