@@ -6,6 +6,10 @@
 #[cfg(test)]
 mod buffers;
 #[cfg(test)]
+mod memory;
+#[cfg(test)]
+mod rows;
+#[cfg(test)]
 mod rules;
 #[cfg(test)]
 mod walks;

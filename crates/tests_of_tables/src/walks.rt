@@ -2,35 +2,29 @@
 // access and the outcome) over a memory of at most 1,024 frames with a few page tables, under Sv39 and Sv48; and that map,
 // protect, unmap, look-up and release work on page tables that a seat holds.
 
-ghost use Rattle.std.specs.Prelude.{◌≡◌, ◌+◌, ◌≤◌, ◌<◌, [], ◌∷◌, ℕ, IfOk};
+ghost use Rattle.std.specs.Prelude.{◌≡◌, ◌+◌, ◌<◌, [], ◌∷◌, ℕ, IfOk};
 ghost use Rattle.frame_store.specs.Laws.{IsSeatOf, KeepsSeats};
 ghost use Rattle.frame_store.specs.Plain.{PlainStateInvariant};
 ghost use Rattle.frame_store.specs.View.{hold_of, IsHeld};
 ghost use Rattle.table_walk.specs.Tables.{HasTables, Tables};
 
+use crate::memory::{DATA, FRAMES, POINTER, Word, words_of};
+use crate::rows::expect;
 use frame_store::{FrameAccess, FrameSeat, FrameSupply, PlainFrames, PlainSeat};
 use std::alloc::{AllocError, Global};
-use std::test::Fail;
 use sv39_entry::{Access, Entry, FrameNo, Mode, Rights, Scheme, Va};
 use table_walk::{
     Found, HeldWords, PlainWords, Walk, lookup, map, missing_tables, new_table, next_leaf_before,
     protect, release_tables, translate, unmap, walks_of_tables,
 };
 
-/// The frames of the memory: those of `DATA`, a superpage from frame 512 on, are inside.
-const FRAMES: usize = 1024;
-
-/// Word 0 of frame 1: a pointer to frame 2.
-const POINTER: u64 = 0x20000801;
-
-/// Word 0 of frame 3: a pointer to frame 1.
+/// A pointer to frame 1.
 const UPPER: u64 = 0x20000401;
 
-/// The roots of the same page tables: of three levels, and of four.
-static ROOTS: [(Scheme, FrameNo); 2] = [(Scheme::Sv39, FrameNo(1)), (Scheme::Sv48, FrameNo(3))];
-
-/// A leaf of frame 512 that grants user loads and stores. A and D are set.
-const DATA: u64 = 0x200800d7;
+/// Page tables with one word at index 1 of frame 2: frame 1 is their root in Sv39, frame 3 in Sv48.
+const fn tables(word: u64) -> [Word; 3] {
+    [(512, POINTER), (2 * 512 + 1, word), (3 * 512, UPPER)]
+}
 
 /// `DATA` with a reserved bit set.
 const RESERVED: u64 = 0x00400000200800d7;
@@ -46,18 +40,6 @@ const KERNEL: u64 = 0x200800c7;
 
 /// The word at index 1 of frame 2; an access, its address and its mode; and the outcome of the walk.
 type Row = (u64, Access, u64, Mode, Walk);
-
-/// The words of `frames` frames: all are 0 but `POINTER`, `UPPER`, and `word` at index 1 of frame 2.
-fn tables(alloc: Global, frames: usize, word: u64) -> Result<Vec<u64>, AllocError>
-    requires some { 4 ≤ frames }
-    requires few { frames ≤ FRAMES }
-{
-    let mut words = vec![in alloc; 0; frames * 512]?;
-    words[512] = POINTER;
-    words[2 * 512 + 1] = word;
-    words[3 * 512] = UPPER;
-    Ok(words)
-}
 
 /// Shorthands of the rows.
 const USER: Mode = Mode::User;
@@ -119,18 +101,34 @@ static ACCESSES: [Row; 16] = [
     (DATA, LOAD, 0xffffffc000000000, USER, Walk::PageFault(13)),
 ];
 
+/// The outcome of a translation over `FRAMES` frames with these words.
+fn translated(
+    alloc: Global,
+    given: &[Word],
+    scheme: Scheme,
+    root: FrameNo,
+    access: Access,
+    address: u64,
+    mode: Mode,
+) -> Result<Walk, AllocError> {
+    let words = words_of(alloc, FRAMES, given)?;
+    let mut memory = PlainWords::new(&words);
+    let (root, va) = (root.ppn(), Va(address));
+    Ok(translate(&mut memory, scheme, root, va, access, mode))
+}
+
 #[test]
-fn translates_accesses(rt: HostRuntime) -> Result<(), Fail> {
-    for row in &ACCESSES {
-        let (word, access, address, mode, outcome) = *row;
-        let words = tables(rt.alloc(), FRAMES, word)?;
-        let mut memory = PlainWords::new(&words);
-        for (scheme, root) in &ROOTS {
-            let told = translate(&mut memory, *scheme, root.ppn(), Va(address), access, mode);
-            assert_eq!(rt; told, outcome, "{scheme:?} {row:?}");
-        }
+fn translates_accesses(rt: HostRuntime) {
+    let (three, four) = (Scheme::Sv39, Scheme::Sv48);
+    let alloc = rt.alloc();
+    for number in 0..ACCESSES.len() {
+        let (word, access, address, mode, outcome) = ACCESSES[number];
+        let given = tables(word);
+        let in_sv39 = translated(alloc, &given, three, FrameNo(1), access, address, mode);
+        expect(&rt, number, in_sv39, Ok(outcome));
+        let in_sv48 = translated(alloc, &given, four, FrameNo(3), access, address, mode);
+        expect(&rt, number, in_sv48, Ok(outcome));
     }
-    Ok(())
 }
 
 /// A leaf in the root of Sv48 leads here.
@@ -156,24 +154,16 @@ static LOADS_OF_THE_ROOT: [(u64, Walk); 11] = [
 
 /// Leaves in the root of Sv48. The address of the one at index 0 is a multiple of its size, and so is that at index 256, the
 /// first of the upper half. That of the one at index 1 is not.
-fn leaves_in_the_root(alloc: Global) -> Result<Vec<u64>, AllocError> {
-    let mut words = vec![in alloc; 0; FRAMES * 512]?;
-    words[512] = 0x000000d7;
-    words[512 + 1] = DATA;
-    words[512 + 256] = 0x000000d7;
-    Ok(words)
-}
+static IN_THE_ROOT: [Word; 3] = [(512, 0x000000d7), (512 + 1, DATA), (512 + 256, 0x000000d7)];
 
 #[test]
-fn walks_from_the_root(rt: HostRuntime) -> Result<(), Fail> {
-    let words = leaves_in_the_root(rt.alloc())?;
-    let mut memory = PlainWords::new(&words);
-    let root = FrameNo(1).ppn();
-    for (address, outcome) in &LOADS_OF_THE_ROOT {
-        let told = translate(&mut memory, Scheme::Sv48, root, Va(*address), LOAD, USER);
-        assert_eq!(rt; (*address, told), (*address, *outcome));
+fn walks_from_the_root(rt: HostRuntime) {
+    let (scheme, root) = (Scheme::Sv48, FrameNo(1));
+    for number in 0..LOADS_OF_THE_ROOT.len() {
+        let (address, outcome) = LOADS_OF_THE_ROOT[number];
+        let told = translated(rt.alloc(), &IN_THE_ROOT, scheme, root, LOAD, address, USER);
+        expect(&rt, number, told, Ok(outcome));
     }
-    Ok(())
 }
 
 /// What `lookup` finds at a root and an address.
@@ -192,16 +182,25 @@ const MEGAPAGE: Found = Found::Leaf {
     global: false,
 };
 
-#[test]
-fn finds_leaves(rt: HostRuntime) -> Result<(), Fail> {
-    let words = tables(rt.alloc(), 4, DATA)?;
+/// What `lookup` finds over four frames with `DATA` in their page tables.
+fn looked_up(
+    alloc: Global,
+    scheme: Scheme,
+    root: FrameNo,
+    address: u64,
+) -> Result<Found, AllocError> {
+    let words = words_of(alloc, 4, &tables(DATA))?;
     let mut memory = PlainWords::new(&words);
-    for row in &FOUND {
-        let (scheme, root, address, found) = *row;
-        let told = lookup(&mut memory, scheme, root.ppn(), Va(address));
-        assert_eq!(rt; told, found, "{row:?}");
+    Ok(lookup(&mut memory, scheme, root.ppn(), Va(address)))
+}
+
+#[test]
+fn finds_leaves(rt: HostRuntime) {
+    for number in 0..FOUND.len() {
+        let (scheme, root, address, wanted) = FOUND[number];
+        let told = looked_up(rt.alloc(), scheme, root, address);
+        expect(&rt, number, told, Ok(wanted));
     }
-    Ok(())
 }
 
 /// An address, the frame that its page is mapped to, and the word of the leaf.
@@ -220,7 +219,7 @@ const fn mappings(last: Va) -> [Mapping; 5] {
 }
 
 /// A scheme, the last page of its lower half, and the number of page tables that are missing at each mapping.
-const CASES: [(Scheme, Va, [usize; 5]); 2] = [
+static CASES: [(Scheme, Va, [usize; 5]); 2] = [
     (Scheme::Sv39, Va(0x3ffffff000), [2, 0, 1, 2, 2]),
     (Scheme::Sv48, Va(0x7ffffffff000), [3, 0, 1, 2, 3]),
 ];
@@ -266,9 +265,13 @@ fn mapped(
 }
 
 /// The number of the first mapping that `next_leaf_before` does not find in turn; 5 if it finds one more; `None` if it finds
-/// just the five.
-fn first_not_found(alloc: Global, scheme: Scheme, last: Va) -> Result<Option<usize>, AllocError> {
-    let (mut frames, mut seat, root, _) = mapped(alloc, scheme, last)?;
+/// just the five. And the number of page tables that were missing at each mapping.
+fn first_not_found(
+    alloc: Global,
+    scheme: Scheme,
+    last: Va,
+) -> Result<(Option<usize>, [usize; 5]), AllocError> {
+    let (mut frames, mut seat, root, missing) = mapped(alloc, scheme, last)?;
     let mappings = mappings(last);
     let end = scheme.page_limit();
     let mut from = Va(0).page();
@@ -276,12 +279,12 @@ fn first_not_found(alloc: Global, scheme: Scheme, last: Va) -> Result<Option<usi
         let (va, _, word) = mappings[number];
         let found = next_leaf_before(&mut frames, &mut seat, scheme, root, from, end);
         if found != Some((va.page(), Entry::from_word(word))) {
-            return Ok(Some(number));
+            return Ok((Some(number), missing));
         }
         from = Va(va.0.wrapping_add(4096)).page();
     }
     let more = next_leaf_before(&mut frames, &mut seat, scheme, root, from, end);
-    Ok(if more.is_none() { None } else { Some(5) })
+    Ok((if more.is_none() { None } else { Some(5) }, missing))
 }
 
 /// The number of the first mapping that `lookup` does not find as it was made; `None` if it finds all.
@@ -308,15 +311,14 @@ fn first_not_walked(alloc: Global, scheme: Scheme, last: Va) -> Result<Option<us
 }
 
 #[test]
-fn finds_what_is_mapped(rt: HostRuntime) -> Result<(), Fail> {
-    for (scheme, last, needed) in CASES {
-        let (_, _, _, missing) = mapped(rt.alloc(), scheme, last)?;
-        assert_eq!(rt; missing, needed);
-        let not_found = first_not_found(rt.alloc(), scheme, last)?;
-        let not_walked = first_not_walked(rt.alloc(), scheme, last)?;
-        assert_eq!(rt; (not_found, not_walked), (None, None));
+fn finds_what_is_mapped(rt: HostRuntime) {
+    for number in 0..CASES.len() {
+        let (scheme, last, needed) = CASES[number];
+        let told = first_not_found(rt.alloc(), scheme, last);
+        expect(&rt, number, told, Ok((None, needed)));
+        let not_walked = first_not_walked(rt.alloc(), scheme, last);
+        expect(&rt, number, not_walked, Ok(None));
     }
-    Ok(())
 }
 
 /// What unmapping a page returned, and unmapping it again; and what `lookup` then finds at that page, and at the next one,
@@ -347,18 +349,19 @@ fn changed(alloc: Global, scheme: Scheme, last: Va) -> Result<Option<Changed>, A
 }
 
 #[test]
-fn changes_one_leaf(rt: HostRuntime) -> Result<(), Fail> {
-    let dropped = Entry::from_word(0x20002c43);
+fn changes_one_leaf(rt: HostRuntime) {
     let leaf = Found::Leaf {
         word: 0x20003043,
         level: 0,
         global: false,
     };
-    for (scheme, last, _) in CASES {
-        let found = changed(rt.alloc(), scheme, last)?;
-        assert_eq!(rt; found, Some((Some(dropped), None, Found::NoLeaf, leaf)));
+    for number in 0..CASES.len() {
+        let (scheme, last, _) = CASES[number];
+        let dropped = Entry::from_word(0x20002c43);
+        let wanted = (Some(dropped), None, Found::NoLeaf, leaf);
+        let told = changed(rt.alloc(), scheme, last);
+        expect(&rt, number, told, Ok(Some(wanted)));
     }
-    Ok(())
 }
 
 /// The numbers of frames that are held after a mapping was made and unmapped, and after its tables were released.
@@ -379,5 +382,5 @@ fn held_by_tables(alloc: Global) -> Result<(usize, usize), AllocError> {
 
 #[test]
 fn releases_what_was_made(rt: HostRuntime) {
-    assert_eq!(rt; held_by_tables(rt.alloc()), Ok((5, 1)));
+    expect(&rt, 0, held_by_tables(rt.alloc()), Ok((5, 1)));
 }
