@@ -4,6 +4,7 @@ import pathlib
 import re
 import subprocess
 
+from judge import Talk
 from rules import BITS, aged, allows, asid_of, effective, index_of, is_global, kind_of, leads_to
 
 STORING = ("mem", "fetch", "load", "store")
@@ -90,6 +91,10 @@ def wrong_leaf(seen, line, answer):
         return None if lack == first and lack in INVALID and INVALID[lack](word, level) else f"{word:#x} is invalid by something else"
     bit = re.match(r"([A-Z]) is ([01])", lack)
     step = {"the superpage is not aligned": 6}.get(lack, 7 if bit and bit[1] in "AD" else 5 if bit else None)
+    if lack.startswith("memory has "):
+        now, place, kept = (int(it, 16) for it in re.findall(r"0x[0-9a-f]+", lack))
+        is_so = seen.words.get(place, 0) == now != kept == word and seen.profile.ad != "svade" and step_of(seen, word, level) == 7
+        return None if is_so else f"the word at {place:#x} is {seen.words.get(place, 0):#x}"
     if step_of(seen, word, level) != step or (bit and bool(word & BITS[bit[1]]) != (bit[2] == "1")):
         return f"{word:#x} lacks something else: step {step_of(seen, word, level)}"
     return None
@@ -163,6 +168,36 @@ def fault_in(wanted, line, answer, lines):
     return wrong_words(wanted, line, answer) or wrong_reason(answer, lines)
 
 
+def verdict(lines, got, keeps):
+    """What the judge of judge.py says of the last line, of a history without the fences from place `keeps` on."""
+    talk = Talk()
+    for place, line in enumerate(lines[:-1]):
+        is_dropped = line.startswith("sfence") and place >= keeps
+        # with fewer fences more is permitted, but an outcome that was not has set nothing
+        if not is_dropped and not got[place].startswith("NOT permitted"):
+            talk.answer(line)
+    return talk.answer(lines[-1])
+
+
+NAMED = re.compile(r"the fence of line (\d+) \([^)]*\) excludes (?!older PMP)")
+# The program looks at the first 32 ways to an outcome, so it may miss the fence of another one.
+WRONG_FENCES = 0.05
+
+
+def wrong_fence(lines, got, first):
+    """What is wrong with the fence that the answer to the last line names, as the one that excludes a PTE; None if nothing is: the outcome must be
+    permitted without it and those after it, and not permitted without those after it. `first`: the number of the first line."""
+    named = NAMED.search(got[-1])
+    place = int(named[1]) - first
+    if not 0 <= place < len(lines):
+        return f"line {named[1]} is of another script"
+    if not verdict(lines, got, place).startswith("permitted"):
+        return f"without the fences from line {named[1]} on it isn't permitted either"
+    if not verdict(lines, got, place + 1).startswith("NOT permitted"):
+        return f"a later fence than that of line {named[1]} excludes it"
+    return None
+
+
 def differences(program, scripts):
     """Asks scripts in one talk. Returns for each that is answered wrongly: its name, its lines up to the answer, and what is wrong."""
     lines = [line for script in scripts for line in script.lines]
@@ -171,15 +206,21 @@ def differences(program, scripts):
     if (len(got), status, err) != (len(lines), int(amiss), "") or any(it.startswith("error") for it in got):
         refused = next((f"{line!r}: {it}" for line, it in zip(lines, got) if it.startswith("error")), "")
         return [("all", [], f"status {status}, {len(got)} answers to {len(lines)} lines {err[-500:]} {refused}")]
-    found, at = [], 0
+    found, at, named, fences = [], 0, 0, []
     for script in scripts:
         for number, (line, wanted) in enumerate(zip(script.lines, script.wanted)):
             wrong = fault_in(wanted, line, got[at + number], lines)
+            if not wrong and wanted.kind == "refused" and NAMED.search(got[at + number]):
+                named += 1
+                fence = wrong_fence(script.lines[: number + 1], got[at : at + number + 1], at + 1)
+                fences += [(script.name, script.lines[: number + 1], f"{line!r}: {got[at + number]}\n    {fence}")] if fence else []
             if wrong:
                 found.append((script.name, script.lines[: number + 1], f"{line!r}: {got[at + number]}\n    {wrong}"))
                 break
         at += len(script.lines)
-    return found
+    if fences:
+        print(f"{len(fences)} of {named} fences that reasons name are not the nearest")
+    return found + (fences if len(fences) > WRONG_FENCES * named else [])
 
 
 def outcome_text(it):
