@@ -6,10 +6,12 @@ ghost use Rattle.script_reader.specs.Rows.{seen};
 ghost use Rattle.fault_texts.specs.Counts.{is_right};
 ghost use Rattle.fault_texts.specs.Mistakes.{IsOfLine};
 
-use line_fields::{Mistake, field_at, field_count, quoted};
+use crate::quotes::put_quoted;
+use line_fields::{Mistake, field_at, field_count};
 use script_language::{Keyword, Tail};
 use script_reader::Row;
 use std::alloc::{AllocError, Global};
+use text_builder::Text;
 
 /// Returns the names of the fields that a word takes, as docs/SCRIPTS.md has them: those in brackets may be left out, and `..` says that more
 /// like the last may follow.
@@ -70,12 +72,12 @@ fn surplus_number(row: &Row) -> usize {
     }
 }
 
-/// How many fields there are, in words.
-fn counted(alloc: Global, count: usize) -> Result<String, AllocError> {
+/// Puts how many fields there are, in words.
+fn put_counted(text: &mut Text, count: usize) {
     match count {
-        0 => String::from_str(alloc, "no field"),
-        1 => String::from_str(alloc, "1 field"),
-        _ => format!(in alloc; "{count} fields"),
+        0 => text.push_str("no field"),
+        1 => text.push_str("1 field"),
+        _ => write!(text, "{count} fields"),
     }
 }
 
@@ -96,12 +98,11 @@ pub fn wrong_count(
     if is_right_count(row, count) {
         return Ok(None);
     }
-    let (word, names, has) = (
-        quoted(alloc, row.text)?,
-        field_names(row.word),
-        counted(alloc, count)?,
-    );
-    let text = format!(in alloc; "{word} takes {names}, and has {has}")?;
+    let (mut text, names) = (Text::new(alloc), field_names(row.word));
+    put_quoted(&mut text, row.text);
+    write!(text, " takes {names}, and has ");
+    put_counted(&mut text, count);
+    let text = text.finish()?;
     match field_at(line, surplus_number(row)) {
         Some(field) => Ok(Some(Mistake::at(field.column, text))),
         None => Ok(Some(Mistake::of_line(text))),

@@ -15,11 +15,13 @@ use crate::counted::wrong_count;
 use crate::field_forms::refused_field;
 use crate::limit_texts::{no_room, outside_limits};
 use crate::near_words::unknown_word;
-use line_fields::{Mistake, Place, quoted};
+use crate::quotes::put_quoted;
+use line_fields::{Mistake, Place};
 use process_model::LONGEST_IMAGE;
 use script_language::{Cause, Keyword, LONGEST_LINE, LONGEST_SCRIPT};
 use script_reader::{Draft, Row, first_field};
 use std::alloc::{AllocError, Global};
+use text_builder::Text;
 
 /// What is wrong with a line that is too long.
 fn too_long(alloc: Global, line: &[u8]) -> Result<Option<Mistake>, AllocError>
@@ -51,19 +53,17 @@ fn not_ascii(alloc: Global, line: &[u8]) -> Result<Option<Mistake>, AllocError>
     Ok(None)
 }
 
-/// What is said of a word that may not stand here.
-fn order_text(alloc: Global, draft: &Draft, row: &Row) -> Result<String, AllocError> {
+/// Tells why a word may not stand here.
+fn put_order(text: &mut Text, draft: &Draft, row: &Row) {
     if draft.in_order(Keyword::Boot) {
-        let quote = quoted(alloc, row.text)?;
-        return format!(in alloc;
-            "{quote} needs a machine: a line such as \"boot 1 64 4 full\" must stand before it"
-        );
+        put_quoted(text, row.text);
+        text.push_str(" needs a machine: a line such as \"boot 1 64 4 full\" must stand before it");
+    } else if row.word == Keyword::Boot {
+        text.push_str("this is a second \"boot\", and a script has one");
+    } else {
+        put_quoted(text, row.text);
+        text.push_str(" must stand before \"boot\"");
     }
-    if row.word == Keyword::Boot {
-        return String::from_str(alloc, "this is a second \"boot\", and a script has one");
-    }
-    let quote = quoted(alloc, row.text)?;
-    format!(in alloc; "{quote} must stand before \"boot\"")
 }
 
 /// What is wrong with a line whose word may not stand here.
@@ -79,7 +79,9 @@ fn out_of_order(
     if draft.in_order(row.word) {
         return Ok(None);
     }
-    Ok(Some(Mistake::at(word.column, order_text(alloc, draft, row)?)))
+    let mut text = Text::new(alloc);
+    put_order(&mut text, draft, row);
+    Ok(Some(Mistake::at(word.column, text.finish()?)))
 }
 
 /// What is wrong with a line whose first field is a word, for one of the causes from `Order` on.

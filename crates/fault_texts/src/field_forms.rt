@@ -1,19 +1,21 @@
 // `refused_field`: what is wrong with the first field of a line that has another form than its kind, by kind: a number, a slot, a
 // mode, a policy, a scheme, a buffer entry, bytes. Segments are in `segment_forms`.
 
-ghost use Rattle.std.specs.Prelude.{◌≡◌, ◌≢◌, ◌<◌, Err, false, IfOk, IfSome, IsSome, length};
+ghost use Rattle.std.specs.Prelude.{◌≡◌, ◌≢◌, ◌<◌, Err, false, IfOk, IfSome, IsSome, Some, length};
 ghost use Rattle.script_language.specs.Fields.{value_of, values_of};
 ghost use Rattle.script_language.specs.Lines.{fields_of};
 ghost use Rattle.script_reader.specs.Rows.{seen};
 ghost use Rattle.fault_texts.specs.Causes.{OfField};
 ghost use Rattle.line_fields.specs.Columns.{IsEndOf, StandsAt};
-ghost use Rattle.fault_texts.specs.Mistakes.{IsOfField, IsOfLine};
+ghost use Rattle.fault_texts.specs.Mistakes.{IsFrom, IsOfLine};
 
-use crate::segment_forms::wrong_segment;
-use line_fields::{Mistake, Place, is_negative_form, is_number_form, quoted, wrong_number};
+use crate::quotes::{put_number, put_quoted};
+use crate::segment_forms::put_segment;
+use line_fields::{Mistake, Place, is_negative_form, is_number_form};
 use script_language::{Cause, FieldKind};
 use script_reader::{Row, first_field, hexadecimal_value, read_value};
 use std::alloc::{AllocError, Global};
+use text_builder::Text;
 
 /// A field of a line that is refused, and the kind by which it is read.
 #[derive(Clone, Copy)]
@@ -65,40 +67,45 @@ fn first_refused<'a>(
     Ok(None)
 }
 
-fn wrong_signed(alloc: Global, field: &[u8]) -> Result<String, AllocError> {
-    let quote = quoted(alloc, field)?;
+fn put_signed(text: &mut Text, field: &[u8]) {
+    put_quoted(text, field);
     if is_number_form(field) || is_negative_form(field) {
         let (least, most) = (i64::MIN, i64::MAX);
-        format!(in alloc; "{quote} is out of range: a signed number is from {least} to {most}")
+        write!(
+            text,
+            " is out of range: a signed number is from {least} to {most}"
+        )
     } else {
-        format!(in alloc;
-            "{quote} is no number: write decimal digits, or 0x and hexadecimal digits, after - if it is negative"
+        text.push_str(
+            " is no number: write decimal digits, or 0x and hexadecimal digits, after - if it is negative",
         )
     }
 }
 
-fn wrong_slot(alloc: Global, field: &[u8]) -> Result<String, AllocError> {
+fn put_slot(text: &mut Text, field: &[u8]) {
     if is_number_form(field) {
-        return wrong_number(alloc, field);
+        put_number(text, field);
+    } else {
+        put_quoted(text, field);
+        text.push_str(" is no slot: write its number, or - for none");
     }
-    let quote = quoted(alloc, field)?;
-    format!(in alloc; "{quote} is no slot: write its number, or - for none")
 }
 
-fn wrong_entry(alloc: Global, field: &[u8]) -> Result<String, AllocError> {
-    if let [b'@', number @ ..] = field
-        && is_number_form(number)
-    {
-        return wrong_number(alloc, number);
+fn put_entry(text: &mut Text, field: &[u8]) {
+    match field {
+        [b'@', number @ ..] if is_number_form(number) => put_number(text, number),
+        _ => {
+            put_quoted(text, field);
+            text.push_str(" is no TLB entry: write @ and its number, as @0")
+        }
     }
-    let quote = quoted(alloc, field)?;
-    format!(in alloc; "{quote} is no TLB entry: write @ and its number, as @0")
 }
 
-/// What is wrong with a field that must be one of two words.
-fn neither(alloc: Global, name: &str, right: &str, field: &[u8]) -> Result<String, AllocError> {
-    let quote = quoted(alloc, field)?;
-    format!(in alloc; "{name} is {right}, not {quote}")
+/// Tells that a field must be one of two words.
+fn put_neither(text: &mut Text, right: &str, field: &[u8]) {
+    text.push_str(right);
+    text.push_str(", not ");
+    put_quoted(text, field);
 }
 
 /// The first byte of a text that is no hexadecimal digit, and how many are before it.
@@ -113,47 +120,44 @@ fn first_no_digit(text: &[u8]) -> Option<(usize, u8)>
     None
 }
 
-/// Returns what is wrong with a field, or a part of one, that is no HEX.
-///
-/// # Errors
-/// `AllocError`: host memory was refused.
-pub fn wrong_hex(alloc: Global, field: Place<'_>) -> Result<Mistake, AllocError>
-    ensures { IfOk result (λ m. IsOfField field.entry.column field.entry.bytes.now m) }
+/// Puts what is wrong with a field, or a part of one, that is no HEX, and returns the column.
+pub fn put_hex(text: &mut Text, field: Place<'_>) -> usize
+    ensures { IsFrom field.entry.column (length field.entry.bytes.now) (Some result) }
 {
     if field.bytes.is_empty() {
-        let text = String::from_str(alloc, "HEX is empty: write - for no bytes")?;
-        return Ok(Mistake::at(field.column, text));
+        text.push_str("HEX is empty: write - for no bytes");
+        return field.column;
     }
     if let Some((place, byte)) = first_no_digit(field.bytes) {
-        let quote = quoted(alloc, &[byte])?;
-        let text = format!(in alloc;
-            "{quote} is no hexadecimal digit: HEX is two digits for each byte, or - for no bytes"
-        )?;
-        return Ok(Mistake::at(field.column.saturating_add(place), text));
+        put_quoted(text, &[byte]);
+        text.push_str(
+            " is no hexadecimal digit: HEX is two digits for each byte, or - for no bytes",
+        );
+        return field.column.saturating_add(place);
     }
     let count = field.bytes.len();
     let digits = if count == 1 { "digit" } else { "digits" };
-    let text = format!(in alloc; "HEX has {count} {digits}, and each byte takes two")?;
-    Ok(Mistake::at(field.column, text))
+    write!(text, "HEX has {count} {digits}, and each byte takes two");
+    field.column
 }
 
-/// What is wrong with a field that is refused as one of this kind.
-fn wrong_field(alloc: Global, kind: FieldKind, field: Place<'_>) -> Result<Mistake, AllocError>
-    ensures { IfOk result (λ m. IsOfField field.entry.column field.entry.bytes.now m) }
+/// Puts what is wrong with a field that is refused as one of this kind, and returns the column.
+fn put_field(text: &mut Text, kind: FieldKind, field: Place<'_>) -> usize
+    ensures { IsFrom field.entry.column (length field.entry.bytes.now) (Some result) }
 {
     let bytes = field.bytes;
-    let text = match kind {
-        FieldKind::Number => wrong_number(alloc, bytes)?,
-        FieldKind::Signed => wrong_signed(alloc, bytes)?,
-        FieldKind::Slot => wrong_slot(alloc, bytes)?,
-        FieldKind::Mode => neither(alloc, "MODE", "rw or ro", bytes)?,
-        FieldKind::Policy => neither(alloc, "POLICY", "full or asid", bytes)?,
-        FieldKind::Scheme => neither(alloc, "SCHEME", "sv39 or sv48", bytes)?,
-        FieldKind::Entry => wrong_entry(alloc, bytes)?,
-        FieldKind::Hex => return wrong_hex(alloc, field),
-        FieldKind::Segment => return wrong_segment(alloc, field),
-    };
-    Ok(Mistake::at(field.column, text))
+    match kind {
+        FieldKind::Number => put_number(text, bytes),
+        FieldKind::Signed => put_signed(text, bytes),
+        FieldKind::Slot => put_slot(text, bytes),
+        FieldKind::Mode => put_neither(text, "MODE is rw or ro", bytes),
+        FieldKind::Policy => put_neither(text, "POLICY is full or asid", bytes),
+        FieldKind::Scheme => put_neither(text, "SCHEME is sv39 or sv48", bytes),
+        FieldKind::Entry => put_entry(text, bytes),
+        FieldKind::Hex => return put_hex(text, field),
+        FieldKind::Segment => return put_segment(text, field),
+    }
+    field.column
 }
 
 /// Returns what is wrong with the first of a line's `fields`, those after its word, that is refused for this cause. `None`: no field is.
@@ -171,8 +175,10 @@ pub fn refused_field(
     ensures found { OfField cause → values_of (seen row.now) (fields_of fields.now) ≡ Err cause → IfOk result IsSome }
     ensures column { IfOk result (λ m. IfSome m (λ m. IsOfLine line.now m)) }
 {
-    match first_refused(alloc, row, line, fields, cause)? {
-        Some(refused) => Ok(Some(wrong_field(alloc, refused.kind, refused.field)?)),
-        None => Ok(None),
-    }
+    let Some(refused) = first_refused(alloc, row, line, fields, cause)? else {
+        return Ok(None);
+    };
+    let mut text = Text::new(alloc);
+    let column = put_field(&mut text, refused.kind, refused.field);
+    Ok(Some(Mistake::at(column, text.finish()?)))
 }

@@ -9,6 +9,7 @@ use exec_segments::{FILE_HEADER, FaultySegment, PROGRAM_HEADER, image_fault};
 use process_model::{BadImage, GUARD_PAGES, Image, LONGEST_IMAGE, MOST_SEGMENTS, STACK_PAGES};
 use std::alloc::{AllocError, Global};
 use sv39_entry::{PAGE_SIZE, Scheme};
+use text_builder::Text;
 
 /// What a segment and its numbers are called.
 #[derive(Clone, Copy)]
@@ -46,15 +47,16 @@ fn length_of(image: Image<'_>) -> usize {
 }
 
 /// That an ELF file does not begin with the four bytes of its format.
-fn no_magic(alloc: Global, image: Image<'_>) -> Result<String, AllocError> {
+fn put_no_magic(text: &mut Text, image: Image<'_>) {
     if let Image::Elf(bytes) = image
         && let [a, b, c, d, ..] = bytes
     {
-        format!(in alloc;
+        write!(
+            text,
             "e_ident begins with {a:02x} {b:02x} {c:02x} {d:02x}, not with 7f 45 4c 46"
         )
     } else {
-        String::from_str(alloc, "e_ident does not begin with 7f 45 4c 46")
+        text.push_str("e_ident does not begin with 7f 45 4c 46")
     }
 }
 
@@ -67,17 +69,19 @@ fn no_pages(image: Image<'_>) -> &'static str {
 }
 
 /// Which check an image fails as a whole.
-fn of_whole(alloc: Global, image: Image<'_>, part: BadImage) -> Result<String, AllocError> {
+fn put_whole(text: &mut Text, image: Image<'_>, part: BadImage) {
     let length = length_of(image);
     match part {
-        BadImage::TooLong => {
-            format!(in alloc; "the file has {length} bytes, and may have at most {LONGEST_IMAGE}")
-        }
-        BadImage::Header => {
-            format!(in alloc; "the file has {length} bytes, fewer than its header, {FILE_HEADER}")
-        }
-        BadImage::Magic => no_magic(alloc, image),
-        _ => String::from_str(alloc, no_pages(image)),
+        BadImage::TooLong => write!(
+            text,
+            "the file has {length} bytes, and may have at most {LONGEST_IMAGE}"
+        ),
+        BadImage::Header => write!(
+            text,
+            "the file has {length} bytes, fewer than its header, {FILE_HEADER}"
+        ),
+        BadImage::Magic => put_no_magic(text, image),
+        _ => text.push_str(no_pages(image)),
     }
 }
 
@@ -90,70 +94,63 @@ fn highest_end(scheme: Scheme) -> u64 {
 }
 
 /// Which check of addresses and sizes a segment fails.
-fn of_numbers(
-    alloc: Global,
-    scheme: Scheme,
-    names: Names,
-    part: BadImage,
-    it: &FaultySegment,
-) -> Result<String, AllocError> {
+fn put_numbers(text: &mut Text, scheme: Scheme, names: Names, part: BadImage, it: &FaultySegment) {
     let (address, bytes, size) = (names.address, names.bytes, names.size);
     let (at, memory_size, file_size) = (it.address, it.memory_size, it.file_size);
     match part {
-        BadImage::Sizes => {
-            format!(in alloc;
-                "{bytes} is 0x{file_size:x}, above {size}, which is 0x{memory_size:x}"
-            )
-        }
-        BadImage::Wraps => {
-            format!(in alloc; "{address} 0x{at:x} + {size} 0x{memory_size:x} is 2^64 or more")
-        }
-        BadImage::Align => format!(in alloc;
-            "{address} is 0x{at:x}, not a multiple of {PAGE_SIZE}"
+        BadImage::Sizes => write!(
+            text,
+            "{bytes} is 0x{file_size:x}, above {size}, which is 0x{memory_size:x}"
         ),
+        BadImage::Wraps => write!(
+            text,
+            "{address} 0x{at:x} + {size} 0x{memory_size:x} is 2^64 or more"
+        ),
+        BadImage::Align => write!(text, "{address} is 0x{at:x}, not a multiple of {PAGE_SIZE}"),
         BadImage::TooHigh => {
             let (end, most) = (at.saturating_add(memory_size), highest_end(scheme));
-            format!(in alloc;
+            write!(
+                text,
                 "{address} + {size} is 0x{end:x}, above 0x{most:x}: guard and stack must fit below the trapframe"
             )
         }
         BadImage::Order => {
             let least = it.least_address;
-            format!(in alloc;
+            write!(
+                text,
                 "{address} is 0x{at:x}, below 0x{least:x}, the end of the pages of the one before it"
             )
         }
-        _ => format!(in alloc;
+        _ => write!(
+            text,
             "an image has at most {MOST_SEGMENTS} with pages, and this is one more"
         ),
     }
 }
 
 /// Which check a segment fails, or its program header.
-fn of_segment(
-    alloc: Global,
+fn put_segment(
+    text: &mut Text,
     scheme: Scheme,
     image: Image<'_>,
     part: BadImage,
     it: &FaultySegment,
-) -> Result<String, AllocError> {
+) {
     let (names, length) = (names_in(image), length_of(image));
     let (table, offset, file_size) = (it.table, it.offset, it.file_size);
-    let why = match part {
-        BadImage::ProgramHeader => {
-            format!(in alloc;
-                "its {PROGRAM_HEADER} bytes are not all inside the file, which has {length} bytes; e_phoff is 0x{table:x}"
-            )?
-        }
-        BadImage::Contents => {
-            format!(in alloc;
-                "p_offset 0x{offset:x} + p_filesz 0x{file_size:x} is past the end of the file, which has 0x{length:x} bytes"
-            )?
-        }
-        _ => of_numbers(alloc, scheme, names, part, it)?,
-    };
     let (segment, number) = (names.segment, it.number);
-    format!(in alloc; "{segment} {number}: {why}")
+    write!(text, "{segment} {number}: ");
+    match part {
+        BadImage::ProgramHeader => write!(
+            text,
+            "its {PROGRAM_HEADER} bytes are not all inside the file, which has {length} bytes; e_phoff is 0x{table:x}"
+        ),
+        BadImage::Contents => write!(
+            text,
+            "p_offset 0x{offset:x} + p_filesz 0x{file_size:x} is past the end of the file, which has 0x{length:x} bytes"
+        ),
+        _ => put_numbers(text, scheme, names, part, it),
+    }
 }
 
 /// Returns which check an image fails in an address space of `scheme`, the first by which a start is refused; in which program header or
@@ -171,9 +168,11 @@ pub fn explain_image(
     let Some(fault) = image_fault(scheme, image) else {
         return Ok(None);
     };
-    let text = match fault.segment {
-        Some(segment) => of_segment(alloc, scheme, image, fault.part, &segment)?,
-        None => of_whole(alloc, image, fault.part)?,
-    };
+    let mut text = Text::new(alloc);
+    match fault.segment {
+        Some(segment) => put_segment(&mut text, scheme, image, fault.part, &segment),
+        None => put_whole(&mut text, image, fault.part),
+    }
+    let text = text.finish()?;
     Ok(Some(text))
 }

@@ -8,6 +8,7 @@ mod field_forms;
 mod image_texts;
 mod limit_texts;
 mod near_words;
+mod quotes;
 mod segment_forms;
 
 pub use counted::field_names;

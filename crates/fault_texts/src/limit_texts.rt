@@ -21,27 +21,15 @@ use script_reader::{
     Draft, Row, index_at, number_at, policy_at, read_values, scheme_at, signed_at,
 };
 use std::alloc::{AllocError, Global};
+use text_builder::Text;
 
-/// A value that is outside its limits.
-#[derive(Drop)]
-struct Outside {
-    /// The number of its field after the word, from 0; `None`: the line as a whole is at fault.
-    place: Option<usize>,
-    /// Which value it is, and its limits.
-    text: String,
-}
-
-impl Outside {
-    fn at(place: usize, text: String) -> Outside {
-        Outside {
-            place: Some(place),
-            text,
-        }
-    }
-
-    fn of_line(text: String) -> Outside {
-        Outside { place: None, text }
-    }
+/// Where a value is that is outside its limits.
+#[derive(Clone, Copy)]
+enum Outside {
+    /// In the field of this number after the word, from 0.
+    Field(usize),
+    /// The line as a whole is at fault.
+    Line,
 }
 
 /// The number of bytes at this place, 0 if there are none.
@@ -55,61 +43,60 @@ fn byte_count(values: &[FieldValue], place: usize) -> usize
 }
 
 /// The limits of `file LEN MODE HEX`.
-fn file_limits(alloc: Global, values: &[FieldValue]) -> Result<Option<Outside>, AllocError>
-    ensures { IfOk result (λ found. is_none found ≡ fits_file (words.file_of_values values.now)) }
+fn file_limits(text: &mut Text, values: &[FieldValue]) -> Option<Outside>
+    ensures { is_none result ≡ fits_file (words.file_of_values values.now) }
 {
     let length = index_at(values, 0);
     if length > LONGEST_FILE {
-        let text = format!(in alloc;
+        write!(
+            text,
             "LEN is {length}, and a file has at most {LONGEST_FILE} bytes"
-        )?;
-        return Ok(Some(Outside::at(0, text)));
+        );
+        return Some(Outside::Field(0));
     }
     let bytes = byte_count(values, 2);
     if bytes > length {
-        let text = format!(in alloc; "HEX has {bytes} bytes, more than LEN, which is {length}")?;
-        return Ok(Some(Outside::at(2, text)));
+        write!(
+            text,
+            "HEX has {bytes} bytes, more than LEN, which is {length}"
+        );
+        return Some(Outside::Field(2));
     }
-    Ok(None)
+    None
 }
 
-/// The limits of one size of `boot`: it is outside if `size` is below `least` or above `most`.
-fn size_limits(
-    alloc: Global,
-    name: &str,
-    size: usize,
-    least: usize,
-    most: usize,
-) -> Result<Option<String>, AllocError>
-    ensures { IfOk result (λ found. is_none found ≡ (nat_le least size && nat_le size most)) }
+/// The limits of one size of `boot`: whether `size` is from `least` to `most`; else that is told.
+fn is_size(text: &mut Text, name: &str, size: usize, least: usize, most: usize) -> bool
+    ensures { result ≡ (nat_le least size && nat_le size most) }
 {
     if least <= size && size <= most {
-        return Ok(None);
+        return true;
     }
-    let text = format!(in alloc; "{name} is from {least} to {most}, not {size}")?;
-    Ok(Some(text))
+    write!(text, "{name} is from {least} to {most}, not {size}");
+    false
 }
 
 /// Whether memory has the frames that the kernel takes at boot; the number of slots must be within its limits.
-fn frame_limits(alloc: Global, config: &Config) -> Result<Option<Outside>, AllocError>
+fn frame_limits(text: &mut Text, config: &Config) -> Option<Outside>
     requires { config.now.slots ≤ MOST_SLOTS }
-    ensures { IfOk result (λ found. is_none found ≡ nat_le (kernel_frames config.now.scheme config.now.frames config.now.slots) config.now.frames) }
+    ensures { is_none result ≡ nat_le (kernel_frames config.now.scheme config.now.frames config.now.slots) config.now.frames }
 {
     let (frames, slots) = (config.frames, config.slots);
     let needed = kernel_frames(config.scheme, frames, slots);
     if needed <= frames {
-        return Ok(None);
+        return None;
     }
     let word = if slots == 1 { "slot" } else { "slots" };
-    let text = format!(in alloc;
+    write!(
+        text,
         "this boot needs {needed} frames for {slots} {word}, and has {frames}"
-    )?;
-    Ok(Some(Outside::of_line(text)))
+    );
+    Some(Outside::Line)
 }
 
 /// The limits of `boot HARTS FRAMES SLOTS POLICY [SCHEME]`.
-fn boot_limits(alloc: Global, values: &[FieldValue]) -> Result<Option<Outside>, AllocError>
-    ensures { IfOk result (λ found. is_none found ≡ boots values.now) }
+fn boot_limits(text: &mut Text, values: &[FieldValue]) -> Option<Outside>
+    ensures { is_none result ≡ boots values.now }
 {
     let config = Config {
         harts: index_at(values, 0),
@@ -118,29 +105,28 @@ fn boot_limits(alloc: Global, values: &[FieldValue]) -> Result<Option<Outside>, 
         policy: policy_at(values, 3),
         scheme: scheme_at(values, 4),
     };
-    if let Some(text) = size_limits(alloc, "HARTS", config.harts, 1, MOST_HARTS)? {
-        return Ok(Some(Outside::at(0, text)));
+    if !is_size(text, "HARTS", config.harts, 1, MOST_HARTS) {
+        return Some(Outside::Field(0));
     }
-    if let Some(text) = size_limits(alloc, "FRAMES", config.frames, FEWEST_FRAMES, MOST_FRAMES)? {
-        return Ok(Some(Outside::at(1, text)));
+    if !is_size(text, "FRAMES", config.frames, FEWEST_FRAMES, MOST_FRAMES) {
+        return Some(Outside::Field(1));
     }
-    if let Some(text) = size_limits(alloc, "SLOTS", config.slots, 1, MOST_SLOTS)? {
-        return Ok(Some(Outside::at(2, text)));
+    if !is_size(text, "SLOTS", config.slots, 1, MOST_SLOTS) {
+        return Some(Outside::Field(2));
     }
-    frame_limits(alloc, &config)
+    frame_limits(text, &config)
 }
 
-/// What is said of an image or a file, `name`, by a number that was not declared, where `count` were.
-fn not_declared(
-    alloc: Global,
-    name: &str,
-    number: usize,
-    count: usize,
-) -> Result<String, AllocError> {
+/// Tells that an image or a file, `name`, of this number was not declared, where `count` were.
+fn put_not_declared(text: &mut Text, name: &str, number: usize, count: usize) {
     match count {
-        0 => format!(in alloc; "no {name} was declared"),
-        1 => format!(in alloc; "{name} {number} was not declared; there is only {name} 0"),
-        _ => format!(in alloc;
+        0 => write!(text, "no {name} was declared"),
+        1 => write!(
+            text,
+            "{name} {number} was not declared; there is only {name} 0"
+        ),
+        _ => write!(
+            text,
             "{name} {number} was not declared; there are {count}, numbered from 0"
         ),
     }
@@ -148,108 +134,106 @@ fn not_declared(
 
 /// The limits of `start IMAGE` and `exec HART IMAGE`, whose IMAGE is at this place.
 fn image_limits(
-    alloc: Global,
+    text: &mut Text,
     draft: &Draft,
     values: &[FieldValue],
     place: usize,
-) -> Result<Option<Outside>, AllocError>
-    ensures { IfOk result (λ found. is_none found ≡ words.has_image draft.now (words.number_at values.now place)) }
+) -> Option<Outside>
+    ensures { is_none result ≡ words.has_image draft.now (words.number_at values.now place) }
 {
     let image = index_at(values, place);
     if draft.has_image(image) {
-        return Ok(None);
+        return None;
     }
-    let text = not_declared(alloc, "image", image, draft.images().len())?;
-    Ok(Some(Outside::at(place, text)))
+    put_not_declared(text, "image", image, draft.images().len());
+    Some(Outside::Field(place))
 }
 
 /// The limits of a width of `load` and `store`.
-fn width_limits(alloc: Global, values: &[FieldValue]) -> Result<Option<Outside>, AllocError>
-    ensures { IfOk result (λ found. is_none found ≡ is_width (words.number_at values.now 2)) }
+fn width_limits(text: &mut Text, values: &[FieldValue]) -> Option<Outside>
+    ensures { is_none result ≡ is_width (words.number_at values.now 2) }
 {
     let width = number_at(values, 2);
     if is_width(width) {
-        return Ok(None);
+        return None;
     }
-    let text = format!(in alloc; "WIDTH is 1, 2, 4 or 8, not {width}")?;
-    Ok(Some(Outside::at(2, text)))
+    write!(text, "WIDTH is 1, 2, 4 or 8, not {width}");
+    Some(Outside::Field(2))
 }
 
 /// The limits of COUNT, in `copyin HART ADDRESS COUNT` and `show FILE OFFSET COUNT`.
-fn count_limits(alloc: Global, values: &[FieldValue]) -> Result<Option<Outside>, AllocError>
-    ensures { IfOk result (λ found. is_none found ≡ nat_le (words.number_at values.now 2) LONGEST_COPY) }
+fn count_limits(text: &mut Text, values: &[FieldValue]) -> Option<Outside>
+    ensures { is_none result ≡ nat_le (words.number_at values.now 2) LONGEST_COPY }
 {
     let count = index_at(values, 2);
     if count <= LONGEST_COPY {
-        return Ok(None);
+        return None;
     }
-    let text = format!(in alloc; "COUNT is {count}, and may be at most {LONGEST_COPY}")?;
-    Ok(Some(Outside::at(2, text)))
+    write!(text, "COUNT is {count}, and may be at most {LONGEST_COPY}");
+    Some(Outside::Field(2))
 }
 
 /// The limits of `copyout HART ADDRESS HEX`.
-fn copied_limits(alloc: Global, values: &[FieldValue]) -> Result<Option<Outside>, AllocError>
-    ensures { IfOk result (λ found. is_none found ≡ nat_le (length (words.bytes_at values.now 2)) LONGEST_COPY) }
+fn copied_limits(text: &mut Text, values: &[FieldValue]) -> Option<Outside>
+    ensures { is_none result ≡ nat_le (length (words.bytes_at values.now 2)) LONGEST_COPY }
 {
     let count = byte_count(values, 2);
     if count <= LONGEST_COPY {
-        return Ok(None);
+        return None;
     }
-    let text = format!(in alloc; "HEX has {count} bytes, and may have at most {LONGEST_COPY}")?;
-    Ok(Some(Outside::at(2, text)))
+    write!(
+        text,
+        "HEX has {count} bytes, and may have at most {LONGEST_COPY}"
+    );
+    Some(Outside::Field(2))
 }
 
 /// The limits of `exit HART STATUS`.
-fn status_limits(alloc: Global, values: &[FieldValue]) -> Result<Option<Outside>, AllocError>
-    ensures { IfOk result (λ found. is_none found ≡ words.is_status (words.signed_at values.now 1)) }
+fn status_limits(text: &mut Text, values: &[FieldValue]) -> Option<Outside>
+    ensures { is_none result ≡ words.is_status (words.signed_at values.now 1) }
 {
     let status = signed_at(values, 1);
     if i32::try_from(status).is_ok() {
-        return Ok(None);
+        return None;
     }
     let (least, most) = (i32::MIN, i32::MAX);
-    let text = format!(in alloc; "STATUS is from {least} to {most}, not {status}")?;
-    Ok(Some(Outside::at(1, text)))
+    write!(text, "STATUS is from {least} to {most}, not {status}");
+    Some(Outside::Field(1))
 }
 
 /// The limits of `show FILE OFFSET COUNT`.
-fn show_limits(
-    alloc: Global,
-    draft: &Draft,
-    values: &[FieldValue],
-) -> Result<Option<Outside>, AllocError>
-    ensures { IfOk result (λ found. is_none found ≡ (words.has_file draft.now (words.number_at values.now 0)
-        && nat_le (words.number_at values.now 2) LONGEST_COPY)) }
+fn show_limits(text: &mut Text, draft: &Draft, values: &[FieldValue]) -> Option<Outside>
+    ensures { is_none result ≡ (words.has_file draft.now (words.number_at values.now 0) && nat_le (words.number_at values.now 2) LONGEST_COPY) }
 {
     let file = index_at(values, 0);
     if !draft.has_file(file) {
-        let text = not_declared(alloc, "file", file, draft.files().len())?;
-        return Ok(Some(Outside::at(0, text)));
+        put_not_declared(text, "file", file, draft.files().len());
+        return Some(Outside::Field(0));
     }
-    count_limits(alloc, values)
+    count_limits(text, values)
 }
 
-/// The value of a line that is outside its limits, by the line's word.
+/// The value of a line that is outside its limits, by the line's word; which limits these are is told.
 fn first_outside(
-    alloc: Global,
+    text: &mut Text,
     draft: &Draft,
     word: Keyword,
     values: &[FieldValue],
-) -> Result<Option<Outside>, AllocError>
-    ensures { words.item_of draft.now word values.now ≡ Err Cause.Limits → IfOk result IsSome }
+) -> Option<Outside>
+    ensures { words.item_of draft.now word values.now ≡ Err Cause.Limits → IsSome result }
 {
     match word {
-        Keyword::File => file_limits(alloc, values),
-        Keyword::Boot => boot_limits(alloc, values),
-        Keyword::Start => image_limits(alloc, draft, values, 0),
-        Keyword::Exec => image_limits(alloc, draft, values, 1),
-        Keyword::Load => width_limits(alloc, values),
-        Keyword::Store => width_limits(alloc, values),
-        Keyword::CopyIn => count_limits(alloc, values),
-        Keyword::CopyOut => copied_limits(alloc, values),
-        Keyword::Exit => status_limits(alloc, values),
-        Keyword::Show => show_limits(alloc, draft, values),
-        _ => Ok(None),
+        Keyword::File => file_limits(text, values),
+        Keyword::Boot => boot_limits(text, values),
+        Keyword::Start => image_limits(text, draft, values, 0),
+        Keyword::Exec => image_limits(text, draft, values, 1),
+        Keyword::Load => width_limits(text, values),
+        Keyword::Store => width_limits(text, values),
+        Keyword::CopyIn => count_limits(text, values),
+        Keyword::CopyOut => copied_limits(text, values),
+        Keyword::Exit => status_limits(text, values),
+        Keyword::Show => show_limits(text, draft, values),
+        _ => None,
     }
 }
 
@@ -271,22 +255,23 @@ pub fn outside_limits(
     let Ok(values) = read_values(alloc, row, fields)? else {
         return Ok(None);
     };
-    match first_outside(alloc, draft, row.word, values.as_slice())? {
-        Some(outside) => Ok(Some(placed(line, outside))),
+    let mut text = Text::new(alloc);
+    match first_outside(&mut text, draft, row.word, values.as_slice()) {
+        Some(outside) => Ok(Some(placed(line, outside, text.finish()?))),
         None => Ok(None),
     }
 }
 
 /// The mistake of a value that is outside its limits, with the column of its field.
-fn placed(line: &[u8], outside: Outside) -> Mistake
+fn placed(line: &[u8], outside: Outside, text: String) -> Mistake
     ensures { IsOfLine line.now result }
 {
-    match outside.place {
-        Some(place) => match field_at(line, place.saturating_add(1)) {
-            Some(field) => Mistake::at(field.column, outside.text),
-            None => Mistake::of_line(outside.text),
+    match outside {
+        Outside::Field(place) => match field_at(line, place.saturating_add(1)) {
+            Some(field) => Mistake::at(field.column, text),
+            None => Mistake::of_line(text),
         },
-        None => Mistake::of_line(outside.text),
+        Outside::Line => Mistake::of_line(text),
     }
 }
 
@@ -298,49 +283,52 @@ pub fn no_room(alloc: Global, draft: &Draft, word: Keyword) -> Result<Option<Mis
     ensures found { IfOk result (λ m. is_none m ≡ has_room_for draft.now word) }
     ensures column { IfOk result (λ m. IfSome m (λ m. m.column ≡ None)) }
 {
-    let full = match word {
-        Keyword::File => files_full(alloc, draft)?,
-        Keyword::Image => images_full(alloc, draft)?,
-        Keyword::Elf => images_full(alloc, draft)?,
-        Keyword::Boot => None,
-        _ => lines_full(alloc, draft)?,
+    let mut text = Text::new(alloc);
+    let has_room = match word {
+        Keyword::File => has_room_for_files(&mut text, draft),
+        Keyword::Image => has_room_for_images(&mut text, draft),
+        Keyword::Elf => has_room_for_images(&mut text, draft),
+        Keyword::Boot => true,
+        _ => has_room_for_lines(&mut text, draft),
     };
-    match full {
-        Some(text) => Ok(Some(Mistake::of_line(text))),
-        None => Ok(None),
+    if has_room {
+        return Ok(None);
     }
+    Ok(Some(Mistake::of_line(text.finish()?)))
 }
 
-fn files_full(alloc: Global, draft: &Draft) -> Result<Option<String>, AllocError>
-    ensures { IfOk result (λ full. is_none full ≡ has_room_for draft.now Keyword.File) }
+fn has_room_for_files(text: &mut Text, draft: &Draft) -> bool
+    ensures { result ≡ has_room_for draft.now Keyword.File }
 {
     if draft.files().len() < MOST_FILES {
-        return Ok(None);
+        return true;
     }
-    let text = format!(in alloc; "a script declares at most {MOST_FILES} files")?;
-    Ok(Some(text))
+    write!(text, "a script declares at most {MOST_FILES} files");
+    false
 }
 
-fn images_full(alloc: Global, draft: &Draft) -> Result<Option<String>, AllocError>
-    ensures { IfOk result (λ full. is_none full ≡ has_room_for draft.now Keyword.Image) }
+fn has_room_for_images(text: &mut Text, draft: &Draft) -> bool
+    ensures { result ≡ has_room_for draft.now Keyword.Image }
 {
     if draft.images().len() < MOST_IMAGES {
-        return Ok(None);
+        return true;
     }
-    let text = format!(in alloc;
+    write!(
+        text,
         "a script declares at most {MOST_IMAGES} images, by \"image\" and \"elf\" together"
-    )?;
-    Ok(Some(text))
+    );
+    false
 }
 
-fn lines_full(alloc: Global, draft: &Draft) -> Result<Option<String>, AllocError>
-    ensures { IfOk result (λ full. is_none full ≡ nat_lt (length (draft.now).commands) MOST_COMMANDS) }
+fn has_room_for_lines(text: &mut Text, draft: &Draft) -> bool
+    ensures { result ≡ nat_lt (length (draft.now).commands) MOST_COMMANDS }
 {
     if draft.has_room(&Item::Command(Command::Audit)) {
-        return Ok(None);
+        return true;
     }
-    let text = format!(in alloc;
+    write!(
+        text,
         "a script has at most {MOST_COMMANDS} lines after \"boot\", empty lines and comments not counted"
-    )?;
-    Ok(Some(text))
+    );
+    false
 }

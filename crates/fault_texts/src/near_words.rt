@@ -6,11 +6,13 @@ ghost use Rattle.script_language.specs.Lines.{fields_of};
 ghost use Rattle.fault_texts.specs.Mistakes.{IsOfLine};
 ghost use Rattle.fault_texts.specs.Unknown.{is_unknown};
 
-use line_fields::{Mistake, field_at, quoted};
+use crate::quotes::put_quoted;
+use line_fields::{Mistake, field_at};
 use script_reader::Row;
 use std::alloc::{AllocError, Global};
 use std::str;
 use strsim::osa_distance;
+use text_builder::Text;
 
 /// The most letters of a field for which a near word is looked for: no longer field is near to one.
 const LONGEST_NEAR: usize = 16;
@@ -72,21 +74,29 @@ fn is_question(field: &[u8]) -> bool {
     false
 }
 
-/// What would be right in place of a first field that is no word of scripts.
-fn advice(alloc: Global, field: &[u8]) -> Result<String, AllocError> {
-    if Row::find_for_threads(field).is_some() {
-        return String::from_str(alloc, "it is a word of files for \"xv6vm threads\"");
-    }
-    if is_question(field) {
-        let text = "it asks about the machine, which \"xv6lab show\" and \"xv6lab repl\" answer";
-        return String::from_str(alloc, text);
-    }
-    match nearest_word(alloc, field)? {
-        Some(word) => {
-            let word = quoted(alloc, word)?;
-            format!(in alloc; "did you mean {word}?")
+/// Tells which word a first field may be meant for that is no word of scripts.
+fn put_nearest(text: &mut Text, field: &[u8]) {
+    match nearest_word(text.allocator(), field) {
+        Ok(Some(word)) => {
+            text.push_str("did you mean ");
+            put_quoted(text, word);
+            text.push_str("?");
         }
-        None => String::from_str(alloc, "docs/SCRIPTS.md lists the words"),
+        Ok(None) => text.push_str("docs/SCRIPTS.md lists the words"),
+        Err(_) => text.note(Err(AllocError)),
+    }
+}
+
+/// Tells what would be right in place of a first field that is no word of scripts.
+fn put_advice(text: &mut Text, field: &[u8]) {
+    if Row::find_for_threads(field).is_some() {
+        text.push_str("it is a word of files for \"xv6vm threads\"");
+    } else if is_question(field) {
+        text.push_str(
+            "it asks about the machine, which \"xv6lab show\" and \"xv6lab repl\" answer",
+        );
+    } else {
+        put_nearest(text, field);
     }
 }
 
@@ -104,7 +114,10 @@ pub fn unknown_word(alloc: Global, line: &[u8]) -> Result<Option<Mistake>, Alloc
     if Row::find(word.bytes).is_some() {
         return Ok(None);
     }
-    let (quote, advice) = (quoted(alloc, word.bytes)?, advice(alloc, word.bytes)?);
-    let text = format!(in alloc; "no line begins with {quote}; {advice}")?;
-    Ok(Some(Mistake::at(word.column, text)))
+    let mut text = Text::new(alloc);
+    text.push_str("no line begins with ");
+    put_quoted(&mut text, word.bytes);
+    text.push_str("; ");
+    put_advice(&mut text, word.bytes);
+    Ok(Some(Mistake::at(word.column, text.finish()?)))
 }

@@ -1,13 +1,14 @@
-// `wrong_segment`: what is wrong with a field that is no segment, `VADDR:MEMSZ:FLAGS:HEX`, and in which of its parts.
+// `put_segment`: what is wrong with a field that is no segment, `VADDR:MEMSZ:FLAGS:HEX`, and in which of its parts.
 
-ghost use Rattle.std.specs.Prelude.{◌≤◌, length, IfOk, IfSome};
+ghost use Rattle.std.specs.Prelude.{◌≤◌, length, IfSome, Some};
 ghost use Rattle.line_fields.specs.Columns.{IsPart};
-ghost use Rattle.fault_texts.specs.Mistakes.{IsOfField};
+ghost use Rattle.fault_texts.specs.Mistakes.{IsFrom};
 
-use crate::field_forms::wrong_hex;
-use line_fields::{Mistake, Place, quoted, wrong_number};
+use crate::field_forms::put_hex;
+use crate::quotes::{put_number, put_quoted};
+use line_fields::Place;
 use script_reader::{first_piece, number};
-use std::alloc::{AllocError, Global};
+use text_builder::Text;
 
 /// What FLAGS may be.
 const FLAGS: &str = "FLAGS are letters of r, w and x, each at most once, or - for none";
@@ -56,83 +57,81 @@ fn part_at<'a>(field: Place<'a>, number: usize) -> Place<'a>
     }
 }
 
-/// What is wrong with VADDR or MEMSZ, if it is no number.
-fn wrong_part(alloc: Global, name: &str, part: Place<'_>) -> Result<Option<Mistake>, AllocError>
-    ensures { IfOk result (λ m. IfSome m (λ m. IsOfField part.entry.column part.entry.bytes.now m)) }
+/// Puts what is wrong with VADDR or MEMSZ, if it is no number, and returns the column.
+fn put_part(text: &mut Text, name: &str, part: Place<'_>) -> Option<usize>
+    ensures { IfSome result (λ column. IsFrom part.entry.column (length part.entry.bytes.now) (Some column)) }
 {
     if number(part.bytes).is_some() {
-        return Ok(None);
+        return None;
     }
-    let text = wrong_number(alloc, part.bytes)?;
-    let text = format!(in alloc; "{name}: {text}")?;
-    Ok(Some(Mistake::at(part.column, text)))
+    text.push_str(name);
+    put_number(text, part.bytes);
+    Some(part.column)
 }
 
-/// What is wrong with a letter of FLAGS, if it is none, or was there before.
-fn wrong_letter(alloc: Global, letter: u8, before: &[u8]) -> Result<Option<String>, AllocError> {
-    let quote = quoted(alloc, &[letter])?;
-    if !matches!(letter, b'r' | b'w' | b'x') {
-        return Ok(Some(format!(in alloc; "{quote} is no right: {FLAGS}")?));
-    }
-    if before.contains(&letter) {
-        return Ok(Some(format!(in alloc; "{quote} is there twice: {FLAGS}")?));
-    }
-    Ok(None)
+/// Puts what is wrong with a letter of FLAGS, if it is none, or was there before; returns whether it is.
+fn put_letter(text: &mut Text, letter: u8, before: &[u8]) -> bool {
+    let wrong = if !matches!(letter, b'r' | b'w' | b'x') {
+        " is no right: "
+    } else if before.contains(&letter) {
+        " is there twice: "
+    } else {
+        return false;
+    };
+    put_quoted(text, &[letter]);
+    text.push_str(wrong);
+    text.push_str(FLAGS);
+    true
 }
 
-/// What is wrong with FLAGS, if they are none.
-fn wrong_flags(alloc: Global, part: Place<'_>) -> Result<Option<Mistake>, AllocError>
-    ensures { IfOk result (λ m. IfSome m (λ m. IsOfField part.entry.column part.entry.bytes.now m)) }
+/// Puts what is wrong with FLAGS, if they are none, and returns the column.
+fn put_flags(text: &mut Text, part: Place<'_>) -> Option<usize>
+    ensures { IfSome result (λ column. IsFrom part.entry.column (length part.entry.bytes.now) (Some column)) }
 {
     let flags = part.bytes;
     if flags.is_empty() {
-        let text = format!(in alloc; "FLAGS are empty: {FLAGS}")?;
-        return Ok(Some(Mistake::at(part.column, text)));
+        text.push_str("FLAGS are empty: ");
+        text.push_str(FLAGS);
+        return Some(part.column);
     }
     if matches!(flags, b"-") {
-        return Ok(None);
+        return None;
     }
     'letters: for (place, letter) in flags.iter().enumerate() {
         let (before, _) = flags.split_at(place);
-        if let Some(text) = wrong_letter(alloc, *letter, before)? {
-            return Ok(Some(Mistake::at(part.column.saturating_add(place), text)));
+        if put_letter(text, *letter, before) {
+            return Some(part.column.saturating_add(place));
         }
     }
-    Ok(None)
+    None
 }
 
-/// What is wrong with a field that has not four parts.
-fn wrong_parts(alloc: Global, field: Place<'_>, parts: usize) -> Result<Mistake, AllocError>
-    ensures { IfOk result (λ m. IsOfField field.entry.column field.entry.bytes.now m) }
-{
-    let quote = quoted(alloc, field.bytes)?;
+/// Puts what is wrong with a field that has not four parts.
+fn put_parts(text: &mut Text, field: &[u8], parts: usize) {
     let word = if parts == 1 { "part" } else { "parts" };
-    let text = format!(in alloc;
-        "a segment is VADDR:MEMSZ:FLAGS:HEX, and {quote} has {parts} {word}"
-    )?;
-    Ok(Mistake::at(field.column, text))
+    text.push_str("a segment is VADDR:MEMSZ:FLAGS:HEX, and ");
+    put_quoted(text, field);
+    write!(text, " has {parts} {word}");
 }
 
-/// Returns what is wrong with a field that is no segment: that it has not four parts, or what is wrong with its first part at
-/// fault, the last if the others are right.
-///
-/// # Errors
-/// `AllocError`: host memory was refused.
-pub fn wrong_segment(alloc: Global, field: Place<'_>) -> Result<Mistake, AllocError>
-    ensures { IfOk result (λ m. IsOfField field.entry.column field.entry.bytes.now m) }
+/// Puts what is wrong with a field that is no segment: that it has not four parts, or what is wrong with its first part at fault, the last
+/// if the others are right. Returns the column.
+pub fn put_segment(text: &mut Text, field: Place<'_>) -> usize
+    ensures { IsFrom field.entry.column (length field.entry.bytes.now) (Some result) }
 {
     let parts = part_count(field.bytes);
     if parts != 4 {
-        return wrong_parts(alloc, field, parts);
+        put_parts(text, field.bytes, parts);
+        return field.column;
     }
-    if let Some(mistake) = wrong_part(alloc, "VADDR", part_at(field, 0))? {
-        return Ok(mistake);
+    if let Some(column) = put_part(text, "VADDR: ", part_at(field, 0)) {
+        return column;
     }
-    if let Some(mistake) = wrong_part(alloc, "MEMSZ", part_at(field, 1))? {
-        return Ok(mistake);
+    if let Some(column) = put_part(text, "MEMSZ: ", part_at(field, 1)) {
+        return column;
     }
-    if let Some(mistake) = wrong_flags(alloc, part_at(field, 2))? {
-        return Ok(mistake);
+    if let Some(column) = put_flags(text, part_at(field, 2)) {
+        return column;
     }
-    wrong_hex(alloc, part_at(field, 3))
+    put_hex(text, part_at(field, 3))
 }

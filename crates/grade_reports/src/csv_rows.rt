@@ -30,78 +30,111 @@ fn row_of(alloc: Global, fields: &ByteRecord) -> Result<Vec<u8>, AllocError> {
     }
 }
 
+/// The fields of a row so far.
+#[derive(Drop)]
+struct Row {
+    alloc: Global,
+    fields: ByteRecord,
+    /// Whether the host had memory for each field.
+    is_whole: bool,
+}
+
+impl Row {
+    /// Returns a row without fields.
+    fn new(alloc: Global) -> Row {
+        Row {
+            alloc,
+            fields: ByteRecord::new(alloc),
+            is_whole: true,
+        }
+    }
+
+    /// Adds a field.
+    fn push(&mut self, field: &str) {
+        match self.fields.push_field(field.as_bytes()) {
+            Ok(()) => {}
+            Err(_) => self.is_whole = false,
+        }
+    }
+
+    /// Adds a field that was put together.
+    fn push_made(&mut self, field: Result<String, AllocError>) {
+        match field {
+            Ok(field) => self.push(field.as_str()),
+            Err(_) => self.is_whole = false,
+        }
+    }
+
+    /// Adds a field with a text that others wrote. A spreadsheet may run one that begins with `=`, `+`, `-`, `@`, a tab or a carriage return: it
+    /// gets `'` before it.
+    fn push_text(&mut self, text: &str) {
+        match text.as_bytes() {
+            [b'=' | b'+' | b'-' | b'@' | b'\t' | b'\r', ..] => {
+                self.push_made(format!(in self.alloc; "'{text}"));
+            }
+            _ => self.push(text),
+        }
+    }
+
+    /// Adds a field with a number.
+    fn push_number(&mut self, number: usize) {
+        self.push_made(format!(in self.alloc; "{number}"));
+    }
+
+    /// Adds the fields with what was kept of the handout, and with the blanks.
+    fn push_counts(&mut self, grade: &FileGrade) {
+        let counts = [
+            grade.lines(),
+            grade.kept,
+            grade.changed,
+            grade.missing,
+            grade.added,
+            grade.blanks.len(),
+            grade.right,
+        ];
+        'counts: for count in counts.as_slice() {
+            self.push_number(*count);
+        }
+    }
+
+    /// Adds the fields of a graded file, in the order of the names; `notes`: what is to be said of it.
+    fn push_grade(&mut self, grade: &FileGrade, notes: &str) {
+        self.push_text(grade.file.as_str());
+        self.push_text(match &grade.id {
+            Some(id) => id.as_str(),
+            None => "",
+        });
+        self.push(grade.standing.name());
+        self.push_counts(grade);
+        match grade.first_wrong() {
+            Some(blank) => self.push_number(blank.line),
+            None => self.push(""),
+        }
+        self.push_text(notes);
+    }
+
+    /// Returns the row, with its line feed.
+    ///
+    /// # Errors
+    /// `AllocError`: the host is out of memory, or was for a field.
+    fn finish(self) -> Result<Vec<u8>, AllocError> {
+        if self.is_whole {
+            row_of(self.alloc, &self.fields)
+        } else {
+            Err(AllocError)
+        }
+    }
+}
+
 /// Returns a row of a list of students, with its line feed: an id, and the path of a file. Both are as they are: `students_of` reads the row.
 ///
 /// # Errors
 /// `AllocError`: the host is out of memory.
 pub fn student_row(alloc: Global, id: &str, file: &str) -> Result<Vec<u8>, AllocError> {
-    let mut fields = ByteRecord::new(alloc);
-    fields.push_field(id.as_bytes())?;
-    fields.push_field(file.as_bytes())?;
-    row_of(alloc, &fields)
-}
-
-/// Adds a field with a text. A spreadsheet may run one that begins with `=`, `+`, `-`, `@`, a tab or a carriage return: it gets `'` before it.
-fn push_text(alloc: Global, fields: &mut ByteRecord, text: &str) -> Result<(), AllocError> {
-    match text.as_bytes() {
-        [b'=' | b'+' | b'-' | b'@' | b'\t' | b'\r', ..] => {
-            fields.push_field(format!(in alloc; "'{text}")?.as_bytes())
-        }
-        bytes => fields.push_field(bytes),
-    }
-}
-
-/// Adds a field with a number.
-fn push_number(alloc: Global, fields: &mut ByteRecord, number: usize) -> Result<(), AllocError> {
-    fields.push_field(format!(in alloc; "{number}")?.as_bytes())
-}
-
-/// Adds the fields with what was kept of the handout, and with the blanks.
-fn push_counts(
-    alloc: Global,
-    fields: &mut ByteRecord,
-    grade: &FileGrade,
-) -> Result<(), AllocError> {
-    let counts = [
-        grade.lines(),
-        grade.kept,
-        grade.changed,
-        grade.missing,
-        grade.added,
-        grade.blanks.len(),
-        grade.right,
-    ];
-    'counts: for count in counts.as_slice() {
-        push_number(alloc, fields, *count)?;
-    }
-    Ok(())
-}
-
-/// Adds the fields with whose file it is, and whether it could be read.
-fn push_names(alloc: Global, fields: &mut ByteRecord, grade: &FileGrade) -> Result<(), AllocError> {
-    let id = match &grade.id {
-        Some(id) => id.as_str(),
-        None => "",
-    };
-    push_text(alloc, fields, grade.file.as_str())?;
-    push_text(alloc, fields, id)?;
-    fields.push_field(grade.standing.name().as_bytes())
-}
-
-/// Adds the field with the number of the first wrong line, which is empty if there is none.
-fn push_wrong(alloc: Global, fields: &mut ByteRecord, grade: &FileGrade) -> Result<(), AllocError> {
-    match grade.first_wrong() {
-        Some(blank) => push_number(alloc, fields, blank.line),
-        None => fields.push_field(b""),
-    }
-}
-
-/// Adds the fields of a graded file, in the order of the names.
-fn push_all(alloc: Global, fields: &mut ByteRecord, grade: &FileGrade) -> Result<(), AllocError> {
-    push_names(alloc, fields, grade)?;
-    push_counts(alloc, fields, grade)?;
-    push_wrong(alloc, fields, grade)?;
-    push_text(alloc, fields, notes_of(alloc, grade)?.as_str())
+    let mut row = Row::new(alloc);
+    row.push(id);
+    row.push(file);
+    row.finish()
 }
 
 /// Returns a graded file as a row, with its line feed.
@@ -109,7 +142,8 @@ fn push_all(alloc: Global, fields: &mut ByteRecord, grade: &FileGrade) -> Result
 /// # Errors
 /// `AllocError`: the host is out of memory.
 pub fn csv_row(alloc: Global, grade: &FileGrade) -> Result<Vec<u8>, AllocError> {
-    let mut fields = ByteRecord::new(alloc);
-    push_all(alloc, &mut fields, grade)?;
-    row_of(alloc, &fields)
+    let notes = notes_of(alloc, grade)?;
+    let mut row = Row::new(alloc);
+    row.push_grade(grade, notes.as_str());
+    row.finish()
 }

@@ -7,6 +7,7 @@ use crate::line_notes::LineNotes;
 use crate::reasons::{Reason, put_reason, reason_of, word_of};
 use handouts::{Asked, BlankMark, Grade, Line, Mark, grade_lines};
 use std::alloc::{AllocError, Global};
+use text_builder::Text;
 
 /// Whether a student's file could be read, and as what.
 #[derive(Clone, Copy)]
@@ -109,9 +110,9 @@ fn words_of(
     let Some(reason) = reason else {
         return Ok(None);
     };
-    let mut text = String::new(alloc);
-    put_reason(&mut text, word_of(bare), &reason)?;
-    Ok(Some(text))
+    let mut text = Text::new(alloc);
+    put_reason(&mut text, word_of(bare), &reason);
+    Ok(Some(text.finish()?))
 }
 
 /// Returns the text of a blank.

@@ -2,7 +2,7 @@
 // the forms of all answers to a line, in words.
 
 use crate::joints::joint;
-use std::alloc::AllocError;
+use text_builder::Text;
 
 /// A part of an answer after its word, and what it is called.
 #[derive(Clone, Copy)]
@@ -321,15 +321,6 @@ fn are_decimal(bytes: &[u8]) -> bool {
     true
 }
 
-/// Whether a text is a number in decimal digits, without zeros before it.
-fn is_decimal(text: &str) -> bool {
-    match text.as_bytes() {
-        [b'0'] => true,
-        [b'1'..=b'9', rest @ ..] => are_decimal(rest),
-        _ => false,
-    }
-}
-
 /// Whether a byte is a hexadecimal digit in lower case.
 fn is_hex(digit: u8) -> bool {
     matches!(digit, b'0'..=b'9' | b'a'..=b'f')
@@ -345,13 +336,26 @@ fn are_hex(bytes: &[u8]) -> bool {
     true
 }
 
-/// Whether a text is `0x` and a number in hexadecimal digits, without zeros before it.
-fn is_hexadecimal(text: &str) -> bool {
-    match text.as_bytes() {
-        [b'0', b'x', b'0'] => true,
-        [b'0', b'x', b'0', ..] => false,
-        [b'0', b'x', digits @ ..] => !digits.is_empty() && are_hex(digits),
-        _ => false,
+/// Whether digits are those of a number; `zeros`: there may be some before it.
+fn is_number(digits: &[u8], zeros: bool) -> bool {
+    match digits {
+        [] => false,
+        [b'0', _, ..] => zeros,
+        _ => true,
+    }
+}
+
+/// Whether a text is a number in decimal digits; `zeros`: there may be some before it.
+fn is_decimal(text: &str, zeros: bool) -> bool {
+    let digits = text.as_bytes();
+    is_number(digits, zeros) && are_decimal(digits)
+}
+
+/// Whether a text is `0x` and a number in hexadecimal digits; `zeros`: there may be some before it.
+fn is_hexadecimal(text: &str, zeros: bool) -> bool {
+    match text.strip_prefix("0x") {
+        Some(digits) => is_number(digits.as_bytes(), zeros) && are_hex(digits.as_bytes()),
+        None => false,
     }
 }
 
@@ -372,31 +376,15 @@ fn is_bytes(text: &str) -> bool {
 }
 
 impl Part {
-    /// Whether a text has the form of this part but for zeros before its number.
-    pub fn fits_with_zeros(self, text: &str) -> bool {
-        match self {
-            Part::Decimal(_) => !text.is_empty() && are_decimal(text.as_bytes()),
-            Part::Hexadecimal(_) => match text.as_bytes() {
-                [b'0', b'x', digits @ ..] => !digits.is_empty() && are_hex(digits),
-                _ => false,
-            },
-            Part::Signed(_) => {
-                let digits = text.strip_prefix('-').unwrap_or(text);
-                !digits.is_empty() && are_decimal(digits.as_bytes())
-            }
-            Part::Text(_) | Part::Name(_) | Part::Bytes(_) => self.fits(text),
-        }
-    }
-
-    /// Whether a text has the form of this part.
-    pub fn fits(self, text: &str) -> bool {
+    /// Whether a text has the form of this part; `zeros`: there may be some before its number.
+    pub fn fits(self, text: &str, zeros: bool) -> bool {
         match self {
             Part::Text(own) => text == own,
-            Part::Decimal(_) => is_decimal(text),
-            Part::Hexadecimal(_) => is_hexadecimal(text),
+            Part::Decimal(_) => is_decimal(text, zeros),
+            Part::Hexadecimal(_) => is_hexadecimal(text, zeros),
             Part::Signed(_) => match text.strip_prefix('-') {
-                Some(digits) => digits != "0" && is_decimal(digits),
-                None => is_decimal(text),
+                Some(digits) => (zeros || digits != "0") && is_decimal(digits, zeros),
+                None => is_decimal(text, zeros),
             },
             Part::Name(_) => is_name(text),
             Part::Bytes(_) => is_bytes(text),
@@ -428,30 +416,26 @@ impl Part {
 }
 
 /// Appends the form of an answer, by its word and that of its line, as `fault N`. After the name of a refusal there may be more.
-fn put_form(text: &mut String, line: &str, word: &str) -> Result<(), AllocError> {
-    let parts = match form_of(line, word, 0) {
-        Some(parts) => parts,
-        None => &[],
-    };
-    text.push_str(word)?;
-    'parts: for part in parts {
-        let sign = part.sign();
-        write!(text, " {sign}")?;
+fn put_form(text: &mut Text, line: &str, word: &str) {
+    text.push_str(word);
+    if let Some(parts) = form_of(line, word, 0) {
+        'parts: for part in parts {
+            text.push_str(" ");
+            text.push_str(part.sign());
+        }
     }
-    text.push_str(if word == "refused" { " .." } else { "" })
+    if word == "refused" {
+        text.push_str(" ..");
+    }
 }
 
 /// Appends the forms of the answers to a line, by its word.
-///
-/// # Errors
-/// `AllocError`: the host is out of memory.
-pub fn put_forms(text: &mut String, line: &str) -> Result<(), AllocError> {
+pub fn put_forms(text: &mut Text, line: &str) {
     let words = answers_of(line);
     'words: for (number, word) in words.iter().enumerate() {
-        let before = joint(number, words.len(), " or ");
-        write!(text, "{before}`")?;
-        put_form(text, line, word)?;
-        text.push_str("`")?;
+        text.push_str(joint(number, words.len(), " or "));
+        text.push_str("`");
+        put_form(text, line, word);
+        text.push_str("`");
     }
-    Ok(())
 }

@@ -7,11 +7,6 @@ fn is_end(byte: u8) -> bool {
     byte == b'\n' || byte == b'\r'
 }
 
-/// Whether a line is a comment.
-fn is_comment(line: &[u8]) -> bool {
-    line.starts_with(b"#")
-}
-
 /// Returns the digits that a text begins with.
 fn digits_of(text: &[u8]) -> &[u8] {
     'bytes: for (place, byte) in text.iter().enumerate() {
@@ -22,28 +17,34 @@ fn digits_of(text: &[u8]) -> &[u8] {
     text
 }
 
-/// Returns the number of the lab that a comment names, as `# Lab 4, copy-on-write fork.` does.
+/// Returns the number of the lab that a comment names, as `# Lab 4, copy-on-write fork.` does; there may be more behind the comment.
 fn lab_in(comment: &[u8]) -> Option<u32> {
     let rest = comment.strip_prefix(b"# Lab ")?;
-    std::str::from_utf8(digits_of(rest))
-        .ok()?
-        .parse::<u32>()
-        .ok()
+    match std::str::from_utf8(digits_of(rest)) {
+        Ok(digits) => digits.parse::<u32>().ok(),
+        Err(_) => None,
+    }
 }
 
 /// Returns the number of the lab that the first comment of a script names.
 fn lab_of(text: &[u8]) -> Option<u32> {
-    'lines: for line in without_mark(text).split(|byte| is_end(*byte)) {
-        let line = line.trim_ascii();
-        if is_comment(line) {
-            return lab_in(line);
+    let text = without_mark(text);
+    // Whether there is nothing but blanks before the byte in its line.
+    let mut is_first = true;
+    'bytes: for place in 0..text.len() {
+        let byte = text[place];
+        if is_first && byte == b'#' {
+            return lab_in(&text[place..]);
         }
+        is_first = is_end(byte) || (is_first && byte.is_ascii_whitespace());
     }
     None
 }
 
 /// Returns the number of the lab that a file names in its first comment, if the handout names another in its own.
 pub fn other_lab(handout: &[u8], file: &[u8]) -> Option<u32> {
-    let (own, other) = (lab_of(handout)?, lab_of(file)?);
-    if own == other { None } else { Some(other) }
+    match (lab_of(handout), lab_of(file)) {
+        (Some(own), Some(other)) if own != other => Some(other),
+        _ => None,
+    }
 }

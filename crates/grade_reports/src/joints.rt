@@ -1,6 +1,6 @@
 // How texts are joined: `joint`, what stands before one of some; `put_note` and `put_joint`, notes one after the other.
 
-use std::alloc::AllocError;
+use text_builder::Text;
 
 /// Returns what stands before one of some texts, by its number from 0 and how many they are; `last` stands before the last.
 pub fn joint(number: usize, count: usize, last: &'static str) -> &'static str {
@@ -14,12 +14,14 @@ pub fn joint(number: usize, count: usize, last: &'static str) -> &'static str {
 }
 
 /// Appends what stands between two notes, unless there is none yet.
-pub fn put_joint(notes: &mut String) -> Result<(), AllocError> {
-    notes.push_str(if notes.is_empty() { "" } else { "; " })
+pub fn put_joint(notes: &mut Text) {
+    if !notes.is_empty() {
+        notes.push_str("; ");
+    }
 }
 
 /// Appends a note; `; ` stands before all but the first.
-pub fn put_note(notes: &mut String, note: &str) -> Result<(), AllocError> {
-    put_joint(notes)?;
-    notes.push_str(note)
+pub fn put_note(notes: &mut Text, note: &str) {
+    put_joint(notes);
+    notes.push_str(note);
 }

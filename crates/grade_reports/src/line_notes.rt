@@ -1,8 +1,9 @@
 // `LineNotes`, a struct: which lines of a handout a student's file has changed, left out or answered more than once; `put_lines`: that in words.
 
-use crate::joints::{joint, put_joint};
+use crate::joints::{joint, put_note};
 use handouts::{Answer, Asked, Found, Line, is_kept};
 use std::alloc::{AllocError, Global};
+use text_builder::Text;
 
 /// The most numbers of lines that are named; of more it is said how many there are.
 const MOST_NUMBERS: usize = 8;
@@ -290,61 +291,50 @@ impl LineNotes {
     }
 }
 
-/// Appends numbers of lines, as `lines 3, 4 and 7`.
-fn put_numbers(text: &mut String, numbers: &[usize]) -> Result<(), AllocError> {
-    text.push_str(if numbers.len() == 1 {
-        "line "
-    } else {
-        "lines "
-    })?;
+/// Appends numbers of lines, as `3, 4 and 7`.
+fn put_numbers(text: &mut Text, numbers: &[usize]) {
     let shown = numbers.get(..MOST_NUMBERS).unwrap_or(numbers);
     let more = numbers.len().saturating_sub(shown.len());
+    let last = if more == 0 { " and " } else { ", " };
     'numbers: for (place, number) in shown.iter().enumerate() {
-        let before = joint(place, shown.len(), if more == 0 { " and " } else { ", " });
-        write!(text, "{before}{number}")?;
+        let before = joint(place, shown.len(), last);
+        write!(text, "{before}{number}");
     }
     if more > 0 {
-        write!(text, " and {more} more")?;
+        write!(text, " and {more} more");
     }
-    Ok(())
 }
 
 /// Appends what is so of some lines; nothing if there are none. `; ` stands between two such.
-fn put_some(
-    text: &mut String,
-    numbers: &[usize],
-    one: &str,
-    several: &str,
-) -> Result<(), AllocError> {
-    if numbers.is_empty() {
-        return Ok(());
-    }
-    put_joint(text)?;
-    put_numbers(text, numbers)?;
-    text.push_str(if numbers.len() == 1 { one } else { several })
+fn put_some(text: &mut Text, numbers: &[usize], one: &str, several: &str) {
+    let (before, after) = match numbers.len() {
+        0 => return,
+        1 => ("line ", one),
+        _ => ("lines ", several),
+    };
+    put_note(text, before);
+    put_numbers(text, numbers);
+    text.push_str(after);
 }
 
 /// Appends which lines a file has changed, left out or answered more than once, in words.
-///
-/// # Errors
-/// `AllocError`: the host is out of memory.
-pub fn put_lines(text: &mut String, notes: &LineNotes) -> Result<(), AllocError> {
+pub fn put_lines(text: &mut Text, notes: &LineNotes) {
     put_some(
         text,
         notes.changed.as_slice(),
         " is changed",
         " are changed",
-    )?;
+    );
     put_some(
         text,
         notes.missing.as_slice(),
         " is missing",
         " are missing",
-    )?;
+    );
     put_some(
         text,
         notes.again.as_slice(),
         " is there more than once, and the first counts",
         " are there more than once, and the first counts",
-    )
+    );
 }

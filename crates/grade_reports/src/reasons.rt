@@ -7,6 +7,7 @@ use crate::visible::{is_unseen, put_quoted};
 use handouts::{Answer, Asked, BlankMark, Found, Line, Mark};
 use script_reader::first_field;
 use std::alloc::{AllocError, Global};
+use text_builder::Text;
 
 /// What an answer has too much, if without that it has the form of one.
 #[derive(Clone, Copy)]
@@ -55,14 +56,17 @@ pub fn word_of(line: &[u8]) -> &str {
 /// Returns an answer with one blank between its fields.
 fn joined(alloc: Global, answer: &[u8]) -> Result<Vec<u8>, AllocError> {
     let mut text = Vec::new(alloc);
-    'fields: for field in answer.split(|byte| *byte == b' ' || *byte == b'\t') {
-        if field.is_empty() {
+    let mut is_between = false;
+    'bytes: for byte in answer {
+        if *byte == b' ' || *byte == b'\t' {
+            is_between = !text.is_empty();
             continue;
         }
-        if !text.is_empty() {
+        if is_between {
             text.push(b' ')?;
         }
-        text.extend_from_slice(field)?;
+        text.push(*byte)?;
+        is_between = false;
     }
     Ok(text)
 }
@@ -96,15 +100,6 @@ fn part_at(rest: &str, place: usize) -> Option<&str> {
     rest.split(' ').nth(place)
 }
 
-/// Whether a text has the form of a part; `zeros`: there may be some before its number.
-fn is_fit(part: Part, text: &str, zeros: bool) -> bool {
-    if zeros {
-        part.fits_with_zeros(text)
-    } else {
-        part.fits(text)
-    }
-}
-
 /// Whether what comes after an answer's word has this form; `zeros`: there may be some before its numbers.
 fn fits(parts: &[Part], rest: Option<&str>, zeros: bool) -> bool {
     let Some(rest) = rest else {
@@ -115,7 +110,7 @@ fn fits(parts: &[Part], rest: Option<&str>, zeros: bool) -> bool {
     }
     'parts: for place in 0..parts.len() {
         match part_at(rest, place) {
-            Some(text) if !is_fit(parts[place], text, zeros) => return false,
+            Some(text) if !parts[place].fits(text, zeros) => return false,
             _ => {}
         }
     }
@@ -345,16 +340,16 @@ fn is_plural(names: &[&'static str]) -> bool {
 }
 
 /// Appends names, as `a, b and c`, and that they are wrong.
-fn put_names(text: &mut String, names: &[&'static str]) -> Result<(), AllocError> {
+fn put_names(text: &mut Text, names: &[&'static str]) {
     'names: for (number, name) in names.iter().enumerate() {
-        text.push_str(joint(number, names.len(), " and "))?;
-        text.push_str(name)?;
+        text.push_str(joint(number, names.len(), " and "));
+        text.push_str(name);
     }
     text.push_str(if is_plural(names) {
         " are wrong"
     } else {
         " is wrong"
-    })
+    });
 }
 
 /// Returns what to do about what an answer has too much; nothing if that is not known.
@@ -371,23 +366,15 @@ fn advice_on(excess: Option<Excess>) -> &'static str {
     }
 }
 
-/// Appends which forms the answers to a line have, by its word.
-fn put_wanted(text: &mut String, word: &str) -> Result<(), AllocError> {
-    write!(text, "an answer of {word} is ")?;
-    put_forms(text, word)
-}
-
 /// Appends which forms the answers to a line have, and what the student wrote, whose form is another; `word` is the line's.
-fn put_form(
-    text: &mut String,
-    word: &str,
-    given: &str,
-    excess: Option<Excess>,
-) -> Result<(), AllocError> {
-    put_wanted(text, word)?;
-    text.push_str(", not ")?;
-    put_quoted(text, given)?;
-    text.push_str(advice_on(excess))
+fn put_form(text: &mut Text, word: &str, given: &str, excess: Option<Excess>) {
+    text.push_str("an answer of ");
+    text.push_str(word);
+    text.push_str(" is ");
+    put_forms(text, word);
+    text.push_str(", not ");
+    put_quoted(text, given);
+    text.push_str(advice_on(excess));
 }
 
 /// Returns the words of a reason that are the same for all answers; none if they are not.
@@ -402,11 +389,9 @@ fn fixed_words(reason: &Reason) -> &'static str {
 }
 
 /// Appends why a blank is wrong, in words; `word` is its line's.
-///
-/// # Errors
-/// `AllocError`: the host is out of memory.
-pub fn put_reason(text: &mut String, word: &str, reason: &Reason) -> Result<(), AllocError> {
-    write!(text, "{word}: ")?;
+pub fn put_reason(text: &mut Text, word: &str, reason: &Reason) {
+    text.push_str(word);
+    text.push_str(": ");
     match reason {
         Reason::Form(given, excess) => put_form(text, word, given.as_str(), *excess),
         Reason::Parts(names) => put_names(text, names.as_slice()),

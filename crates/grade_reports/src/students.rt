@@ -8,6 +8,7 @@ use csv::{ByteRecord, Reader, ReaderBuilder};
 use handouts::without_mark;
 use memchr::memchr;
 use std::alloc::{AllocError, Global};
+use text_builder::Text;
 
 /// A student of a list.
 #[derive(Drop)]
@@ -298,13 +299,10 @@ pub fn first_row(students: &[Student], id: &str) -> Option<usize> {
 }
 
 /// Appends a line that says that two rows of a list have one id.
-///
-/// # Errors
-/// `AllocError`: the host is out of memory.
-pub fn put_repeat(out: &mut String, first: usize, row: usize, id: &str) -> Result<(), AllocError> {
+pub fn put_repeat(out: &mut Text, first: usize, row: usize, id: &str) {
     let id = Visible(id);
     writeln!(
         out,
         "rows {first} and {row} have the id {id}; give each student another"
-    )
+    );
 }

@@ -5,28 +5,10 @@ use crate::joints::{put_joint, put_note};
 use crate::line_notes::put_lines;
 use crate::visible::Visible;
 use std::alloc::{AllocError, Global};
+use text_builder::Text;
 
 /// The blanks between two columns.
 const GAP: usize = 2;
-
-/// The cells of a line.
-#[derive(Drop)]
-struct Cells {
-    file: String,
-    lines: String,
-    blanks: String,
-    notes: String,
-}
-
-/// Appends a text and, before the next column, blanks up to its width.
-fn put_cell(out: &mut String, text: &str, width: usize) -> Result<(), AllocError> {
-    out.push_str(text)?;
-    let length = text.chars().count();
-    for _ in length..width.saturating_add(GAP) {
-        out.push(' ')?;
-    }
-    Ok(())
-}
 
 /// Returns the note on whether a file could be read to the handout's last line, if it needs no other text than its own; empty if there is none.
 fn standing_note(grade: &FileGrade) -> Option<&str> {
@@ -41,72 +23,52 @@ fn standing_note(grade: &FileGrade) -> Option<&str> {
 }
 
 /// Appends that a file could not be read to the handout's last line, if so, and why, or what to do.
-fn put_standing(notes: &mut String, grade: &FileGrade) -> Result<(), AllocError> {
+fn put_standing(notes: &mut Text, grade: &FileGrade) {
     match standing_note(grade) {
-        Some("") => Ok(()),
+        Some("") => {}
         Some(note) => put_note(notes, note),
         None => {
-            let (name, why) = (grade.standing.name(), grade.why.as_str());
-            put_joint(notes)?;
-            write!(notes, "{name}: {why}")
+            put_note(notes, grade.standing.name());
+            notes.push_str(": ");
+            notes.push_str(grade.why.as_str());
         }
     }
 }
 
-/// Appends which student a file is for.
-fn put_other_id(notes: &mut String, id: &str) -> Result<(), AllocError> {
-    put_joint(notes)?;
-    write!(notes, "made for \"{id}\"")
-}
-
-/// Appends which lab a file is for.
-fn put_other_lab(notes: &mut String, lab: u32) -> Result<(), AllocError> {
-    put_joint(notes)?;
-    write!(notes, "made for lab {lab}")
-}
-
 /// Appends which student and which lab a file is for, if these are others than the handout's.
-fn put_others(notes: &mut String, grade: &FileGrade) -> Result<(), AllocError> {
+fn put_others(notes: &mut Text, grade: &FileGrade) {
     if let Some(id) = &grade.other_id {
-        put_other_id(notes, id.as_str())?;
+        put_note(notes, "made for \"");
+        notes.push_str(id.as_str());
+        notes.push_str("\"");
     }
     match grade.other_lab {
-        Some(lab) => put_other_lab(notes, lab),
+        Some(lab) => {
+            put_note(notes, "made for lab ");
+            write!(notes, "{lab}");
+        }
         None if grade.is_of_page => put_note(
             notes,
             "made from the page's script, whose numbers are others",
         ),
-        None => Ok(()),
+        None => {}
     }
 }
 
 /// Appends how many lines were added, if any were.
-fn put_added(notes: &mut String, added: usize) -> Result<(), AllocError> {
+fn put_added(notes: &mut Text, added: usize) {
     match added {
-        0 => Ok(()),
+        0 => {}
         1 => put_note(notes, "1 line added"),
         _ => {
-            put_joint(notes)?;
-            write!(notes, "{added} lines added")
+            put_joint(notes);
+            write!(notes, "{added} lines added");
         }
     }
 }
 
-/// Returns what is to be said of a file.
-pub fn notes_of(alloc: Global, grade: &FileGrade) -> Result<String, AllocError> {
-    let mut notes = String::new(alloc);
-    put_standing(&mut notes, grade)?;
-    put_others(&mut notes, grade)?;
-    put_added(&mut notes, grade.added)?;
-    if matches!(grade.standing, Standing::Whole | Standing::Truncated) {
-        put_lines(&mut notes, &grade.noted)?;
-        put_wrong(&mut notes, grade)?;
-    }
-    Ok(notes)
-}
-
 /// Appends where the first wrong blank is, and why it is wrong.
-fn put_wrong(notes: &mut String, grade: &FileGrade) -> Result<(), AllocError> {
+fn put_wrong(notes: &mut Text, grade: &FileGrade) {
     match grade.first_wrong() {
         Some(
             BlankText {
@@ -115,98 +77,108 @@ fn put_wrong(notes: &mut String, grade: &FileGrade) -> Result<(), AllocError> {
                 ..
             },
         ) => {
-            let reason = reason.as_str();
-            put_joint(notes)?;
-            write!(notes, "line {line}, {reason}")
+            put_joint(notes);
+            write!(notes, "line {line}, ");
+            notes.push_str(reason.as_str());
         }
-        _ => Ok(()),
+        _ => {}
     }
 }
 
-/// Returns a text that others wrote, as it is shown.
-fn shown(alloc: Global, text: &str) -> Result<String, AllocError> {
-    let text = Visible(text);
-    format!(in alloc; "{text}")
+/// Appends what is to be said of a file.
+pub(crate) fn put_notes(notes: &mut Text, grade: &FileGrade) {
+    put_standing(notes, grade);
+    put_others(notes, grade);
+    put_added(notes, grade.added);
+    if matches!(grade.standing, Standing::Whole | Standing::Truncated) {
+        put_lines(notes, &grade.noted);
+        put_wrong(notes, grade);
+    }
 }
 
-/// Returns how many of some there are, as `3/4`.
-fn share_of(alloc: Global, some: usize, all: usize) -> Result<String, AllocError> {
-    format!(in alloc; "{some}/{all}")
+/// Returns what is to be said of a file.
+pub fn notes_of(alloc: Global, grade: &FileGrade) -> Result<String, AllocError> {
+    let mut notes = Text::new(alloc);
+    put_notes(&mut notes, grade);
+    notes.finish()
 }
 
-/// Returns the cells of a file. Students chose its name and what its head names.
-fn cells_of(alloc: Global, grade: &FileGrade) -> Result<Cells, AllocError> {
-    let file = match &grade.id {
+/// Appends how many of some there are, as `3/4`, and a tab.
+fn put_share(cells: &mut Text, some: usize, all: usize) {
+    write!(cells, "{some}/{all}\t");
+}
+
+/// Appends the cells of a file, a tab between two, on a line of their own: students chose its name and what its head names, and `Visible` has
+/// no tab and no line end.
+fn put_cells(cells: &mut Text, grade: &FileGrade) {
+    let file = Visible(match &grade.id {
         Some(id) => id.as_str(),
         None => grade.file.as_str(),
-    };
-    let notes = notes_of(alloc, grade)?;
-    Ok(Cells {
-        file: shown(alloc, file)?,
-        lines: share_of(alloc, grade.kept, grade.lines())?,
-        blanks: share_of(alloc, grade.right, grade.blanks.len())?,
-        notes: shown(alloc, notes.as_str())?,
-    })
-}
-
-/// Returns the cells of the head.
-fn head_of(alloc: Global, has_ids: bool) -> Result<Cells, AllocError> {
-    Ok(Cells {
-        file: String::from_str(alloc, if has_ids { "id" } else { "file" })?,
-        lines: String::from_str(alloc, "lines")?,
-        blanks: String::from_str(alloc, "blanks")?,
-        notes: String::from_str(alloc, "first wrong blank")?,
-    })
-}
-
-/// Returns a width with room for a text too.
-fn wider(width: usize, text: &str) -> usize {
-    width.max(text.chars().count())
+    });
+    write!(cells, "\n{file}\t");
+    put_share(cells, grade.kept, grade.lines());
+    put_share(cells, grade.right, grade.blanks.len());
+    match notes_of(cells.allocator(), grade) {
+        Ok(notes) => {
+            let notes = Visible(notes.as_str());
+            write!(cells, "{notes}");
+        }
+        Err(error) => cells.note(Err(error)),
+    }
 }
 
 /// How wide the columns before the last are.
-#[derive(Clone, Copy)]
-struct Widths {
-    file: usize,
-    lines: usize,
-    blanks: usize,
-}
+type Widths = [usize; 3];
 
-/// Returns widths with room for each line.
-fn widths_of(rows: &[Cells]) -> Widths {
-    let (mut file, mut lines, mut blanks) = (0usize, 0usize, 0usize);
-    'widths: for row in rows {
-        file = wider(file, row.file.as_str());
-        lines = wider(lines, row.lines.as_str());
-        blanks = wider(blanks, row.blanks.as_str());
-    }
-    Widths {
-        file,
-        lines,
-        blanks,
+/// Makes columns wide enough for a line of cells.
+fn widen(widths: &mut Widths, line: &str) {
+    'cells: for (column, cell) in line.split('\t').enumerate() {
+        if let Some(width) = widths.get_mut(column) {
+            *width = (*width).max(cell.chars().count());
+        }
     }
 }
 
-/// Appends a line in columns; one without notes ends behind its blanks.
-fn put_row(out: &mut String, row: &Cells, widths: Widths) -> Result<(), AllocError> {
-    put_cell(out, row.file.as_str(), widths.file)?;
-    put_cell(out, row.lines.as_str(), widths.lines)?;
-    if row.notes.is_empty() {
-        out.push_str(row.blanks.as_str())?;
-    } else {
-        put_cell(out, row.blanks.as_str(), widths.blanks)?;
-        out.push_str(row.notes.as_str())?;
+/// Returns widths with room for each line of cells.
+fn widths_of(cells: &str) -> Widths {
+    let mut widths: Widths = [0; 3];
+    'lines: for line in cells.split('\n') {
+        widen(&mut widths, line);
     }
-    out.push_str("\n")
+    widths
 }
 
-/// Appends lines in columns.
-fn put_cells(out: &mut String, rows: &[Cells]) -> Result<(), AllocError> {
-    let widths = widths_of(rows);
-    'rows: for row in rows {
-        put_row(out, row, widths)?;
+/// Appends so many blanks.
+fn put_blanks(out: &mut Text, count: usize) {
+    for _ in 0..count {
+        out.push_str(" ");
     }
-    Ok(())
+}
+
+/// Appends a line of cells in columns; one whose last cell is empty ends behind the cell before.
+fn put_row(out: &mut Text, line: &str, widths: Widths) {
+    let mut blanks = 0usize;
+    'cells: for (column, cell) in line.split('\t').enumerate() {
+        if !cell.is_empty() {
+            put_blanks(out, blanks);
+            out.push_str(cell);
+            blanks = 0;
+        }
+        let width = match widths.get(column) {
+            Some(width) => width.saturating_add(GAP),
+            None => 0,
+        };
+        blanks = blanks.saturating_add(width.saturating_sub(cell.chars().count()));
+    }
+    out.push_str("\n");
+}
+
+/// Appends lines of cells in columns.
+fn put_rows(out: &mut Text, cells: &str) {
+    let widths = widths_of(cells);
+    'lines: for line in cells.split('\n') {
+        put_row(out, line, widths);
+    }
 }
 
 /// Whether a file was graded for a student.
@@ -220,17 +192,17 @@ fn has_id(grades: &[FileGrade]) -> bool {
 }
 
 /// Appends a line for each file, below a head.
-///
-/// # Errors
-/// `AllocError`: the host is out of memory.
-pub fn put_table(alloc: Global, out: &mut String, grades: &[FileGrade]) -> Result<(), AllocError> {
-    let has_ids = has_id(grades);
-    let mut rows = Vec::new(alloc);
-    rows.push(head_of(alloc, has_ids)?)?;
+pub fn put_table(alloc: Global, out: &mut Text, grades: &[FileGrade]) {
+    let mut cells = Text::new(alloc);
+    cells.push_str(if has_id(grades) { "id" } else { "file" });
+    cells.push_str("\tlines\tblanks\tfirst wrong blank");
     'grades: for grade in grades {
-        rows.push(cells_of(alloc, grade)?)?;
+        put_cells(&mut cells, grade);
     }
-    put_cells(out, rows.as_slice())
+    match cells.finish() {
+        Ok(cells) => put_rows(out, cells.as_str()),
+        Err(error) => out.note(Err(error)),
+    }
 }
 
 /// What is counted of all files.
@@ -260,38 +232,29 @@ fn total_of(grades: &[FileGrade]) -> Total {
 }
 
 /// Appends a sum over a count, with two digits after the point, rounded down; without these if the quotient is whole and `is_short`.
-fn put_mean(out: &mut String, sum: u64, count: u64, is_short: bool) -> Result<(), AllocError> {
+fn put_mean(out: &mut Text, sum: u64, count: u64, is_short: bool) {
     let hundredths = match sum.saturating_mul(100).checked_div(count) {
         Some(hundredths) => hundredths,
         None => 0,
     };
     let (whole, part) = (hundredths / 100, hundredths % 100);
-    if is_short && part == 0 {
-        return write!(out, "{whole}");
+    write!(out, "{whole}");
+    if !is_short || part != 0 {
+        write!(out, ".{part:02}");
     }
-    let (tenths, last) = (part / 10, part % 10);
-    write!(out, "{whole}.{tenths}{last}")
-}
-
-/// Appends the mean of what is counted of some files.
-fn put_means(out: &mut String, total: Total) -> Result<(), AllocError> {
-    out.push_str(", mean ")?;
-    put_mean(out, total.right, total.files, false)?;
-    out.push_str(" of ")?;
-    put_mean(out, total.blanks, total.files, true)
 }
 
 /// Appends how many files there were, how many of them with full marks, and the mean.
-///
-/// # Errors
-/// `AllocError`: the host is out of memory.
-pub fn put_summary(out: &mut String, grades: &[FileGrade]) -> Result<(), AllocError> {
+pub fn put_summary(out: &mut Text, grades: &[FileGrade]) {
     let total = total_of(grades);
     let (files, full) = (total.files, total.full);
     let word = if files == 1 { "file" } else { "files" };
-    write!(out, "{files} {word}, {full} with full marks")?;
+    write!(out, "{files} {word}, {full} with full marks");
     if files > 0 {
-        put_means(out, total)?;
+        out.push_str(", mean ");
+        put_mean(out, total.right, files, false);
+        out.push_str(" of ");
+        put_mean(out, total.blanks, files, true);
     }
-    out.push_str("\n")
+    out.push_str("\n");
 }

@@ -1,7 +1,7 @@
 // `Visible`: a text that others wrote, as it is shown; `put_quoted`: such a text between quotes.
 
-use std::alloc::AllocError;
 use std::fmt;
+use text_builder::Text;
 
 /// The most characters of a text that is quoted whole.
 const LONGEST_QUOTE: usize = 60;
@@ -24,63 +24,62 @@ pub(crate) fn is_unseen(character: char) -> bool {
     }
 }
 
-/// Writes a character as it is shown.
-fn put_shown<W: fmt::Write>(f: &mut fmt::Formatter<W>, character: char) -> fmt::Result {
-    if is_unseen(character) {
-        let number = u32::from(character);
-        write!(f, "\\u{{{number:x}}}")
-    } else {
-        write!(f, "{character}")
+/// A character as it is shown.
+#[derive(Clone, Copy)]
+struct Shown(char);
+
+impl fmt::Display for Shown {
+    fn fmt<W: fmt::Write>(&self, f: &mut fmt::Formatter<W>) -> fmt::Result {
+        let character = self.0;
+        if is_unseen(character) {
+            let number = u32::from(character);
+            write!(f, "\\u{{{number:x}}}")
+        } else {
+            write!(f, "{character}")
+        }
     }
 }
 
 impl fmt::Display for Visible<'_> {
     fn fmt<W: fmt::Write>(&self, f: &mut fmt::Formatter<W>) -> fmt::Result {
         'characters: for character in self.0.chars() {
-            put_shown(f, character)?;
+            let shown = Shown(character);
+            write!(f, "{shown}")?;
         }
         Ok(())
     }
 }
 
 /// Appends a character as it is quoted.
-fn put_character(out: &mut String, character: char) -> Result<(), AllocError> {
+fn put_character(out: &mut Text, character: char) {
     match character {
         '"' => out.push_str("\\\""),
         '\\' => out.push_str("\\\\"),
-        other if is_unseen(other) => {
-            let number = u32::from(other);
-            write!(out, "\\u{{{number:x}}}")
+        other => {
+            let shown = Shown(other);
+            write!(out, "{shown}");
         }
-        other => out.push(other),
     }
 }
 
 /// Appends a character of a text of so many that is quoted, by its place there, or two dots for those that are left out.
-fn put_place(
-    out: &mut String,
-    place: usize,
-    count: usize,
-    character: char,
-) -> Result<(), AllocError> {
+fn put_place(out: &mut Text, place: usize, count: usize, character: char) {
     if count <= LONGEST_QUOTE
         || place < QUOTED_FIRST
         || place.saturating_add(QUOTED_LAST) >= count
     {
-        return put_character(out, character);
+        put_character(out, character);
+    } else if place == QUOTED_FIRST {
+        out.push_str("..");
     }
-    out.push_str(if place == QUOTED_FIRST { ".." } else { "" })
 }
 
 /// Appends a text between quotes; of one with more than 60 characters the first 40 and the last 12, and two dots between them.
-///
-/// # Errors
-/// `AllocError`: the host is out of memory.
-pub fn put_quoted(out: &mut String, text: &str) -> Result<(), AllocError> {
-    out.push('"')?;
+pub fn put_quoted(out: &mut Text, text: &str) {
+    out.push_str("\"");
     let count = text.chars().count();
     'characters: for (place, character) in text.chars().enumerate() {
-        put_place(out, place, count, character)?;
+        put_place(out, place, count, character);
     }
-    out.push('"')
+    out.push_str("\"");
 }

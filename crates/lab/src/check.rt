@@ -1,7 +1,6 @@
 // `CheckLines`: answers are compared with those that the lines expect, and files for threads are judged; and `BareLines`: lines are
 // printed without answers.
 
-ghost use Rattle.std.specs.Prelude.{◌≡◌, IfOk};
 ghost use Rattle.line_player.specs.Answers.{HasPlayed};
 ghost use Rattle.line_player.specs.PlayedLines.{Played};
 
@@ -10,7 +9,7 @@ use crate::lab::Reading;
 use crate::mistakes::{Place, tell_end, tell_refused};
 use crate::play::{Listener, each_line};
 use crate::run::tell_unexpected;
-use crate::screen::Screen;
+use crate::screen::{Screen, print, put_lossy};
 use crate::threads::{begins_for_threads, judge, read_rest};
 use grade_reports::{Reason, put_reason, reason_of_text, word_of};
 use handouts::split;
@@ -20,6 +19,7 @@ use quiz_answers::is_right;
 use std::alloc::{AllocError, Global};
 use std::fmt;
 use std::io::{BufReader, Read};
+use text_builder::Text;
 
 /// What is told of an expected answer that has the machine's values in another form.
 const OTHER_FORM: &str = "only the form differs: check compares answers letter by letter";
@@ -36,9 +36,9 @@ fn form_note(
     if !matches!(reason, Reason::Form(..)) {
         return Ok(None);
     }
-    let mut text = String::new(alloc);
-    put_reason(&mut text, word, &reason)?;
-    Ok(Some(text))
+    let mut text = Text::new(alloc);
+    put_reason(&mut text, word, &reason);
+    Ok(Some(text.finish()?))
 }
 
 /// How many files, answers and differences there were.
@@ -78,9 +78,7 @@ impl Tally {
     }
 
     /// Returns both together.
-    pub fn with(self, other: Tally) -> Tally
-        ensures refused { result.refused ≡ 0 → (self.refused ≡ 0) × (other.refused ≡ 0) }
-    {
+    pub fn with(self, other: Tally) -> Tally {
         Tally {
             files: self.files.saturating_add(other.files),
             answers: self.answers.saturating_add(other.answers),
@@ -164,18 +162,6 @@ impl<'a> CheckLines<'a> {
         explain_answer(self.alloc, player, before, line)
     }
 
-    /// Prints why an answer is no plain success, if it is none.
-    fn tell_why<S: Screen>(&self, screen: &mut S, note: Option<String>) -> Result<(), Fault>
-        ensures whole { IfOk result (λ _. S.whole screen.old → S.whole screen.new) }
-    {
-        match note {
-            Some(note) => screen.out(format!(in self.alloc;
-                "  why              {note}\n"
-            )?.as_str()),
-            None => Ok(()),
-        }
-    }
-
     /// Counts an answer that was expected, and prints the line if it is the first of its script that differs, with why its answer is
     /// no plain success. A line without an answer answers `nothing`.
     fn compare<S: Screen>(
@@ -186,29 +172,37 @@ impl<'a> CheckLines<'a> {
         expected: &[u8],
         answer: &[u8],
         note: Option<String>,
-    ) -> Result<(), Fault>
-        ensures whole { IfOk result (λ _. S.whole screen.old → S.whole screen.new) }
-    {
+    ) {
         self.tally.answers = self.tally.answers.saturating_add(1);
         if answer == expected {
-            return Ok(());
+            return;
         }
         self.tally.differ = self.tally.differ.saturating_add(1);
         if self.tally.differ > 1 {
-            return Ok(());
+            return;
         }
-        let line = String::from_utf8_lossy(self.alloc, line)?;
-        let line = line.as_str();
+        let mut text = Text::new(self.alloc);
         if expected == b"?".as_slice() {
-            return screen.out(format!(in self.alloc; "{place}: blank: {line}\n")?.as_str());
+            write!(&mut text, "{place}: blank: ");
+            put_lossy(&mut text, line);
+        } else {
+            write!(&mut text, "{place}: ");
+            put_lossy(&mut text, line);
+            text.push_str("\n  the file says    ");
+            put_lossy(&mut text, expected);
+            text.push_str("\n  the machine says ");
+            put_lossy(&mut text, answer);
+            put_why(&mut text, note);
         }
-        let expected = String::from_utf8_lossy(self.alloc, expected)?;
-        let answer = String::from_utf8_lossy(self.alloc, answer)?;
-        let (expected, answer) = (expected.as_str(), answer.as_str());
-        screen.out(format!(in self.alloc;
-            "{place}: {line}\n  the file says    {expected}\n  the machine says {answer}\n"
-        )?.as_str())?;
-        self.tell_why(screen, note)
+        text.push_str("\n");
+        print(screen, text)
+    }
+}
+
+/// Appends why an answer is no plain success, if it is none, on a line of its own.
+fn put_why(out: &mut Text, note: Option<String>) {
+    if let Some(note) = note {
+        write!(out, "\n  why              {note}");
     }
 }
 
@@ -238,9 +232,11 @@ impl Listener for CheckLines<'_> {
         };
         let note = self.note(player, &before, given.line, reply, expected)?;
         if reply == LineReply::Text {
-            return self.compare(screen, place, given.line, expected, player.answer(), note);
+            self.compare(screen, place, given.line, expected, player.answer(), note);
+        } else {
+            self.compare(screen, place, given.line, expected, b"nothing", note);
         }
-        self.compare(screen, place, given.line, expected, b"nothing", note)
+        Ok(())
     }
 
     fn end<S: Screen>(
@@ -249,7 +245,7 @@ impl Listener for CheckLines<'_> {
         player: &LinePlayer,
         lines: u64,
     ) -> Result<(), Fault> {
-        tell_end(self.alloc, screen, self.file, player, lines)
+        tell_end(screen, self.file, player, lines)
     }
 }
 
@@ -257,7 +253,7 @@ impl Reading for CheckLines<'_> {
     /// Compares the answers of a script; judges a file for threads, which expects none.
     ///
     /// # Errors
-    /// `Told`: the file is refused; that was told. `Read`: the reader failed. `Io`: printing failed. `Memory`: the host is out of memory.
+    /// `Told`: the file is refused; that was told. `Read`: the reader failed. `Memory`: the host is out of memory.
     fn read<R: Read + Drop, S: Screen>(
         &mut self,
         alloc: Global,
@@ -286,8 +282,9 @@ impl Listener for BareLines {
         _number: u64,
         line: &[u8],
     ) -> Result<(), Fault> {
-        screen.out_bytes(split(line).line)?;
-        screen.out("\n")
+        screen.out_bytes(split(line).line);
+        screen.out("\n");
+        Ok(())
     }
 
     fn end<S: Screen>(

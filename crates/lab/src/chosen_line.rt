@@ -1,11 +1,9 @@
 // `ChosenLine`: a struct, the line of a script that `--line` names, with the steps next to it.
 
-ghost use Rattle.std.specs.Prelude.{IfOk};
-
 use crate::fault::Fault;
 use crate::mistakes::Place;
 use crate::screen::Screen;
-use std::alloc::{AllocError, Global};
+use std::fmt;
 
 /// The line of a script that a command line names. A step is a line that has an answer.
 #[derive(Clone, Copy)]
@@ -46,31 +44,16 @@ impl ChosenLine {
         self.is_step || self.after.is_some()
     }
 
-    /// Where the steps next to the line are.
-    fn near(&self, alloc: Global) -> Result<String, AllocError> {
-        match (self.before, self.after) {
-            (Some(before), Some(after)) => {
-                format!(in alloc; "the steps next to it are on lines {before} and {after}")
-            }
-            (Some(before), None) => format!(in alloc; "the last step is on line {before}"),
-            (None, Some(after)) => format!(in alloc; "the first step is on line {after}"),
-            (None, None) => format!(in alloc; "the script has no step"),
-        }
-    }
-
     /// Tells that the line is no step, if that is so, and which steps are next to it; `lines` is how many lines were read.
     ///
     /// # Errors
-    /// `Told`: it is no step. `Io`: printing failed. `Memory`: the host is out of memory.
+    /// `Told`: it is no step.
     pub fn tell_missing<S: Screen>(
         &self,
-        alloc: Global,
         screen: &mut S,
         file: &str,
         lines: u64,
-    ) -> Result<(), Fault>
-        ensures whole { IfOk result (λ _. S.whole screen.old → S.whole screen.new) }
-    {
+    ) -> Result<(), Fault> {
         if self.is_step {
             return Ok(());
         }
@@ -84,9 +67,24 @@ impl ChosenLine {
         } else {
             "there is no such line"
         };
-        let near = self.near(alloc)?;
-        let near = near.as_str();
-        screen.err(format!(in alloc; "{place}: {what}; {near}\n")?.as_str())?;
-        Err(Fault::Told)
+        let near = Near(*self);
+        Err(Fault::told(screen, format_args!("{place}: {what}; {near}\n")))
+    }
+}
+
+/// Where the steps next to a line are, in words.
+#[derive(Clone, Copy)]
+struct Near(ChosenLine);
+
+impl fmt::Display for Near {
+    fn fmt<W: fmt::Write>(&self, f: &mut fmt::Formatter<W>) -> fmt::Result {
+        match (self.0.before, self.0.after) {
+            (Some(before), Some(after)) => {
+                write!(f, "the steps next to it are on lines {before} and {after}")
+            }
+            (Some(before), None) => write!(f, "the last step is on line {before}"),
+            (None, Some(after)) => write!(f, "the first step is on line {after}"),
+            (None, None) => write!(f, "the script has no step"),
+        }
     }
 }

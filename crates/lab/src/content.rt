@@ -1,7 +1,5 @@
 // `Content`: what was read of a file that is handed in; `FirstBytes` reads it.
 
-ghost use Rattle.std.specs.Prelude.{◌≡◌, IfOk};
-
 use crate::fault::Fault;
 use crate::lab::Reading;
 use crate::screen::Screen;
@@ -58,9 +56,7 @@ fn is_utf16(bytes: &[u8]) -> bool {
 
 impl Content {
     /// Returns what there is of a file that cannot be graded.
-    pub fn nothing(alloc: Global, standing: Standing, is_read: bool) -> Content
-        ensures { result.is_read ≡ is_read }
-    {
+    pub fn nothing(alloc: Global, standing: Standing, is_read: bool) -> Content {
         Content {
             standing,
             bytes: Vec::new(alloc),
@@ -89,9 +85,7 @@ impl Content {
     }
 
     /// Returns what there is of a file that is to be graded by the student whom it names, and names none.
-    pub fn unnamed(self, alloc: Global) -> Result<Content, AllocError>
-        ensures { IfOk result (λ c. c.is_read ≡ self.is_read) }
-    {
+    pub fn unnamed(self, alloc: Global) -> Result<Content, AllocError> {
         let has_lines = !student_lines(alloc, self.bytes.as_slice())?.is_empty();
         match self.standing {
             Standing::Whole if has_lines => {
@@ -102,9 +96,7 @@ impl Content {
     }
 
     /// Returns its lines, none if there are too many.
-    pub fn lines(&mut self, alloc: Global) -> Result<Vec<Line>, AllocError>
-        ensures { self.new.is_read ≡ self.old.is_read }
-    {
+    pub fn lines(&mut self, alloc: Global) -> Result<Vec<Line>, AllocError> {
         let lines = student_lines(alloc, self.bytes.as_slice())?;
         if lines.len() > MOST_LINES {
             self.standing = Standing::TooLong;

@@ -1,7 +1,6 @@
 // The machine of a script, drawn: `DrawLines` draws it after the last line; `KeptLines` keeps a script that is played to its end, of
 // which `PageLines` then writes a page to step through, on `Paper`.
 
-ghost use Rattle.std.specs.Prelude.{IfOk};
 ghost use Rattle.line_player.specs.Answers.{HasPlayed};
 ghost use Rattle.line_player.specs.PlayedLines.{Played};
 
@@ -16,6 +15,7 @@ use line_traces::{Ledger, trace_line};
 use pictures::{Page, PageHead, put_picture};
 use std::alloc::Global;
 use std::io::Write;
+use text_builder::Text;
 
 /// Draws the machine after the last line.
 #[derive(Drop)]
@@ -23,7 +23,7 @@ pub struct DrawLines<'a> {
     alloc: Global,
     file: &'a str,
     /// The picture (SVG), at the end.
-    pub text: String,
+    pub text: Text,
 }
 
 impl<'a> DrawLines<'a> {
@@ -32,7 +32,7 @@ impl<'a> DrawLines<'a> {
         DrawLines {
             alloc,
             file,
-            text: String::new(alloc),
+            text: Text::new(alloc),
         }
     }
 }
@@ -59,9 +59,9 @@ impl Listener for DrawLines<'_> {
         player: &LinePlayer,
         lines: u64,
     ) -> Result<(), Fault> {
-        tell_end(self.alloc, screen, self.file, player, lines)?;
+        tell_end(screen, self.file, player, lines)?;
         if let Some(machine) = player.machine() {
-            put_picture(&mut self.text, machine)?;
+            put_picture(&mut self.text, machine);
         }
         Ok(())
     }
@@ -118,9 +118,9 @@ impl Listener for KeptLines<'_> {
         player: &LinePlayer,
         lines: u64,
     ) -> Result<(), Fault> {
-        tell_end(self.alloc, screen, self.file, player, lines)?;
+        tell_end(screen, self.file, player, lines)?;
         match &self.chosen {
-            Some(chosen) => chosen.tell_missing(self.alloc, screen, self.file, lines),
+            Some(chosen) => chosen.tell_missing(screen, self.file, lines),
             None => Ok(()),
         }
     }
@@ -142,8 +142,6 @@ pub struct PageLines<'a, W> {
     paper: Paper<'a, W>,
     page: Page,
     ledger: Ledger,
-    /// What is written next.
-    text: String,
 }
 
 impl<'a, W: Write + Drop> PageLines<'a, W> {
@@ -154,35 +152,31 @@ impl<'a, W: Write + Drop> PageLines<'a, W> {
             paper,
             page: Page::new(alloc),
             ledger: Ledger::new(alloc),
-            text: String::new(alloc),
         }
     }
 
-    /// Writes what is to be written next.
-    fn flush<S: Screen>(&mut self, screen: &mut S) -> Result<(), Fault>
-        ensures whole { IfOk result (λ _. S.whole screen.old → S.whole screen.new) }
-    {
+    /// Writes what comes next on the page.
+    fn put<S: Screen>(&mut self, screen: &mut S, text: Text) -> Result<(), Fault> {
+        let text = text.finish()?;
         match &mut self.paper {
-            Paper::Screen => screen.out(self.text.as_str())?,
+            Paper::Screen => screen.out(text.as_str()),
             Paper::File(name, file) => {
-                if let Err(error) = file.write_all(self.text.as_bytes()) {
-                    return Err(Fault::File(String::from_str(self.alloc, name)?, error));
+                if let Err(error) = file.write_all(text.as_bytes()) {
+                    return Err(Fault::of_file(self.alloc, name, error));
                 }
             }
         }
-        self.text.clear();
         Ok(())
     }
 
     /// Writes the beginning of a page.
     ///
     /// # Errors
-    /// `File`, `Io`: writing failed. `Memory`: the host is out of memory.
-    pub fn begin<S: Screen>(&mut self, screen: &mut S, head: PageHead<'_>) -> Result<(), Fault>
-        ensures whole { IfOk result (λ _. S.whole screen.old → S.whole screen.new) }
-    {
-        Page::put_start(&mut self.text, head)?;
-        self.flush(screen)
+    /// `File`: writing failed. `Memory`: the host is out of memory.
+    pub fn begin<S: Screen>(&mut self, screen: &mut S, head: PageHead<'_>) -> Result<(), Fault> {
+        let mut text = Text::new(self.alloc);
+        Page::put_start(&mut text, head);
+        self.put(screen, text)
     }
 }
 
@@ -196,9 +190,9 @@ impl<W: Write + Drop> Listener for PageLines<'_, W> {
     ) -> Result<(), Fault> {
         let mut trace = trace_line(self.alloc, player, number, split(line).line)?;
         self.ledger.add(&mut trace, player.machine())?;
-        self.page
-            .put_step(&mut self.text, &trace, player.machine())?;
-        self.flush(screen)
+        let mut text = Text::new(self.alloc);
+        self.page.put_step(&mut text, &trace, player.machine());
+        self.put(screen, text)
     }
 
     fn end<S: Screen>(
@@ -207,7 +201,8 @@ impl<W: Write + Drop> Listener for PageLines<'_, W> {
         _player: &LinePlayer,
         _lines: u64,
     ) -> Result<(), Fault> {
-        Page::put_end(&mut self.text)?;
-        self.flush(screen)
+        let mut text = Text::new(self.alloc);
+        Page::put_end(&mut text);
+        self.put(screen, text)
     }
 }

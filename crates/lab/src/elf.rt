@@ -18,8 +18,8 @@ impl Reading for ElfLine<'_> {
     /// Prints `elf HEX`, or `elf -` for a file without a byte.
     ///
     /// # Errors
-    /// `Told`: the file has more bytes than an image may have; that was told. `Read`: the reader failed. `Io`: printing failed. `Memory`:
-    /// the host is out of memory.
+    /// `Told`: the file has more bytes than an image may have; that was told. `Read`: the reader failed. `Memory`: the host is
+    /// out of memory.
     fn read<R: Read + Drop, S: Screen>(
         &mut self,
         alloc: Global,
@@ -35,16 +35,20 @@ impl Reading for ElfLine<'_> {
         }
         if bytes.len() > LONGEST_IMAGE {
             let file = self.file;
-            screen.err(format!(in alloc;
-                "{file}: more than {LONGEST_IMAGE} bytes, which is the most that an image may have; strip the file\n"
-            )?.as_str())?;
-            return Err(Fault::Told);
+            return Err(Fault::told(
+                screen,
+                format_args!(
+                    "{file}: more than {LONGEST_IMAGE} bytes, which is the most that an image may have; strip the file\n"
+                ),
+            ));
         }
-        let mut line = hex::encode(alloc, bytes.as_slice())?;
-        if line.is_empty() {
-            line.push('-')?;
-        }
-        let text = line.as_str();
-        screen.out(format!(in alloc; "elf {text}\n")?.as_str())
+        let digits = hex::encode(alloc, bytes.as_slice())?;
+        let text = if digits.is_empty() {
+            "-"
+        } else {
+            digits.as_str()
+        };
+        screen.out(format_args!("elf {text}\n"));
+        Ok(())
     }
 }

@@ -1,6 +1,6 @@
 // `Fault` (enum): why the program ends early, with the text that it prints on standard error and its exit status.
 
-ghost use Rattle.std.specs.Prelude.{◌≤◌, IfOk};
+ghost use Rattle.std.specs.Prelude.{◌≤◌};
 
 use crate::screen::Screen;
 use command_words::{Misuse, Usage};
@@ -58,20 +58,27 @@ impl Fault {
         }
     }
 
+    /// Returns that a file cannot be opened, read or written.
+    pub fn of_file(alloc: Global, name: &str, error: io::Error) -> Fault {
+        match String::from_str(alloc, name) {
+            Ok(name) => Fault::File(name, error),
+            Err(_) => Fault::Memory,
+        }
+    }
+
+    /// Prints on standard error why the program ends, and returns that this was told.
+    pub fn told<S: Screen, D: fmt::Display + Drop>(screen: &mut S, text: D) -> Fault {
+        screen.err(text);
+        Fault::Told
+    }
+
     /// Tells why the program ends, unless it was told.
-    ///
-    /// # Errors
-    /// `Io`: printing failed. `Memory`: the host is out of memory.
-    pub fn tell<S: Screen>(&self, alloc: Global, screen: &mut S) -> Result<(), Fault>
-        ensures whole { IfOk result (λ _. S.whole screen.old → S.whole screen.new) }
-    {
+    pub fn tell<S: Screen>(&self, screen: &mut S) {
         match self {
-            Fault::Told => Ok(()),
-            Fault::CommandLine(usage) if usage.is_asked() => {
-                screen.out(format!(in alloc; "{usage}")?.as_str())
-            }
-            Fault::CommandLine(usage) => screen.err(format!(in alloc; "{usage}")?.as_str()),
-            fault => screen.err(format!(in alloc; "{fault}\n")?.as_str()),
+            Fault::Told => {}
+            Fault::CommandLine(usage) if usage.is_asked() => { screen.out(format_args!("{usage}")) }
+            Fault::CommandLine(usage) => screen.err(format_args!("{usage}")),
+            fault => screen.err(format_args!("{fault}\n")),
         }
     }
 }
@@ -146,12 +153,5 @@ impl From<Misuse> for Fault {
             Misuse::Word(text) => Fault::Word(text),
             Misuse::Memory => Fault::Memory,
         }
-    }
-}
-
-/// A text in memory is written as JSON: no other error than of memory can come.
-impl From<serde_json::Error> for Fault {
-    fn from(_e: serde_json::Error) -> Fault {
-        Fault::Memory
     }
 }

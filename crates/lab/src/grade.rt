@@ -8,22 +8,15 @@ use crate::fault::Fault;
 use crate::mistakes::{Place, tell_end};
 use crate::plain::plain_line;
 use crate::play::played;
-use crate::screen::Screen;
+use crate::screen::{Screen, print_error, put_lossy};
 use grade_reports::Visible;
 use handouts::{Answer, Asked, Line, blank_count, lines_of};
 use line_player::{LinePlayer, LineReply};
 use std::alloc::Global;
+use text_builder::Text;
 
 /// The most lines that a handout may have that are neither empty nor comments.
 pub const LONGEST_HANDOUT: usize = 1000;
-
-/// Tells what is wrong with a handout, and returns `Told`.
-fn tell<S: Screen>(screen: &mut S, text: &str) -> Result<(), Fault>
-    ensures whole { IfOk result (λ _. S.whole screen.old → S.whole screen.new) }
-{
-    screen.err(text)?;
-    Err(Fault::Told)
-}
 
 /// Tells, and returns `Told`, if a handout has a blank at a line that has no answer, or another answer than the machine's.
 fn tell_answer<S: Screen>(
@@ -32,34 +25,29 @@ fn tell_answer<S: Screen>(
     place: Place<'_>,
     line: &Line,
     right: &[u8],
-) -> Result<(), Fault>
-    ensures whole { IfOk result (λ _. S.whole screen.old → S.whole screen.new) }
-{
+) -> Result<(), Fault> {
+    let mut text = Text::new(alloc);
     match &line.answer {
-        Answer::Blank if right.is_empty() => tell(
-            screen,
-            format!(in alloc; "{place}: a blank, and the line has no answer\n")?.as_str(),
-        ),
-        Answer::Given(given) if given.as_slice() != right => {
-            let given = String::from_utf8_lossy(alloc, given.as_slice())?;
-            let right = String::from_utf8_lossy(alloc, right)?;
-            let (given, right) = (given.as_str(), right.as_str());
-            tell(
-                screen,
-                format!(in alloc;
-                    "{place}: the handout has {given}, and the machine answers {right}\n"
-                )?.as_str(),
-            )
+        Answer::Blank if right.is_empty() => {
+            writeln!(&mut text, "{place}: a blank, and the line has no answer")
         }
-        _ => Ok(()),
+        Answer::Given(given) if given.as_slice() != right => {
+            write!(&mut text, "{place}: the handout has ");
+            put_lossy(&mut text, given.as_slice());
+            text.push_str(", and the machine answers ");
+            put_lossy(&mut text, right);
+            text.push_str("\n");
+        }
+        _ => return Ok(()),
     }
+    print_error(screen, text);
+    Err(Fault::Told)
 }
 
 /// Plays a line of a handout, and returns its answer; nothing if it has none.
 ///
 /// # Errors
-/// `Told`: the line is refused, or what the handout has after `=>` is faulty; that was told. `Memory`: the host is out of memory. `Io`:
-/// printing failed.
+/// `Told`: the line is refused, or what the handout has after `=>` is faulty; that was told. `Memory`: the host is out of memory.
 fn right_answer<S: Screen>(
     alloc: Global,
     screen: &mut S,
@@ -69,7 +57,6 @@ fn right_answer<S: Screen>(
 ) -> Result<Vec<u8>, Fault>
     requires played { (s : Played) × HasPlayed player.old s }
     ensures played { IfOk result (λ _. (s : Played) × HasPlayed player.new s) }
-    ensures whole { IfOk result (λ _. S.whole screen.old → S.whole screen.new) }
 {
     let place = Place {
         file,
@@ -88,16 +75,13 @@ fn right_answer<S: Screen>(
 /// Plays the lines of a handout, and returns each with the machine's answer.
 ///
 /// # Errors
-/// `Told`: a line is refused, an answer is faulty, or there is no `boot`; that was told. `Memory`: the host is out of memory. `Io`:
-/// printing failed.
+/// `Told`: a line is refused, an answer is faulty, or there is no `boot`; that was told. `Memory`: the host is out of memory.
 fn play_lines<S: Screen>(
     alloc: Global,
     screen: &mut S,
     file: &str,
     lines: Vec<Line>,
-) -> Result<Vec<Asked>, Fault>
-    ensures whole { IfOk result (λ _. S.whole screen.old → S.whole screen.new) }
-{
+) -> Result<Vec<Asked>, Fault> {
     let mut player = LinePlayer::new(alloc)?;
     let mut handout = Vec::new(alloc);
     let mut last = 0u64;
@@ -107,7 +91,7 @@ fn play_lines<S: Screen>(
         let asked = Asked { line, right };
         handout.push(asked)?;
     }
-    tell_end(alloc, screen, file, &player, last)?;
+    tell_end(screen, file, &player, last)?;
     Ok(handout)
 }
 
@@ -115,31 +99,27 @@ fn play_lines<S: Screen>(
 ///
 /// # Errors
 /// `Told`: the handout is refused, as by `check`; it has no blank, a blank at a line that has no answer, or another answer than the
-/// machine's; or it has too many lines. That was told. `Memory`: the host is out of memory. `Io`: printing failed.
+/// machine's; or it has too many lines. That was told. `Memory`: the host is out of memory.
 pub fn play_handout<S: Screen>(
     alloc: Global,
     screen: &mut S,
     file: &str,
     text: &[u8],
-) -> Result<Vec<Asked>, Fault>
-    ensures whole { IfOk result (λ _. S.whole screen.old → S.whole screen.new) }
-{
+) -> Result<Vec<Asked>, Fault> {
     let lines = lines_of(alloc, text)?;
     let name = Visible(file);
     if lines.len() > LONGEST_HANDOUT {
-        tell(
+        return Err(Fault::told(
             screen,
-            format!(in alloc; "{name}: a handout has at most {LONGEST_HANDOUT} lines\n")?.as_str(),
-        )?;
+            format_args!("{name}: a handout has at most {LONGEST_HANDOUT} lines\n"),
+        ));
     }
     let handout = play_lines(alloc, screen, file, lines)?;
     if blank_count(handout.as_slice()) == 0 {
-        tell(
+        return Err(Fault::told(
             screen,
-            format!(in alloc;
-                "{name}: no line ends with => ?, so there is nothing to grade\n"
-            )?.as_str(),
-        )?;
+            format_args!("{name}: no line ends with => ?, so there is nothing to grade\n"),
+        ));
     }
     Ok(handout)
 }

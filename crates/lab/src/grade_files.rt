@@ -1,7 +1,5 @@
 // `grade` of `Host`: reads what students hand in, grades it, and prints the grades.
 
-ghost use Rattle.std.specs.Prelude.{◌≡◌, IfOk, true};
-
 use crate::class_order::{in_order, note_repeats};
 use crate::content::{Content, FirstBytes, MOST_BYTES};
 use crate::fault::Fault;
@@ -9,7 +7,7 @@ use crate::grade::play_handout;
 use crate::handed_in::{Kind, Target, Targets, kind_of};
 use crate::lab::Host;
 use crate::printed::print_grades;
-use crate::screen::Screen;
+use crate::screen::{Screen, print_error};
 use command_words::{GradeForm, GradeWords, Source};
 use grade_reports::{
     FileGrade, ListFault, Standing, Student, Visible, first_row, ids_of, is_wide, other_lab,
@@ -21,6 +19,7 @@ use std::alloc::{AllocError, Global};
 use std::io;
 use std::io::Read;
 use std::rt::Files;
+use text_builder::Text;
 
 /// What is wrong with a command line that names nothing to be graded.
 const NO_FILES: &str =
@@ -37,33 +36,26 @@ fn is_missing(fault: &Fault) -> bool {
     }
 }
 
-/// Returns what is wrong with a list of students, for people; `columns`: those that it must have.
-///
-/// # Errors
-/// `AllocError`: the host is out of memory.
-fn list_fault(
-    alloc: Global,
-    list: &str,
-    columns: &str,
-    fault: ListFault,
-) -> Result<String, AllocError> {
+/// Tells what is wrong with a list of students, and returns why the program ends; `columns`: those that it must have.
+fn tell_list<S: Screen>(screen: &mut S, list: &str, columns: &str, fault: ListFault) -> Fault {
     let list = Visible(list);
     match fault {
-        ListFault::Memory => Err(AllocError),
+        ListFault::Memory => return Fault::Memory,
         ListFault::Columns => {
-            format!(in alloc; "{list}: the first row does not name the {columns}\n")
+            screen.err(format_args!("{list}: the first row does not name the {columns}\n"))
         }
-        ListFault::NoId(row) => format!(in alloc; "{list}: row {row} has no id\n"),
-        ListFault::NotText(row) => format!(in alloc;
+        ListFault::NoId(row) => screen.err(format_args!("{list}: row {row} has no id\n")),
+        ListFault::NotText(row) => screen.err(format_args!(
             "{list}: the id of row {row} is no UTF-8; save the list as UTF-8, a spreadsheet's as CSV UTF-8\n"
-        ),
-        ListFault::FileNotText(row) => format!(in alloc;
+        )),
+        ListFault::FileNotText(row) => screen.err(format_args!(
             "{list}: the file of row {row} is no UTF-8; save the list as UTF-8, a spreadsheet's as CSV UTF-8, and rename a file whose name is none\n"
-        ),
-        ListFault::Wide => format!(in alloc;
+        )),
+        ListFault::Wide => screen.err(format_args!(
             "{list}: this is UTF-16, or no text; save the list as UTF-8, a spreadsheet's as CSV UTF-8\n"
-        ),
+        )),
     }
+    Fault::Told
 }
 
 /// What a file names in its comments, if it is not what the handout names.
@@ -105,35 +97,26 @@ fn tell_repeats<S: Screen>(
     screen: &mut S,
     list: &str,
     students: &[Student],
-) -> Result<bool, Fault>
-    ensures whole { IfOk result (λ _. S.whole screen.old → S.whole screen.new) }
-{
-    let mut text = String::new(alloc);
+) -> bool {
+    let mut text = Text::new(alloc);
     'students: for student in students {
-        put_if_repeated(&mut text, list, students, student)?;
+        put_if_repeated(&mut text, list, students, student);
     }
-    if text.is_empty() {
-        return Ok(true);
-    }
-    screen.err(text.as_str())?;
-    Ok(false)
+    let has_none = text.is_empty();
+    print_error(screen, text);
+    has_none
 }
 
 /// Appends that an earlier row of a list has the id of this student, if one has.
-fn put_if_repeated(
-    text: &mut String,
-    list: &str,
-    students: &[Student],
-    student: &Student,
-) -> Result<(), AllocError> {
+fn put_if_repeated(text: &mut Text, list: &str, students: &[Student], student: &Student) {
     let id = student.id.as_str();
     match first_row(students, id) {
         Some(first) if first < student.row => {
             let list = Visible(list);
-            write!(text, "{list}: ")?;
+            write!(text, "{list}: ");
             put_repeat(text, first, student.row, id)
         }
-        _ => Ok(()),
+        _ => {}
     }
 }
 
@@ -146,9 +129,7 @@ struct Sample {
 }
 
 /// Returns the variant of a lab that no student has, with the machine's answers.
-fn sample_of<S: Screen>(alloc: Global, screen: &mut S, lab: Lab) -> Result<Sample, Fault>
-    ensures whole { IfOk result (λ _. S.whole screen.old → S.whole screen.new) }
-{
+fn sample_of<S: Screen>(alloc: Global, screen: &mut S, lab: Lab) -> Result<Sample, Fault> {
     let handout = lab_variants::handout(alloc, lab, NO_STUDENT)?;
     let asked = play_handout(alloc, screen, NO_STUDENT, handout.as_str().as_bytes())?;
     Ok(Sample {
@@ -183,9 +164,7 @@ impl Grading {
         target: Target,
         mut content: Content,
         others: Others,
-    ) -> Result<(), AllocError>
-        ensures { IfOk result (λ _. self.new.is_whole ≡ true → (self.old.is_whole ≡ true) × (content.is_read ≡ true)) }
-    {
+    ) -> Result<(), AllocError> {
         self.is_whole = self.is_whole && content.is_read;
         let lines = content.lines(alloc)?;
         let Target { file, id } = target;
@@ -201,16 +180,33 @@ impl Grading {
         };
         Ok(self.grades.push(grade)?)
     }
+
+    /// Grades what was read of a file by a student's variant of a lab.
+    fn add_variant<S: Screen>(
+        &mut self,
+        alloc: Global,
+        screen: &mut S,
+        lab: Lab,
+        id: String,
+        file: String,
+        content: Content,
+    ) -> Result<(), Fault> {
+        let handout = lab_variants::handout(alloc, lab, id.as_str())?;
+        let asked = play_handout(alloc, screen, id.as_str(), handout.as_bytes())?;
+        let other = other_id(alloc, lab, id.as_str(), content.bytes.as_slice())?;
+        let others = Others::of(handout.as_bytes(), content.bytes.as_slice(), other);
+        let target = Target { file, id: Some(id) };
+        self.add(alloc, asked.as_slice(), target, content, others)?;
+        Ok(())
+    }
 }
 
 impl<F: Files, I: Read + Drop> Host<'_, F, I> {
     /// Returns what there is of a file, and tells why if it is there and cannot be read.
     ///
     /// # Errors
-    /// `Memory`: the host is out of memory. `Io`: printing failed.
-    fn content<S: Screen>(&mut self, screen: &mut S, file: &str) -> Result<Content, Fault>
-        ensures whole { IfOk result (λ c. c.is_read ≡ true → S.whole screen.old → S.whole screen.new) }
-    {
+    /// `Memory`: the host is out of memory.
+    fn content<S: Screen>(&mut self, screen: &mut S, file: &str) -> Result<Content, Fault> {
         let alloc = self.alloc;
         let mut first = FirstBytes {
             bytes: Vec::new(alloc),
@@ -218,16 +214,14 @@ impl<F: Files, I: Read + Drop> Host<'_, F, I> {
         };
         let fault = match self.give(screen, file, &mut first) {
             Ok(()) => return Ok(Content::of(alloc, first.bytes)),
+            Err(Fault::Memory) => return Err(Fault::Memory),
             Err(fault) => fault,
         };
         if is_missing(&fault) {
             return Ok(Content::nothing(alloc, Standing::Missing, false));
         }
         let why = fault.because(alloc)?;
-        match fault {
-            Fault::File(..) | Fault::Read(..) => fault.tell(alloc, screen)?,
-            _ => return Err(fault),
-        }
+        fault.tell(screen);
         Ok(Content {
             why,
             ..Content::nothing(alloc, Standing::Unreadable, false)
@@ -238,9 +232,7 @@ impl<F: Files, I: Read + Drop> Host<'_, F, I> {
     ///
     /// # Errors
     /// Those of `content`.
-    fn listed_content<S: Screen>(&mut self, screen: &mut S, file: &str) -> Result<Content, Fault>
-        ensures whole { IfOk result (λ c. c.is_read ≡ true → S.whole screen.old → S.whole screen.new) }
-    {
+    fn listed_content<S: Screen>(&mut self, screen: &mut S, file: &str) -> Result<Content, Fault> {
         let alloc = self.alloc;
         if file.is_empty() {
             return Ok(Content::nothing(alloc, Standing::Missing, true));
@@ -251,7 +243,7 @@ impl<F: Files, I: Read + Drop> Host<'_, F, I> {
             Kind::Other => "no plain file, so reading it might never end; name a file",
         };
         let name = Visible(file);
-        screen.err(format!(in alloc; "{name}: {why}\n")?.as_str())?;
+        screen.err(format_args!("{name}: {why}\n"));
         Ok(Content {
             why: String::from_str(alloc, why)?,
             ..Content::nothing(alloc, Standing::Unreadable, false)
@@ -267,9 +259,7 @@ impl<F: Files, I: Read + Drop> Host<'_, F, I> {
         screen: &mut S,
         file: &str,
         most: usize,
-    ) -> Result<Vec<u8>, Fault>
-        ensures whole { IfOk result (λ _. S.whole screen.old → S.whole screen.new) }
-    {
+    ) -> Result<Vec<u8>, Fault> {
         let alloc = self.alloc;
         let mut first = FirstBytes {
             bytes: Vec::new(alloc),
@@ -278,25 +268,22 @@ impl<F: Files, I: Read + Drop> Host<'_, F, I> {
         self.give(screen, file, &mut first)?;
         if first.bytes.len() > most {
             let name = Visible(file);
-            screen.err(format!(in alloc; "{name}: more than {most} bytes\n")?.as_str())?;
-            return Err(Fault::Told);
+            return Err(Fault::told(screen, format_args!("{name}: more than {most} bytes\n")));
         }
         Ok(first.bytes)
     }
 
-    /// Returns what is handed in at some paths, and at those of a list, and tells what is left out.
+    /// Returns what is handed in at some paths, and at those of a list, and tells what is left out; also whether nothing is.
     fn targets<S: Screen>(
         &mut self,
         screen: &mut S,
         paths: &[String],
         list: Option<&str>,
-    ) -> Result<Targets, Fault>
-        ensures whole { IfOk result (λ _. S.whole screen.old → S.whole screen.new) }
-    {
+    ) -> Result<(Vec<Target>, bool), Fault> {
         let alloc = self.alloc;
         let mut targets = Targets {
             list: Vec::new(alloc),
-            left_out: String::new(alloc),
+            left_out: Text::new(alloc),
         };
         for path in paths {
             targets.add_path(self.files, alloc, path.as_str(), false)?;
@@ -304,15 +291,13 @@ impl<F: Files, I: Read + Drop> Host<'_, F, I> {
         if let Some(list) = list {
             let text = self.whole_file(screen, list, 16 * MOST_BYTES)?;
             if is_wide(text.as_slice()) {
-                screen.err(list_fault(alloc, list, "", ListFault::Wide)?.as_str())?;
-                return Err(Fault::Told);
+                return Err(tell_list(screen, list, "", ListFault::Wide));
             }
             targets.add_list(self.files, alloc, text.as_slice())?;
         }
-        if !targets.left_out.is_empty() {
-            screen.err(targets.left_out.as_str())?;
-        }
-        Ok(targets)
+        let is_whole = targets.left_out.is_empty();
+        print_error(screen, targets.left_out);
+        Ok((targets.list, is_whole))
     }
 
     /// Grades files by one handout.
@@ -320,16 +305,17 @@ impl<F: Files, I: Read + Drop> Host<'_, F, I> {
         &mut self,
         screen: &mut S,
         handout: &str,
-        targets: Targets,
-    ) -> Result<Grading, Fault>
-        ensures whole { IfOk result (λ g. g.is_whole ≡ true → S.whole screen.old → S.whole screen.new) }
-    {
+        targets: (Vec<Target>, bool),
+    ) -> Result<Grading, Fault> {
         let alloc = self.alloc;
         let text = self.whole_file(screen, handout, MOST_BYTES)?;
         let asked = play_handout(alloc, screen, handout, text.as_slice())?;
-        let Targets { list, left_out } = targets;
-        let mut grading = Grading::new(alloc, left_out.is_empty());
+        let (list, is_whole) = targets;
+        let mut grading = Grading::new(alloc, is_whole);
         'targets: for target in list {
+            if !screen.is_whole() {
+                break;
+            }
             let content = self.content(screen, target.file.as_str())?;
             let others = Others::of(text.as_slice(), content.bytes.as_slice(), None);
             grading.add(alloc, asked.as_slice(), target, content, others)?;
@@ -340,15 +326,13 @@ impl<F: Files, I: Read + Drop> Host<'_, F, I> {
     /// Returns the students of a list; `needs_file`: it must say what each handed in.
     ///
     /// # Errors
-    /// `File`: the list cannot be opened or read. `Told`: it is faulty; that was told. `Memory`: the host is out of memory. `Io`: printing failed.
+    /// `File`: the list cannot be opened or read. `Told`: it is faulty; that was told. `Memory`: the host is out of memory.
     pub(crate) fn students<S: Screen>(
         &mut self,
         screen: &mut S,
         list: &str,
         needs_file: bool,
-    ) -> Result<Vec<Student>, Fault>
-        ensures whole { IfOk result (λ _. S.whole screen.old → S.whole screen.new) }
-    {
+    ) -> Result<Vec<Student>, Fault> {
         let alloc = self.alloc;
         let text = self.whole_file(screen, list, 16 * MOST_BYTES)?;
         let (found, columns) = if needs_file {
@@ -358,10 +342,7 @@ impl<F: Files, I: Read + Drop> Host<'_, F, I> {
         };
         match found {
             Ok(students) => Ok(students),
-            Err(fault) => {
-                screen.err(list_fault(alloc, list, columns, fault)?.as_str())?;
-                Err(Fault::Told)
-            }
+            Err(fault) => Err(tell_list(screen, list, columns, fault)),
         }
     }
 
@@ -372,21 +353,10 @@ impl<F: Files, I: Read + Drop> Host<'_, F, I> {
         lab: Lab,
         grading: &mut Grading,
         student: Student,
-    ) -> Result<(), Fault>
-        ensures whole { IfOk result (λ _. grading.new.is_whole ≡ true → (grading.old.is_whole ≡ true) × (S.whole screen.old → S.whole screen.new)) }
-    {
-        let alloc = self.alloc;
-        let (id, file) = (student.id.as_str(), student.file.as_str());
-        let handout = lab_variants::handout(alloc, lab, id)?;
-        let handout = handout.as_str().as_bytes();
-        let asked = play_handout(alloc, screen, id, handout)?;
-        let content = self.listed_content(screen, file)?;
-        let bytes = content.bytes.as_slice();
-        let others = Others::of(handout, bytes, other_id(alloc, lab, id, bytes)?);
+    ) -> Result<(), Fault> {
         let Student { id, file, .. } = student;
-        let target = Target { file, id: Some(id) };
-        grading.add(alloc, asked.as_slice(), target, content, others)?;
-        Ok(())
+        let content = self.listed_content(screen, file.as_str())?;
+        grading.add_variant(self.alloc, screen, lab, id, file, content)
     }
 
     /// Grades what the students of a list hand in, each by a variant of a lab.
@@ -395,14 +365,15 @@ impl<F: Files, I: Read + Drop> Host<'_, F, I> {
         screen: &mut S,
         lab: Lab,
         list: &str,
-    ) -> Result<Grading, Fault>
-        ensures whole { IfOk result (λ g. g.is_whole ≡ true → S.whole screen.old → S.whole screen.new) }
-    {
+    ) -> Result<Grading, Fault> {
         let alloc = self.alloc;
         let students = self.students(screen, list, true)?;
-        let is_whole = tell_repeats(alloc, screen, list, students.as_slice())?;
+        let is_whole = tell_repeats(alloc, screen, list, students.as_slice());
         let mut grading = Grading::new(alloc, is_whole);
         'students: for student in students {
+            if !screen.is_whole() {
+                break;
+            }
             self.grade_student(screen, lab, &mut grading, student)?;
         }
         Ok(grading)
@@ -413,14 +384,15 @@ impl<F: Files, I: Read + Drop> Host<'_, F, I> {
         &mut self,
         screen: &mut S,
         sample: &Sample,
-        targets: Targets,
-    ) -> Result<Grading, Fault>
-        ensures whole { IfOk result (λ g. g.is_whole ≡ true → S.whole screen.old → S.whole screen.new) }
-    {
+        targets: (Vec<Target>, bool),
+    ) -> Result<Grading, Fault> {
         let alloc = self.alloc;
-        let Targets { list, left_out } = targets;
-        let mut grading = Grading::new(alloc, left_out.is_empty());
+        let (list, is_whole) = targets;
+        let mut grading = Grading::new(alloc, is_whole);
         'targets: for target in list {
+            if !screen.is_whole() {
+                break;
+            }
             self.grade_by_head(screen, sample, &mut grading, target.file)?;
         }
         note_repeats(alloc, &mut grading.grades)?;
@@ -434,13 +406,11 @@ impl<F: Files, I: Read + Drop> Host<'_, F, I> {
         screen: &mut S,
         sample: &Sample,
         list: &str,
-        targets: Targets,
-    ) -> Result<Grading, Fault>
-        ensures whole { IfOk result (λ g. g.is_whole ≡ true → S.whole screen.old → S.whole screen.new) }
-    {
+        targets: (Vec<Target>, bool),
+    ) -> Result<Grading, Fault> {
         let alloc = self.alloc;
         let students = self.students(screen, list, false)?;
-        let is_listed = tell_repeats(alloc, screen, list, students.as_slice())?;
+        let is_listed = tell_repeats(alloc, screen, list, students.as_slice());
         let Grading { grades, is_whole } = self.grade_named(screen, sample, targets)?;
         let asked = sample.asked.as_slice();
         Ok(Grading {
@@ -456,30 +426,17 @@ impl<F: Files, I: Read + Drop> Host<'_, F, I> {
         sample: &Sample,
         grading: &mut Grading,
         file: String,
-    ) -> Result<(), Fault>
-        ensures whole { IfOk result (λ _. grading.new.is_whole ≡ true → (grading.old.is_whole ≡ true) × (S.whole screen.old → S.whole screen.new)) }
-    {
+    ) -> Result<(), Fault> {
         let alloc = self.alloc;
         let content = self.content(screen, file.as_str())?;
-        let Some(id) = seed_of(alloc, sample.lab, content.bytes.as_slice())? else {
-            let handout = sample.handout.as_str().as_bytes();
-            let others = Others::of(handout, content.bytes.as_slice(), None);
-            let target = Target { file, id: None };
-            grading.add(
-                alloc,
-                sample.asked.as_slice(),
-                target,
-                content.unnamed(alloc)?,
-                others,
-            )?;
-            return Ok(());
-        };
-        let handout = lab_variants::handout(alloc, sample.lab, id.as_str())?;
-        let handout = handout.as_str().as_bytes();
-        let asked = play_handout(alloc, screen, id.as_str(), handout)?;
+        if let Some(id) = seed_of(alloc, sample.lab, content.bytes.as_slice())? {
+            return grading.add_variant(alloc, screen, sample.lab, id, file, content);
+        }
+        let handout = sample.handout.as_bytes();
         let others = Others::of(handout, content.bytes.as_slice(), None);
-        let target = Target { file, id: Some(id) };
-        grading.add(alloc, asked.as_slice(), target, content, others)?;
+        let target = Target { file, id: None };
+        let content = content.unnamed(alloc)?;
+        grading.add(alloc, sample.asked.as_slice(), target, content, others)?;
         Ok(())
     }
 
@@ -487,9 +444,7 @@ impl<F: Files, I: Read + Drop> Host<'_, F, I> {
     ///
     /// # Errors
     /// Those of `grade`.
-    fn grading<S: Screen>(&mut self, screen: &mut S, words: &GradeWords) -> Result<Grading, Fault>
-        ensures whole { IfOk result (λ g. g.is_whole ≡ true → S.whole screen.old → S.whole screen.new) }
-    {
+    fn grading<S: Screen>(&mut self, screen: &mut S, words: &GradeWords) -> Result<Grading, Fault> {
         let (files, has_none) = (words.files.as_slice(), words.files.is_empty());
         match (&words.source, has_none) {
             (Source::Variants(lab, list), true) => {
@@ -520,10 +475,8 @@ impl<F: Files, I: Read + Drop> Host<'_, F, I> {
     /// # Errors
     /// `Word`: nothing is named to be graded; or there is not one file, and results for Gradescope are to be printed. `Told`: the handout or the list is faulty; or a file is
     /// missing, cannot be read or was left out, or a list has an id twice, after all grades were printed. `File`: the handout, a list or a folder
-    /// cannot be read. `Memory`: the host is out of memory. `Io`: printing failed.
-    pub fn grade<S: Screen>(&mut self, screen: &mut S, words: &GradeWords) -> Result<(), Fault>
-        ensures whole { IfOk result (λ _. S.whole screen.old → S.whole screen.new) }
-    {
+    /// cannot be read. `Memory`: the host is out of memory.
+    pub fn grade<S: Screen>(&mut self, screen: &mut S, words: &GradeWords) -> Result<(), Fault> {
         let alloc = self.alloc;
         let grading = self.grading(screen, words)?;
         if matches!(words.form, GradeForm::Gradescope) && grading.grades.len() != 1 {

@@ -3,9 +3,11 @@
 use crate::fault::Fault;
 use grade_reports::Visible;
 use handouts::without_mark;
+use memchr::memchr2;
 use std::alloc::{AllocError, Global};
 use std::rt::Files;
 use std::{fs, io};
+use text_builder::Text;
 
 /// What a student hands in: where it is, and for which variant.
 #[derive(Drop)]
@@ -19,7 +21,7 @@ pub struct Target {
 pub struct Targets {
     pub list: Vec<Target>,
     /// A line for each path that is left out: why, and what would be right. Empty if none is.
-    pub left_out: String,
+    pub left_out: Text,
 }
 
 /// What there is at a path.
@@ -45,19 +47,17 @@ pub fn kind_of<F: Files>(files: &F, path: &str) -> Kind {
 /// Appends that a file of a folder is left out since its name is no UTF-8, which the folder's reader cannot give.
 ///
 /// # Errors
-/// The folder cannot be read, or the host is out of memory.
-fn put_unnamed(left_out: &mut String, folder: &str, error: io::Error) -> io::Result<()> {
-    match error.kind() {
-        io::ErrorKind::InvalidFilename => {
-            let folder = Visible(folder);
-            writeln!(
-                left_out,
-                "{folder}: left out a file whose name is no UTF-8; rename it"
-            )?;
-            Ok(())
-        }
-        _ => Err(error),
+/// The folder cannot be read.
+fn put_unnamed(left_out: &mut Text, folder: &str, error: io::Error) -> io::Result<()> {
+    if error.kind() != io::ErrorKind::InvalidFilename {
+        return Err(error);
     }
+    let folder = Visible(folder);
+    writeln!(
+        left_out,
+        "{folder}: left out a file whose name is no UTF-8; rename it"
+    );
+    Ok(())
 }
 
 /// Returns the paths of what is in a folder, in the order of their names, but those whose names begin with a dot.
@@ -68,7 +68,7 @@ fn paths_in<F: Files>(
     files: &F,
     alloc: Global,
     folder: &str,
-    left_out: &mut String,
+    left_out: &mut Text,
 ) -> io::Result<Vec<String>> {
     let mut paths = Vec::new(alloc);
     for entry in fs::read_dir(&(files, alloc), folder)? {
@@ -101,11 +101,12 @@ impl Targets {
         } else {
             "no plain file, so reading it might never end; hand in a file"
         };
-        self.leave_out(file.as_str(), why)
+        self.leave_out(file.as_str(), why);
+        Ok(())
     }
 
     /// Tells that a file is left out, and why.
-    fn leave_out(&mut self, file: &str, why: &str) -> Result<(), AllocError> {
+    fn leave_out(&mut self, file: &str, why: &str) {
         let file = Visible(file);
         writeln!(&mut self.left_out, "{file}: left out, {why}")
     }
@@ -122,7 +123,7 @@ impl Targets {
             return self.add_path(files, alloc, path, true);
         }
         let path = String::from_utf8_lossy(alloc, path)?;
-        self.leave_out(path.as_str(), "its name is no UTF-8; rename the file")?;
+        self.leave_out(path.as_str(), "its name is no UTF-8; rename the file");
         Ok(())
     }
 
@@ -161,7 +162,7 @@ impl Targets {
         }
         match self.add_folder(files, alloc, path) {
             Ok(()) => Ok(()),
-            Err(error) => Err(Fault::File(String::from_str(alloc, path)?, error)),
+            Err(error) => Err(Fault::of_file(alloc, path, error)),
         }
     }
 
@@ -175,8 +176,15 @@ impl Targets {
         alloc: Global,
         list: &[u8],
     ) -> Result<(), Fault> {
-        for path in without_mark(list).split(|byte| *byte == b'\n' || *byte == b'\r') {
+        let mut rest = without_mark(list);
+        'paths: for _ in 0..list.len() {
+            if rest.is_empty() {
+                break;
+            }
+            let end = memchr2(b'\n', b'\r', rest).unwrap_or(rest.len());
+            let (path, after) = rest.split_at(end.min(rest.len()));
             self.add_listed(files, alloc, path.trim_ascii())?;
+            rest = after.get(1..).unwrap_or(&[]);
         }
         Ok(())
     }

@@ -1,19 +1,18 @@
 // `InspectDump`: reads a dump of physical memory, and prints what address spaces in it map and what is suspicious about them.
 
-ghost use Rattle.std.specs.Prelude.{IfOk};
-
 use crate::fault::Fault;
 use crate::lab::Reading;
-use crate::screen::Screen;
+use crate::screen::{Screen, print, print_object};
 use command_words::InspectWords;
 use std::alloc::{AllocError, Global};
 use std::io::Read;
 use sv39_entry::Satp;
 use table_dumps::{
-    Dump, EntryLine, Finding, FindingLine, FindingObject, Leaves, RunLine, Space, SpaceLine,
-    SpaceObject, TablesLine, leaf_findings, outside_findings, reserved_findings, runs_of,
-    shared_findings, table_findings,
+    Dump, EntryLine, Finding, FindingLine, FindingObject, Findings, Leaves, RunLine, Space,
+    SpaceLine, SpaceObject, TablesLine, leaf_findings, outside_findings, reserved_findings,
+    runs_of, shared_findings, table_findings,
 };
+use text_builder::Text;
 use walk_rules::Extensions;
 
 /// Prints what a dump says.
@@ -25,30 +24,27 @@ pub struct InspectDump<'a> {
 /// The length from which a text is printed before it is finished.
 const LONG: usize = 1 << 16;
 
-/// Prints a text and empties it, if it is long.
-fn print_long<S: Screen>(screen: &mut S, text: &mut String) -> Result<(), Fault>
-    ensures whole { IfOk result (λ _. S.whole screen.old → S.whole screen.new) }
-{
-    if text.len() >= LONG {
-        screen.out(text.as_str())?;
-        text.clear();
+/// Prints a text if it is long, and returns what is still to be printed.
+fn print_long<S: Screen>(screen: &mut S, text: Text) -> Text {
+    if text.as_str().len() < LONG {
+        return text;
     }
-    Ok(())
+    let rest = Text::new(text.allocator());
+    print(screen, text);
+    rest
 }
 
 impl InspectDump<'_> {
     /// Returns the address spaces of the command line.
     ///
     /// # Errors
-    /// `Told`: one of them cannot be listed; that was told. `Memory`: the host is out of memory. `Io`: printing failed.
+    /// `Told`: one of them cannot be listed; that was told. `Memory`: the host is out of memory.
     fn spaces<S: Screen>(
         &self,
         alloc: Global,
         screen: &mut S,
         dump: &Dump<'_>,
-    ) -> Result<Vec<Space>, Fault>
-        ensures whole { IfOk result (λ _. S.whole screen.old → S.whole screen.new) }
-    {
+    ) -> Result<Vec<Space>, Fault> {
         let mut spaces = Vec::new(alloc);
         'satps: for word in &self.words.satps {
             let satp = Satp::from_word(*word);
@@ -56,8 +52,10 @@ impl InspectDump<'_> {
                 Ok(space) => spaces.push(space)?,
                 Err(error) => {
                     let file = self.words.file.as_str();
-                    screen.err(format!(in alloc; "{file}: satp 0x{word:x}: {error}\n")?.as_str())?;
-                    return Err(Fault::Told);
+                    return Err(Fault::told(
+                        screen,
+                        format_args!("{file}: satp 0x{word:x}: {error}\n"),
+                    ));
                 }
             }
         }
@@ -75,27 +73,20 @@ impl InspectDump<'_> {
         let leaves = Leaves {
             needing_update: self.words.needing_update,
         };
-        let mut found = Vec::new(alloc);
+        let mut found = Findings::new(alloc);
         for (number, space) in spaces.iter().enumerate() {
-            outside_findings(alloc, dump, x, number, space, &mut found)?;
-            reserved_findings(dump, x, number, space, &mut found)?;
-            leaf_findings(dump, number, space, leaves, &mut found)?;
+            outside_findings(dump, x, number, space, &mut found);
+            reserved_findings(dump, x, number, space, &mut found);
+            leaf_findings(dump, number, space, leaves, &mut found);
         }
-        table_findings(alloc, dump, x, spaces, &mut found)?;
-        shared_findings(alloc, spaces, &mut found)?;
-        Ok(found)
+        table_findings(alloc, dump, x, spaces, &mut found);
+        shared_findings(alloc, spaces, &mut found);
+        found.finish()
     }
 }
 
 /// Prints the page tables of an address space, as `vmprint` does.
-fn print_tables<S: Screen>(
-    alloc: Global,
-    screen: &mut S,
-    number: usize,
-    space: &Space,
-) -> Result<(), Fault>
-    ensures whole { IfOk result (λ _. S.whole screen.old → S.whole screen.new) }
-{
+fn print_tables<S: Screen>(alloc: Global, screen: &mut S, number: usize, space: &Space) {
     let line = SpaceLine {
         number,
         satp: space.satp,
@@ -104,60 +95,67 @@ fn print_tables<S: Screen>(
     let tables = TablesLine {
         root: space.satp.ppn(),
     };
-    let mut text = format!(in alloc; "{line}\n{tables}\n")?;
+    let mut text = Text::new(alloc);
+    write!(&mut text, "{line}\n{tables}\n");
     'entries: for entry in &space.entries {
+        if !screen.is_whole() {
+            break;
+        }
         let line = EntryLine {
             top: space.top,
             entry: *entry,
         };
-        writeln!(&mut text, "{line}")?;
-        print_long(screen, &mut text)?;
+        writeln!(&mut text, "{line}");
+        text = print_long(screen, text);
     }
-    screen.out(text.as_str())
+    print(screen, text)
 }
 
 /// Prints the mappings of an address space, by runs.
-fn print_runs<S: Screen>(alloc: Global, screen: &mut S, space: &Space) -> Result<(), Fault>
-    ensures whole { IfOk result (λ _. S.whole screen.old → S.whole screen.new) }
-{
+fn print_runs<S: Screen>(alloc: Global, screen: &mut S, space: &Space) -> Result<(), Fault> {
     let runs = runs_of(alloc, space)?;
     let (mappings, count) = (space.mappings.len(), runs.len());
-    let mut text = format!(in alloc; "mappings: {mappings}, in {count} runs\n")?;
+    let mut text = Text::new(alloc);
+    writeln!(&mut text, "mappings: {mappings}, in {count} runs");
     'runs: for run in &runs {
+        if !screen.is_whole() {
+            break;
+        }
         let line = RunLine {
             run: *run,
             top: space.top,
         };
-        writeln!(&mut text, "{line}")?;
-        print_long(screen, &mut text)?;
+        writeln!(&mut text, "{line}");
+        text = print_long(screen, text);
     }
-    text.push_str("\n")?;
-    screen.out(text.as_str())
+    text.push_str("\n");
+    print(screen, text);
+    Ok(())
 }
 
 /// Prints address spaces as text.
-fn print_spaces<S: Screen>(alloc: Global, screen: &mut S, spaces: &[Space]) -> Result<(), Fault>
-    ensures whole { IfOk result (λ _. S.whole screen.old → S.whole screen.new) }
-{
+fn print_spaces<S: Screen>(alloc: Global, screen: &mut S, spaces: &[Space]) -> Result<(), Fault> {
     'spaces: for (number, space) in spaces.iter().enumerate() {
-        print_tables(alloc, screen, number, space)?;
+        print_tables(alloc, screen, number, space);
         print_runs(alloc, screen, space)?;
     }
     Ok(())
 }
 
 /// Prints what is suspicious as text.
-fn print_findings<S: Screen>(alloc: Global, screen: &mut S, found: &[Finding]) -> Result<(), Fault>
-    ensures whole { IfOk result (λ _. S.whole screen.old → S.whole screen.new) }
-{
+fn print_findings<S: Screen>(alloc: Global, screen: &mut S, found: &[Finding]) {
     let count = found.len();
-    let mut text = format!(in alloc; "suspicious: {count}\n")?;
+    let mut text = Text::new(alloc);
+    writeln!(&mut text, "suspicious: {count}");
     'findings: for finding in found {
+        if !screen.is_whole() {
+            break;
+        }
         let line = FindingLine(finding);
-        writeln!(&mut text, "{line}")?;
-        print_long(screen, &mut text)?;
+        writeln!(&mut text, "{line}");
+        text = print_long(screen, text);
     }
-    screen.out(text.as_str())
+    print(screen, text)
 }
 
 /// Prints address spaces as JSON objects, one a line.
@@ -166,29 +164,20 @@ fn put_spaces<S: Screen>(
     screen: &mut S,
     extensions: Extensions,
     spaces: &[Space],
-) -> Result<(), Fault>
-    ensures whole { IfOk result (λ _. S.whole screen.old → S.whole screen.new) }
-{
+) -> Result<(), Fault> {
     'spaces: for (number, space) in spaces.iter().enumerate() {
         let object = SpaceObject::of(alloc, extensions, number, space)?;
-        let mut text = serde_json::to_string(alloc, &object)?;
-        text.push_str("\n")?;
-        screen.out(text.as_str())?;
+        print_object(alloc, screen, &object);
     }
     Ok(())
 }
 
 /// Prints what is suspicious as JSON objects, one a line.
-fn put_findings<S: Screen>(alloc: Global, screen: &mut S, found: &[Finding]) -> Result<(), Fault>
-    ensures whole { IfOk result (λ _. S.whole screen.old → S.whole screen.new) }
-{
+fn put_findings<S: Screen>(alloc: Global, screen: &mut S, found: &[Finding]) -> Result<(), Fault> {
     'findings: for finding in found {
         let line = FindingLine(finding);
         let text = format!(in alloc; "{line}")?;
-        let object = FindingObject::of(finding, text);
-        let mut text = serde_json::to_string(alloc, &object)?;
-        text.push_str("\n")?;
-        screen.out(text.as_str())?;
+        print_object(alloc, screen, &FindingObject::of(finding, text));
     }
     Ok(())
 }
@@ -197,8 +186,7 @@ impl Reading for InspectDump<'_> {
     /// Prints each address space, then what is suspicious.
     ///
     /// # Errors
-    /// `Told`: an address space cannot be listed; that was told. `Read`: the reader failed. `Io`: printing failed. `Memory`: the host is out
-    /// of memory.
+    /// `Told`: an address space cannot be listed; that was told. `Read`: the reader failed. `Memory`: the host is out of memory.
     fn read<R: Read + Drop, S: Screen>(
         &mut self,
         alloc: Global,
@@ -214,10 +202,10 @@ impl Reading for InspectDump<'_> {
         let found = self.findings(alloc, &dump, spaces.as_slice())?;
         if self.words.json {
             put_spaces(alloc, screen, self.words.extensions, spaces.as_slice())?;
-            put_findings(alloc, screen, found.as_slice())
-        } else {
-            print_spaces(alloc, screen, spaces.as_slice())?;
-            print_findings(alloc, screen, found.as_slice())
+            return put_findings(alloc, screen, found.as_slice());
         }
+        print_spaces(alloc, screen, spaces.as_slice())?;
+        print_findings(alloc, screen, found.as_slice());
+        Ok(())
     }
 }

@@ -1,6 +1,6 @@
 // `do_words`: does what a command line of `xv6lab` says, with the files and the standard input of a `Host`.
 
-ghost use Rattle.std.specs.Prelude.{◌≡◌, ◌≤◌, IfOk};
+ghost use Rattle.std.specs.Prelude.{◌≡◌, ◌≤◌};
 
 use crate::check::{BareLines, CheckLines, Tally};
 use crate::chosen_line::ChosenLine;
@@ -13,7 +13,7 @@ use crate::quiz::{Game, Order};
 use crate::reference::AnswerLines;
 use crate::repl::ReplLines;
 use crate::run::RunLines;
-use crate::screen::Screen;
+use crate::screen::{Screen, print};
 use crate::show::ShowLines;
 use crate::shrink::ShrinkLines;
 use crate::trace::TraceLines;
@@ -36,8 +36,7 @@ pub trait Reading {
         alloc: Global,
         reader: R,
         screen: &mut S,
-    ) -> Result<(), Fault>
-        ensures whole { IfOk result (λ _. S.whole screen.old → S.whole screen.new) };
+    ) -> Result<(), Fault>;
 }
 
 /// The lines of a script are given to a listener.
@@ -76,9 +75,7 @@ impl<F: Files, I: Read + Drop> Host<'_, F, I> {
         screen: &mut S,
         name: &str,
         reading: &mut T,
-    ) -> Result<(), Fault>
-        ensures whole { IfOk result (λ _. S.whole screen.old → S.whole screen.new) }
-    {
+    ) -> Result<(), Fault> {
         let alloc = self.alloc;
         if name == "-" {
             return match self.input.take() {
@@ -91,7 +88,7 @@ impl<F: Files, I: Read + Drop> Host<'_, F, I> {
             Err(error) => Err(Fault::Read(error)),
         };
         match read {
-            Err(Fault::Read(error)) => Err(Fault::File(String::from_str(alloc, name)?, error)),
+            Err(Fault::Read(error)) => Err(Fault::of_file(alloc, name, error)),
             read => read,
         }
     }
@@ -105,9 +102,7 @@ impl<F: Files, I: Read + Drop> Host<'_, F, I> {
         screen: &mut S,
         name: &str,
         listener: &mut L,
-    ) -> Result<(), Fault>
-        ensures whole { IfOk result (λ _. S.whole screen.old → S.whole screen.new) }
-    {
+    ) -> Result<(), Fault> {
         self.give(screen, name, &mut Played { listener })
     }
 
@@ -115,24 +110,18 @@ impl<F: Files, I: Read + Drop> Host<'_, F, I> {
     /// cannot be read, is told and counted as refused.
     ///
     /// # Errors
-    /// `Memory`: the host is out of memory. `Io`: printing failed.
+    /// `Memory`: the host is out of memory.
     fn check_file<S: Screen>(
         &mut self,
         screen: &mut S,
         strict: bool,
         file: &str,
-    ) -> Result<Tally, Fault>
-        ensures whole { IfOk result (λ tally. tally.refused ≡ 0 → S.whole screen.old → S.whole screen.new) }
-    {
+    ) -> Result<Tally, Fault> {
         let mut checked = CheckLines::new(self.alloc, file, strict);
-        let fault = match self.give(screen, file, &mut checked) {
+        match self.give(screen, file, &mut checked) {
             Ok(()) => return Ok(checked.tally),
-            Err(fault) => fault,
-        };
-        match fault {
-            Fault::Told => {}
-            Fault::File(..) | Fault::Read(..) => fault.tell(self.alloc, screen)?,
-            _ => return Err(fault),
+            Err(Fault::Memory) => return Err(Fault::Memory),
+            Err(fault) => fault.tell(screen),
         }
         Ok(Tally {
             refused: 1,
@@ -144,21 +133,22 @@ impl<F: Files, I: Read + Drop> Host<'_, F, I> {
     /// together how many differ. Of a file for threads, which expects none, it tells whether its processes may fork for ever.
     ///
     /// # Errors
-    /// `Told`: an answer differs, or a file is refused or cannot be read. `Memory`: the host is out of memory. `Io`: printing failed.
-    fn check<S: Screen>(&mut self, screen: &mut S, words: &CheckWords) -> Result<(), Fault>
-        ensures whole { IfOk result (λ _. S.whole screen.old → S.whole screen.new) }
-    {
-        let (alloc, files) = (self.alloc, words.files.as_slice());
+    /// `Told`: an answer differs, or a file is refused or cannot be read. `Memory`: the host is out of memory.
+    fn check<S: Screen>(&mut self, screen: &mut S, words: &CheckWords) -> Result<(), Fault> {
+        let files = words.files.as_slice();
         let mut total = Tally::NOTHING;
         'files: for file in files {
+            if !screen.is_whole() {
+                break;
+            }
             let tally = self.check_file(screen, words.strict, file.as_str())?;
             if files.len() > 1 {
                 let (name, counts) = (file.as_str(), tally.counts());
-                screen.out(format!(in alloc; "{name}: {counts}\n")?.as_str())?;
+                screen.out(format_args!("{name}: {counts}\n"));
             }
             total = total.with(tally);
         }
-        screen.out(format!(in alloc; "{total}\n")?.as_str())?;
+        screen.out(format_args!("{total}\n"));
         if total.differ > 0 || total.refused > 0 {
             return Err(Fault::Told);
         }
@@ -166,9 +156,7 @@ impl<F: Files, I: Read + Drop> Host<'_, F, I> {
     }
 
     /// Prints scripts without the answers that their lines expect.
-    fn bare<S: Screen>(&mut self, screen: &mut S, files: &[String]) -> Result<(), Fault>
-        ensures whole { IfOk result (λ _. S.whole screen.old → S.whole screen.new) }
-    {
+    fn bare<S: Screen>(&mut self, screen: &mut S, files: &[String]) -> Result<(), Fault> {
         'files: for file in files {
             self.play(screen, file.as_str(), &mut BareLines)?;
         }
@@ -176,15 +164,14 @@ impl<F: Files, I: Read + Drop> Host<'_, F, I> {
     }
 
     /// Writes a text to a file, or to standard output for `-`.
-    fn write<S: Screen>(&self, screen: &mut S, out: &str, text: &[u8]) -> Result<(), Fault>
-        ensures whole { IfOk result (λ _. S.whole screen.old → S.whole screen.new) }
-    {
+    fn write<S: Screen>(&self, screen: &mut S, out: &str, text: &[u8]) -> Result<(), Fault> {
         if out == "-" {
-            return screen.out_bytes(text);
+            screen.out_bytes(text);
+            return Ok(());
         }
         match fs::write(self.files, out, text) {
             Ok(()) => Ok(()),
-            Err(error) => Err(Fault::File(String::from_str(self.alloc, out)?, error)),
+            Err(error) => Err(Fault::of_file(self.alloc, out, error)),
         }
     }
 
@@ -195,15 +182,13 @@ impl<F: Files, I: Read + Drop> Host<'_, F, I> {
         }
         match fs::create(self.files, out) {
             Ok(file) => Ok(Paper::File(out, file)),
-            Err(error) => Err(Fault::File(String::from_str(self.alloc, out)?, error)),
+            Err(error) => Err(Fault::of_file(self.alloc, out, error)),
         }
     }
 
     /// Writes a page to step through a script, line by line as each is played. Before that the script is played to its end, so that
     /// nothing is written of one that is refused.
-    fn draw_steps<S: Screen>(&mut self, screen: &mut S, words: &DrawWords) -> Result<(), Fault>
-        ensures whole { IfOk result (λ _. S.whole screen.old → S.whole screen.new) }
-    {
+    fn draw_steps<S: Screen>(&mut self, screen: &mut S, words: &DrawWords) -> Result<(), Fault> {
         let (alloc, file) = (self.alloc, words.file.as_str());
         let mut kept = KeptLines::new(alloc, file, ChosenLine::named(words.line));
         self.play(screen, file, &mut kept)?;
@@ -220,23 +205,22 @@ impl<F: Files, I: Read + Drop> Host<'_, F, I> {
     }
 
     /// Draws the machine of a script, after its last line or after each, if the script is played to its end.
-    fn draw<S: Screen>(&mut self, screen: &mut S, words: &DrawWords) -> Result<(), Fault>
-        ensures whole { IfOk result (λ _. S.whole screen.old → S.whole screen.new) }
-    {
+    fn draw<S: Screen>(&mut self, screen: &mut S, words: &DrawWords) -> Result<(), Fault> {
         let (file, out) = (words.file.as_str(), words.out.as_str());
         if out == file && out != "-" {
-            let text = format!(in self.alloc;
-                "{out} is the script, and stays as it is; name another file after -o\n"
-            )?;
-            screen.err(text.as_str())?;
-            return Err(Fault::Told);
+            return Err(Fault::told(
+                screen,
+                format_args!(
+                    "{out} is the script, and stays as it is; name another file after -o\n"
+                ),
+            ));
         }
         if words.steps {
             return self.draw_steps(screen, words);
         }
         let mut drawn = DrawLines::new(self.alloc, file);
         self.play(screen, file, &mut drawn)?;
-        self.write(screen, out, drawn.text.as_str().as_bytes())
+        self.write(screen, out, drawn.text.finish()?.as_bytes())
     }
 
     /// Writes the script of a test beside its program: nothing beside standard output.
@@ -246,9 +230,7 @@ impl<F: Files, I: Read + Drop> Host<'_, F, I> {
         out: &str,
         name: &str,
         script: &str,
-    ) -> Result<(), Fault>
-        ensures whole { IfOk result (λ _. S.whole screen.old → S.whole screen.new) }
-    {
+    ) -> Result<(), Fault> {
         if out == "-" {
             return Ok(());
         }
@@ -260,9 +242,12 @@ impl<F: Files, I: Read + Drop> Host<'_, F, I> {
     }
 
     /// Makes a C program, and writes the scripts of its tests; `out` is where the program goes. Returns its text.
-    fn program<S: Screen>(&self, screen: &mut S, tests: Tests, out: &str) -> Result<Vec<u8>, Fault>
-        ensures whole { IfOk result (λ _. S.whole screen.old → S.whole screen.new) }
-    {
+    fn program<S: Screen>(
+        &self,
+        screen: &mut S,
+        tests: Tests,
+        out: &str,
+    ) -> Result<Vec<u8>, Fault> {
         let mut program = Program::new(self.alloc, tests)?;
         'seeds: for number in 0..tests.count {
             let (name, script) = program.add(screen, tests.seed.saturating_add(number))?;
@@ -273,12 +258,11 @@ impl<F: Files, I: Read + Drop> Host<'_, F, I> {
     }
 
     /// Writes a C program and the scripts of its tests, or prints the script of the first.
-    fn usertest<S: Screen>(&self, screen: &mut S, words: &UsertestWords) -> Result<(), Fault>
-        ensures whole { IfOk result (λ _. S.whole screen.old → S.whole screen.new) }
-    {
+    fn usertest<S: Screen>(&self, screen: &mut S, words: &UsertestWords) -> Result<(), Fault> {
         let (tests, out) = (words.tests, words.out.as_str());
         if tests.script {
-            return screen.out(script_of(self.alloc, tests)?.as_str());
+            print(screen, script_of(self.alloc, tests)?);
+            return Ok(());
         }
         let title = tests.title(self.alloc)?;
         let title = title.as_str();
@@ -289,9 +273,7 @@ impl<F: Files, I: Read + Drop> Host<'_, F, I> {
     }
 
     /// Plays a script and prints what happens on its lines.
-    fn trace<S: Screen>(&mut self, screen: &mut S, words: &TraceWords) -> Result<(), Fault>
-        ensures whole { IfOk result (λ _. S.whole screen.old → S.whole screen.new) }
-    {
+    fn trace<S: Screen>(&mut self, screen: &mut S, words: &TraceWords) -> Result<(), Fault> {
         let file = words.file.as_str();
         let mut listener = TraceLines {
             alloc: self.alloc,
@@ -304,9 +286,7 @@ impl<F: Files, I: Read + Drop> Host<'_, F, I> {
     }
 
     /// Answers lines that ask a reference MMU.
-    fn mmu<S: Screen>(&mut self, screen: &mut S, words: &MmuWords) -> Result<(), Fault>
-        ensures whole { IfOk result (λ _. S.whole screen.old → S.whole screen.new) }
-    {
+    fn mmu<S: Screen>(&mut self, screen: &mut S, words: &MmuWords) -> Result<(), Fault> {
         let file = words.file.as_str();
         if words.shrink {
             self.give(screen, file, &mut ShrinkLines)
@@ -316,43 +296,32 @@ impl<F: Files, I: Read + Drop> Host<'_, F, I> {
     }
 
     /// Plays the lines of standard input one by one.
-    fn repl<S: Screen>(&mut self, screen: &mut S) -> Result<(), Fault>
-        ensures whole { IfOk result (λ _. S.whole screen.old → S.whole screen.new) }
-    {
-        let mut listener = ReplLines::new(self.alloc, self.files, screen)?;
+    fn repl<S: Screen>(&mut self, screen: &mut S) -> Result<(), Fault> {
+        let mut listener = ReplLines::new(self.alloc, self.files, screen);
         self.play(screen, "-", &mut listener)
     }
 
     /// Asks the questions of a quiz, with standard input for guesses; or writes it as a page, or prints its script.
-    fn quiz<S: Screen>(&mut self, screen: &mut S, words: &QuizWords) -> Result<(), Fault>
-        ensures whole { IfOk result (λ _. S.whole screen.old → S.whole screen.new) }
-    {
+    fn quiz<S: Screen>(&mut self, screen: &mut S, words: &QuizWords) -> Result<(), Fault> {
         let order = Order {
             subject: words.subject,
             seed: words.seed,
             count: words.count,
             draws: words.form == QuizForm::Page,
         };
-        let game = Game::play(self.alloc, screen, order)?;
+        let mut game = Game::play(self.alloc, screen, order)?;
         match words.form {
-            QuizForm::Ask => match self.input.take() {
-                Some(input) => game.ask(screen, input),
-                None => game.ask(screen, b"".as_slice()),
-            },
-            QuizForm::Page => self.write(
-                screen,
-                words.out.as_str(),
-                game.page()?.as_str().as_bytes(),
-            ),
-            QuizForm::Script => screen.out(game.script(false)?.as_str()),
-            QuizForm::Answers => screen.out(game.script(true)?.as_str()),
+            QuizForm::Ask => self.give(screen, "-", &mut game),
+            QuizForm::Page => self.write(screen, words.out.as_str(), game.page()?.as_bytes()),
+            QuizForm::Script | QuizForm::Answers => {
+                print(screen, game.script(words.form == QuizForm::Answers));
+                Ok(())
+            }
         }
     }
 
     /// Does what a command line says.
-    fn do_task<S: Screen>(&mut self, screen: &mut S, task: &Task) -> Result<(), Fault>
-        ensures whole { IfOk result (λ _. S.whole screen.old → S.whole screen.new) }
-    {
+    fn do_task<S: Screen>(&mut self, screen: &mut S, task: &Task) -> Result<(), Fault> {
         let alloc = self.alloc;
         match task {
             Task::Run(words) => {
@@ -386,15 +355,22 @@ impl<F: Files, I: Read + Drop> Host<'_, F, I> {
     }
 }
 
-/// Tells why the program ends, and returns its status, which is not 0 if that fails.
-fn told<S: Screen>(alloc: Global, screen: &mut S, fault: &Fault) -> u8
+/// Tells why the program ends early, if it does. Returns the exit status, 0 only if all that was to be printed was.
+fn ended<S: Screen>(screen: &mut S, done: Result<(), Fault>) -> u8
     ensures low { result ≤ 2 }
-    ensures whole { result ≡ 0 → S.whole screen.old → S.whole screen.new }
+    ensures whole { result ≡ 0 → S.whole screen.new }
 {
-    match fault.tell(alloc, screen) {
-        Ok(()) => fault.status(),
-        // Printing fails too: only the exit status tells.
-        Err(_) => fault.status().max(1),
+    let status = match done {
+        Ok(()) => 0,
+        Err(fault) => {
+            fault.tell(screen);
+            fault.status()
+        }
+    };
+    if screen.is_whole() {
+        status
+    } else {
+        status.max(1)
     }
 }
 
@@ -406,18 +382,14 @@ pub fn do_words<F: Files, I: Read + Drop, S: Screen>(
     words: &[String],
 ) -> u8
     ensures low { result ≤ 2 }
-    ensures whole { result ≡ 0 → S.whole screen.old → S.whole screen.new }
+    ensures whole { result ≡ 0 → S.whole screen.new }
 {
-    let alloc = host.alloc;
-    let task = match Task::parse(alloc, words) {
-        Ok(task) => task,
-        Err(misuse) => return told(alloc, screen, &Fault::from(misuse)),
+    let done = match Task::parse(host.alloc, words) {
+        Ok(task) => host.do_task(screen, &task),
+        Err(misuse) => Err(Fault::from(misuse)),
     };
-    match host.do_task(screen, &task) {
-        Ok(()) => 0,
-        Err(fault) => match told(alloc, screen, &fault) {
-            0 => 1,
-            status => status,
-        },
+    match screen.take_failure() {
+        Some(fault) => ended(screen, Err(fault)),
+        None => ended(screen, done),
     }
 }

@@ -1,18 +1,17 @@
 // The word `lab`: prints the handout of a lab, or its key, or writes it to a new file; or writes those of the students of a list to a folder.
 
-ghost use Rattle.std.specs.Prelude.{IfOk};
-
 use crate::fault::Fault;
 use crate::keys::key;
 use crate::lab::Host;
-use crate::screen::Screen;
+use crate::screen::{Screen, print_error};
 use command_words::LabWords;
 use grade_reports::{Student, Visible, first_row, put_repeat, student_row};
-use lab_variants::{Lab, handout, plain};
+use lab_variants::{Lab, handout, plain, seed_of};
 use std::alloc::{AllocError, Global};
 use std::io::{Read, Write};
 use std::rt::Files;
 use std::{fs, io};
+use text_builder::Text;
 
 /// The most characters of an id that are in a file's name.
 const LONGEST_NAME: usize = 100;
@@ -56,20 +55,6 @@ fn safe_of(alloc: Global, id: &str) -> Result<String, AllocError> {
     Ok(text)
 }
 
-/// Returns the first two lines of a script: its head, with what lab it is and whose.
-fn head_of(text: &[u8]) -> &[u8] {
-    let mut feeds = 0u32;
-    'bytes: for (place, byte) in text.iter().enumerate() {
-        if *byte == b'\n' {
-            feeds = feeds.saturating_add(1);
-            if feeds == 2 {
-                return text.get(..place).unwrap_or(text);
-            }
-        }
-    }
-    text
-}
-
 /// Returns the first bytes of a file; none if it cannot be read.
 fn first_bytes<F: Files>(files: &F, alloc: Global, path: &str) -> Vec<u8> {
     let mut bytes = Vec::new(alloc);
@@ -80,25 +65,19 @@ fn first_bytes<F: Files>(files: &F, alloc: Global, path: &str) -> Vec<u8> {
     bytes
 }
 
-/// Whether there is a file at a path with another head than a script.
+/// Whether there is a file at a path that is not made from the handout of a lab for this id.
 fn is_anothers<F: Files>(
     files: &F,
     alloc: Global,
     path: &str,
-    script: &[u8],
+    lab: Lab,
+    id: &str,
 ) -> Result<bool, AllocError> {
     let bytes = first_bytes(files, alloc, path);
-    Ok(!bytes.is_empty() && head_of(bytes.as_slice()) != head_of(script))
-}
-
-/// Whether a text is among some.
-fn has(texts: &[String], text: &str) -> bool {
-    'texts: for one in texts {
-        if one.as_str() == text {
-            return true;
-        }
+    match seed_of(alloc, lab, bytes.as_slice())? {
+        Some(seed) => Ok(seed.as_str() != id),
+        None => Ok(!bytes.is_empty()),
     }
-    false
 }
 
 /// Returns the handout of a lab for a seed, or that of its page if there is none; `answers`: with the machine's answers in place of its blanks.
@@ -111,9 +90,7 @@ fn script_of<S: Screen>(
     lab: Lab,
     seed: Option<&str>,
     answers: bool,
-) -> Result<String, Fault>
-    ensures whole { IfOk result (λ _. S.whole screen.old → S.whole screen.new) }
-{
+) -> Result<String, Fault> {
     let text = match seed {
         Some(seed) => handout(alloc, lab, seed)?,
         None => plain(alloc, lab)?,
@@ -123,6 +100,16 @@ fn script_of<S: Screen>(
     } else {
         Ok(text)
     }
+}
+
+/// What became of a new file.
+#[derive(Clone, Copy)]
+enum Put {
+    Written,
+    /// There is a file already, which stays as it is.
+    There,
+    /// It cannot be made or written, as was told.
+    Failed,
 }
 
 /// Which scripts students get, and where.
@@ -139,16 +126,14 @@ struct Order<'a> {
 struct HandedOut {
     /// The path of the list of them.
     list: String,
-    /// The students so far.
+    /// The students so far, with the paths of their files.
     students: Vec<Student>,
-    /// The paths of their files.
-    files: Vec<String>,
     /// How many were written.
     written: usize,
     /// How many were there already.
     there: usize,
     /// A line for each file that was not written; empty if all were.
-    told: String,
+    told: Text,
 }
 
 impl HandedOut {
@@ -158,10 +143,9 @@ impl HandedOut {
         Ok(HandedOut {
             list: format!(in alloc; "{folder}/{name}.csv")?,
             students: Vec::new(alloc),
-            files: Vec::new(alloc),
             written: 0,
             there: 0,
-            told: String::new(alloc),
+            told: Text::new(alloc),
         })
     }
 
@@ -175,18 +159,26 @@ impl HandedOut {
         screen: &mut S,
         order: Order<'_>,
         students: Vec<Student>,
-    ) -> Result<HandedOut, Fault>
-        ensures whole { IfOk result (λ _. S.whole screen.old → S.whole screen.new) }
-    {
+    ) -> Result<HandedOut, Fault> {
         let mut given = HandedOut::nothing(alloc, order)?;
         'students: for student in students {
             given.add(files, alloc, screen, order, student)?;
         }
-        given.tell_more()?;
+        given.tell_more();
         if given.written > 0 {
             given.put_list(files, alloc, order)?;
         }
         Ok(given)
+    }
+
+    /// Whether a path is that of a student's file so far.
+    fn has(&self, path: &str) -> bool {
+        'students: for student in &self.students {
+            if student.file.as_str() == path {
+                return true;
+            }
+        }
+        false
     }
 
     /// Returns the path of a student's file: another than those so far, and than those of other students that are there.
@@ -196,16 +188,15 @@ impl HandedOut {
         alloc: Global,
         order: Order<'_>,
         id: &str,
-        text: &str,
     ) -> Result<String, AllocError> {
         let (folder, name) = (order.folder, order.lab.name());
         let safe_id = safe_of(alloc, id)?;
         let safe_id = safe_id.as_str();
         let mut path = format!(in alloc; "{folder}/{name}-{safe_id}.script")?;
-        let first = self.files.len().saturating_add(1);
+        let first = self.students.len().saturating_add(1);
         'numbers: for number in first..first.saturating_add(MOST_LISTS) {
-            if !has(self.files.as_slice(), path.as_str())
-                && !is_anothers(files, alloc, path.as_str(), text.as_bytes())?
+            if !self.has(path.as_str())
+                && !is_anothers(files, alloc, path.as_str(), order.lab, id)?
             {
                 break;
             }
@@ -222,12 +213,10 @@ impl HandedOut {
         screen: &mut S,
         order: Order<'_>,
         student: Student,
-    ) -> Result<(), Fault>
-        ensures whole { IfOk result (λ _. S.whole screen.old → S.whole screen.new) }
-    {
+    ) -> Result<(), Fault> {
         let id = student.id.as_str();
         if let Some(first) = first_row(self.students.as_slice(), id) {
-            put_repeat(&mut self.told, first, student.row, id)?;
+            put_repeat(&mut self.told, first, student.row, id);
             return Ok(());
         }
         let text = script_of(alloc, screen, order.lab, Some(id), order.answers)?;
@@ -244,38 +233,48 @@ impl HandedOut {
         student: Student,
         text: &str,
     ) -> Result<(), AllocError> {
-        let path = self.path_of(files, alloc, order, student.id.as_str(), text)?;
-        if self.put(files, path.as_str(), text.as_bytes())? {
-            self.written = self.written.saturating_add(1);
+        let path = self.path_of(files, alloc, order, student.id.as_str())?;
+        match self.put(files, path.as_str(), text.as_bytes()) {
+            Put::Written => self.written = self.written.saturating_add(1),
+            Put::There => self.tell_there(path.as_str()),
+            Put::Failed => {}
         }
-        self.students.push(student)?;
-        Ok(self.files.push(path)?)
+        let student = Student {
+            file: path,
+            ..student
+        };
+        Ok(self.students.push(student)?)
     }
 
-    /// Writes a new file, or tells why not; returns whether it was written.
-    fn put<F: Files>(&mut self, files: &F, path: &str, text: &[u8]) -> Result<bool, AllocError> {
+    /// Writes a new file, or tells why not, unless there is one already.
+    fn put<F: Files>(&mut self, files: &F, path: &str, text: &[u8]) -> Put {
         let Err(error) = put_new(files, path, text) else {
-            return Ok(true);
+            return Put::Written;
         };
-        let path = Visible(path);
-        if error.kind() != io::ErrorKind::AlreadyExists {
-            writeln!(&mut self.told, "{path}: {error}")?;
-            return Ok(false);
+        if error.kind() == io::ErrorKind::AlreadyExists {
+            return Put::There;
         }
+        let path = Visible(path);
+        writeln!(&mut self.told, "{path}: {error}");
+        Put::Failed
+    }
+
+    /// Tells that a file is there already, if not too many are.
+    fn tell_there(&mut self, path: &str) {
         self.there = self.there.saturating_add(1);
         if self.there <= MOST_TOLD {
+            let path = Visible(path);
             writeln!(
                 &mut self.told,
                 "{path} is there already, and stays as it is"
-            )?;
+            );
         }
-        Ok(false)
     }
 
     /// Tells of how many files more it was not told that they are there already.
-    fn tell_more(&mut self) -> Result<(), AllocError> {
+    fn tell_more(&mut self) {
         match self.there.saturating_sub(MOST_TOLD) {
-            0 => Ok(()),
+            0 => {}
             more => writeln!(
                 &mut self.told,
                 "and {more} more are there already, and stay as they are"
@@ -286,8 +285,8 @@ impl HandedOut {
     /// Returns the list of the handouts, as `grade --seeds` reads it.
     fn list_text(&self, alloc: Global) -> Result<Vec<u8>, AllocError> {
         let mut text = Vec::from_slice(alloc, b"id,file\n")?;
-        for (student, file) in self.students.iter().zip(self.files.as_slice()) {
-            let row = student_row(alloc, student.id.as_str(), file.as_str())?;
+        'students: for student in &self.students {
+            let row = student_row(alloc, student.id.as_str(), student.file.as_str())?;
             text.extend_from_slice(row.as_slice())?;
         }
         Ok(text)
@@ -303,39 +302,22 @@ impl HandedOut {
         let (text, folder, name) = (self.list_text(alloc)?, order.folder, order.lab.name());
         'lists: for number in 2..MOST_LISTS {
             let path = String::from_str(alloc, self.list.as_str())?;
-            if self.put_first(files, path.as_str(), text.as_slice())? {
-                return Ok(());
+            match self.put(files, path.as_str(), text.as_slice()) {
+                Put::There => {}
+                Put::Written | Put::Failed => return Ok(()),
             }
             self.list = format!(in alloc; "{folder}/{name}-{number}.csv")?;
         }
         Ok(())
     }
 
-    /// Writes a new file, or tells why not; returns `false` if there is one already.
-    fn put_first<F: Files>(
-        &mut self,
-        files: &F,
-        path: &str,
-        text: &[u8],
-    ) -> Result<bool, AllocError> {
-        let Err(error) = put_new(files, path, text) else {
-            return Ok(true);
-        };
-        if error.kind() == io::ErrorKind::AlreadyExists {
-            return Ok(false);
-        }
-        let path = Visible(path);
-        writeln!(&mut self.told, "{path}: {error}")?;
-        Ok(true)
-    }
-
-    /// Returns how many handouts were written, and where their list is.
-    fn summary(&self, alloc: Global) -> Result<String, AllocError> {
+    /// Prints how many handouts were written, and where their list is.
+    fn print_summary<S: Screen>(&self, screen: &mut S) {
         let (written, list) = (self.written, Visible(self.list.as_str()));
         match written {
-            0 => String::from_str(alloc, "0 scripts written\n"),
-            1 => format!(in alloc; "1 script written; the list is {list}\n"),
-            _ => format!(in alloc; "{written} scripts written; their list is {list}\n"),
+            0 => screen.out("0 scripts written\n"),
+            1 => screen.out(format_args!("1 script written; the list is {list}\n")),
+            _ => screen.out(format_args!("{written} scripts written; their list is {list}\n")),
         }
     }
 }
@@ -343,9 +325,7 @@ impl HandedOut {
 impl<F: Files, I: Read + Drop> Host<'_, F, I> {
     /// Prints the handout of a lab for a seed, or that of its page if there is none, or its key; or writes it to a new file; or writes those of
     /// a list.
-    pub fn hand_out<S: Screen>(&mut self, screen: &mut S, words: &LabWords) -> Result<(), Fault>
-        ensures whole { IfOk result (λ _. S.whole screen.old → S.whole screen.new) }
-    {
+    pub fn hand_out<S: Screen>(&mut self, screen: &mut S, words: &LabWords) -> Result<(), Fault> {
         if let Some(list) = &words.seeds {
             return self.hand_out_all(screen, words, list.as_str());
         }
@@ -356,34 +336,43 @@ impl<F: Files, I: Read + Drop> Host<'_, F, I> {
         let text = script_of(self.alloc, screen, words.lab, seed, words.answers)?;
         let out = words.out.as_str();
         if out == "-" {
-            return screen.out(text.as_str());
+            screen.out(text.as_str());
+            return Ok(());
         }
-        self.write_new(screen, out, text.as_str().as_bytes())
+        self.write_new(screen, out, text.as_bytes())
     }
 
     /// Writes a text to a new file. A file that is there may have a student's answers: it stays as it is.
-    fn write_new<S: Screen>(&self, screen: &mut S, out: &str, text: &[u8]) -> Result<(), Fault>
-        ensures whole { IfOk result (λ _. S.whole screen.old → S.whole screen.new) }
-    {
-        match put_new(self.files, out, text) {
-            Ok(()) => Ok(()),
-            Err(error) => self.tell_no_file(screen, out, error),
+    ///
+    /// # Errors
+    /// `Told`: it is there already; that was told. `File`: it cannot be made. `Memory`: the host is out of memory.
+    fn write_new<S: Screen>(&self, screen: &mut S, out: &str, text: &[u8]) -> Result<(), Fault> {
+        let Err(error) = put_new(self.files, out, text) else {
+            return Ok(());
+        };
+        if error.kind() != io::ErrorKind::AlreadyExists {
+            return Err(Fault::of_file(self.alloc, out, error));
         }
+        let out = Visible(out);
+        Err(Fault::told(
+            screen,
+            format_args!(
+                "{out} is there already, and stays as it is; name another file after -o\n"
+            ),
+        ))
     }
 
     /// Writes the handouts of the students of a list to a folder, and a list of them.
     ///
     /// # Errors
     /// `Word`: no folder is named. `Told`: the list is faulty, or a file is not written; that was told. `File`: the list cannot be read, or the
-    /// folder not made. `Memory`: the host is out of memory. `Io`: printing failed.
+    /// folder not made. `Memory`: the host is out of memory.
     fn hand_out_all<S: Screen>(
         &mut self,
         screen: &mut S,
         words: &LabWords,
         list: &str,
-    ) -> Result<(), Fault>
-        ensures whole { IfOk result (λ _. S.whole screen.old → S.whole screen.new) }
-    {
+    ) -> Result<(), Fault> {
         let (alloc, folder) = (self.alloc, words.out.as_str());
         if folder == "-" {
             return Err(Fault::Word(String::from_str(
@@ -393,7 +382,7 @@ impl<F: Files, I: Read + Drop> Host<'_, F, I> {
         }
         let students = self.students(screen, list, false)?;
         if let Err(error) = fs::create_dir_all(self.files, folder) {
-            return Err(Fault::File(String::from_str(alloc, folder)?, error));
+            return Err(Fault::of_file(alloc, folder, error));
         }
         let order = Order {
             lab: words.lab,
@@ -401,36 +390,11 @@ impl<F: Files, I: Read + Drop> Host<'_, F, I> {
             folder: folder.strip_suffix('/').unwrap_or(folder),
         };
         let given = HandedOut::of(self.files, alloc, screen, order, students)?;
-        screen.out(given.summary(alloc)?.as_str())?;
+        given.print_summary(screen);
         if given.told.is_empty() {
             return Ok(());
         }
-        screen.err(given.told.as_str())?;
+        print_error(screen, given.told);
         Err(Fault::Told)
-    }
-
-    /// Tells why a new file cannot be made.
-    ///
-    /// # Errors
-    /// `Told`: it is there already; that was told. `File`: it cannot be made. `Io`: printing failed. `Memory`: the host is out of memory.
-    fn tell_no_file<S: Screen>(
-        &self,
-        screen: &mut S,
-        out: &str,
-        error: io::Error,
-    ) -> Result<(), Fault>
-        ensures whole { IfOk result (λ _. S.whole screen.old → S.whole screen.new) }
-    {
-        match error.kind() {
-            io::ErrorKind::AlreadyExists => {
-                let out = Visible(out);
-                let text = format!(in self.alloc;
-                    "{out} is there already, and stays as it is; name another file after -o\n"
-                )?;
-                screen.err(text.as_str())?;
-                Err(Fault::Told)
-            }
-            _ => Err(Fault::File(String::from_str(self.alloc, out)?, error)),
-        }
     }
 }

@@ -40,4 +40,4 @@ mod usertest;
 
 pub use fault::Fault;
 pub use lab::{Host, do_words};
-pub use screen::Screen;
+pub use screen::{Failures, Screen};

@@ -7,6 +7,7 @@ use hart_machine::Machine;
 use line_traces::{RegionLine, buffer_of, frame_page};
 use script_reader::{first_field, number};
 use std::alloc::AllocError;
+use text_builder::Text;
 use walk_lines::{TableLine, TableTitle, table_entries};
 
 /// What is told of a question before a machine was booted.
@@ -50,85 +51,80 @@ pub fn look_of(line: &[u8]) -> Asked {
     let Some((word, rest)) = first_field(line) else {
         return Asked::No;
     };
-    if word == b"frames".as_slice() {
-        return match first_field(rest) {
+    let only = only_number(rest);
+    match std::str::from_utf8(word).unwrap_or("") {
+        "frames" => match first_field(rest) {
             None => Asked::Yes(Look::Frames),
             Some(_) => Asked::Wrong("\"frames\" takes no field"),
-        };
-    }
-    if word == b"regions".as_slice() {
-        return match only_number(rest) {
+        },
+        "regions" => match only {
             Some(slot) => Asked::Yes(Look::Regions(slot)),
             None => Asked::Wrong("\"regions\" takes SLOT, a number"),
-        };
-    }
-    if word == b"vmprint".as_slice() {
-        return match only_number(rest) {
+        },
+        "vmprint" => match only {
             Some(slot) => Asked::Yes(Look::Tables(slot)),
             None => Asked::Wrong("\"vmprint\" takes SLOT, a number"),
-        };
-    }
-    if word == b"tlb".as_slice() {
-        return match only_number(rest) {
+        },
+        "tlb" => match only {
             Some(hart) => Asked::Yes(Look::Buffer(hart)),
             None => Asked::Wrong("\"tlb\" takes HART, a number"),
-        };
+        },
+        _ => Asked::No,
     }
-    Asked::No
 }
 
 /// Puts the regions of the process in a slot, one a line.
-fn put_regions(out: &mut String, machine: &Machine, slot: usize) -> Result<(), AllocError> {
+fn put_regions(out: &mut Text, machine: &Machine, slot: usize) {
     let Some(regions) = machine.regions(slot) else {
         return writeln!(out, "  slot {slot} has no process");
     };
     for region in regions.as_slice() {
         let line = RegionLine::of(*region);
-        writeln!(out, "  {line}")?;
+        writeln!(out, "  {line}");
     }
-    Ok(())
 }
 
 /// Puts the page tables of the process in a slot, as xv6's `vmprint` does.
-fn put_tables(out: &mut String, machine: &Machine, slot: usize) -> Result<(), AllocError>
+fn put_tables(out: &mut Text, machine: &Machine, slot: usize)
     requires world { (w : World) × IsInWorld machine.now w }
 {
-    let alloc = *out.allocator();
     let Some(root) = machine.root(slot) else {
         return writeln!(out, "  slot {slot} has no process");
     };
-    let scheme = machine.scheme();
-    let title = TableTitle { root: root.ppn() };
-    writeln!(out, "{title}")?;
+    let (root, scheme) = (root.ppn(), machine.scheme());
+    let title = TableTitle { root };
+    writeln!(out, "{title}");
     let mut words = machine.words();
-    for entry in table_entries(alloc, &mut words, scheme, root.ppn())?.as_slice() {
+    let Ok(entries) = table_entries(out.allocator(), &mut words, scheme, root) else {
+        return out.note(Err(AllocError));
+    };
+    for entry in entries.as_slice() {
         let line = TableLine {
             scheme,
             entry: *entry,
         };
-        writeln!(out, "{line}")?;
+        writeln!(out, "{line}");
     }
-    Ok(())
 }
 
 /// Puts the entries of a hart's buffer, one a line, the oldest first.
-fn put_buffer(out: &mut String, machine: &Machine, hart: usize) -> Result<(), AllocError> {
-    let alloc = *out.allocator();
+fn put_buffer(out: &mut Text, machine: &Machine, hart: usize) {
     if machine.phase(hart).is_none() {
         return writeln!(out, "  there is no hart {hart}");
     }
-    let entries = buffer_of(alloc, machine, hart)?;
+    let Ok(entries) = buffer_of(out.allocator(), machine, hart) else {
+        return out.note(Err(AllocError));
+    };
     if entries.is_empty() {
-        return writeln!(out, "  empty");
+        return out.push_str("  empty\n");
     }
     for entry in entries.as_slice() {
-        writeln!(out, "  {entry}")?;
+        writeln!(out, "  {entry}");
     }
-    Ok(())
 }
 
 /// Puts the accounts of the frames, and below them the frames that are held, one a line, with their references.
-fn put_frames(out: &mut String, machine: &Machine) -> Result<(), AllocError> {
+fn put_frames(out: &mut Text, machine: &Machine) {
     let report = machine.report();
     let (free, held, shared, references) = (
         report.free,
@@ -139,7 +135,7 @@ fn put_frames(out: &mut String, machine: &Machine) -> Result<(), AllocError> {
     writeln!(
         out,
         "  free {free} held {held} shared {shared} references {references}"
-    )?;
+    );
     for (frame, count) in machine.counts().iter().enumerate() {
         let (Some(frame), true) = (frame_page(frame), *count > 0) else {
             continue;
@@ -149,16 +145,12 @@ fn put_frames(out: &mut String, machine: &Machine) -> Result<(), AllocError> {
         } else {
             "references"
         };
-        writeln!(out, "  {frame} {count} {word}")?;
+        writeln!(out, "  {frame} {count} {word}");
     }
-    Ok(())
 }
 
 /// Puts the answer to a question about the machine, in lines that begin with blanks.
-///
-/// # Errors
-/// `AllocError`: the host is out of memory.
-pub fn put_look(out: &mut String, machine: &Machine, look: Look) -> Result<(), AllocError>
+pub fn put_look(out: &mut Text, machine: &Machine, look: Look)
     requires world { (w : World) × IsInWorld machine.now w }
 {
     match look {

@@ -1,6 +1,5 @@
 // Why a script is refused, told on standard error as `FILE:LINE:COLUMN: TEXT`.
 
-ghost use Rattle.std.specs.Prelude.{IfOk};
 ghost use Rattle.line_player.specs.Answers.{HasPlayed};
 ghost use Rattle.line_player.specs.PlayedLines.{Played};
 
@@ -9,11 +8,10 @@ use crate::play::is_among;
 use crate::screen::Screen;
 use fault_texts::{explain, explain_end};
 use grade_reports::Visible;
-use line_fields::Mistake;
 use line_player::LinePlayer;
 use script_language::Cause;
 use script_reader::{first_field, trim_return};
-use std::alloc::{AllocError, Global};
+use std::alloc::Global;
 use std::fmt;
 
 /// Where a line of a script is, as `FILE:LINE`.
@@ -28,15 +26,6 @@ impl fmt::Display for Place<'_> {
     fn fmt<W: fmt::Write>(&self, f: &mut fmt::Formatter<W>) -> fmt::Result {
         let (file, line) = (Visible(self.file), self.line);
         write!(f, "{file}:{line}")
-    }
-}
-
-/// Returns a mistake of the line at a place, as it is told.
-fn told(alloc: Global, place: Place<'_>, mistake: &Mistake) -> Result<String, AllocError> {
-    let text = mistake.text.as_str();
-    match mistake.column {
-        Some(column) => format!(in alloc; "{place}:{column}: {text}\n"),
-        None => format!(in alloc; "{place}: {text}\n"),
     }
 }
 
@@ -61,29 +50,28 @@ pub fn tell_refused<S: Screen>(
     player: &LinePlayer,
     line: &[u8],
     cause: Cause,
-) -> Result<(), Fault>
-    ensures whole { IfOk result (λ _. S.whole screen.old → S.whole screen.new) }
-{
+) -> Result<(), Fault> {
     let mistake = explain(alloc, player.draft(), trim_return(line), cause)?;
-    screen.err(told(alloc, place, &mistake)?.as_str())?;
+    let text = mistake.text.as_str();
+    match mistake.column {
+        Some(column) => screen.err(format_args!("{place}:{column}: {text}\n")),
+        None => screen.err(format_args!("{place}: {text}\n")),
+    }
     if is_for_mmu(line) {
         let file = Visible(place.file);
-        let text = format!(in alloc; "this is a line for a reference MMU: xv6lab mmu {file}\n")?;
-        screen.err(text.as_str())?;
+        screen.err(format_args!("this is a line for a reference MMU: xv6lab mmu {file}\n"));
     }
     Err(Fault::Told)
 }
 
 /// Tells that a script has no `boot`, and returns `Told`, if that is so.
 pub fn tell_end<S: Screen>(
-    alloc: Global,
     screen: &mut S,
     file: &str,
     player: &LinePlayer,
     lines: u64,
 ) -> Result<(), Fault>
     requires played { (s : Played) × HasPlayed player.now s }
-    ensures whole { IfOk result (λ _. S.whole screen.old → S.whole screen.new) }
 {
     if player.machine().is_some() {
         return Ok(());
@@ -93,6 +81,5 @@ pub fn tell_end<S: Screen>(
         line: lines.saturating_add(1),
     };
     let text = explain_end();
-    screen.err(format!(in alloc; "{place}: {text}\n")?.as_str())?;
-    Err(Fault::Told)
+    Err(Fault::told(screen, format_args!("{place}: {text}\n")))
 }

@@ -43,10 +43,8 @@ fn flags_of(field: &[u8]) -> Option<u8> {
 
 /// Appends bytes without the `0x` before them.
 fn put_bytes(out: &mut Vec<u8>, field: &[u8]) -> Result<(), AllocError> {
-    match field {
-        [b'0', b'x', digits @ ..] if !digits.is_empty() => out.extend_from_slice(digits),
-        _ => out.extend_from_slice(field),
-    }
+    let digits = field.strip_prefix(b"0x".as_slice()).unwrap_or(field);
+    out.extend_from_slice(if digits.is_empty() { field } else { digits })
 }
 
 /// Returns how many colons a field has.

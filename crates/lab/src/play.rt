@@ -24,8 +24,7 @@ pub trait Listener {
         line: &[u8],
     ) -> Result<(), Fault>
         requires played { (s : Played) × HasPlayed player.old s }
-        ensures played { IfOk result (λ _. (s : Played) × HasPlayed player.new s) }
-        ensures whole { IfOk result (λ _. S.whole screen.old → S.whole screen.new) };
+        ensures played { IfOk result (λ _. (s : Played) × HasPlayed player.new s) };
 
     /// Does what is to be done after the last line; `lines` is how many there were.
     fn end<S: Screen>(
@@ -34,8 +33,7 @@ pub trait Listener {
         player: &LinePlayer,
         lines: u64,
     ) -> Result<(), Fault>
-        requires played { (s : Played) × HasPlayed player.now s }
-        ensures whole { IfOk result (λ _. S.whole screen.old → S.whole screen.new) };
+        requires played { (s : Played) × HasPlayed player.now s };
 
     /// Returns whether no line more is to be read.
     fn is_over(&self) -> bool {
@@ -46,7 +44,7 @@ pub trait Listener {
 /// Plays a line that has no answer that it expects, and returns how it was answered.
 ///
 /// # Errors
-/// `Told`: the line is refused; that was told. `Memory`: the host is out of memory. `Io`: printing failed.
+/// `Told`: the line is refused; that was told. `Memory`: the host is out of memory.
 pub fn played<S: Screen>(
     alloc: Global,
     screen: &mut S,
@@ -56,7 +54,6 @@ pub fn played<S: Screen>(
 ) -> Result<LineReply, Fault>
     requires played { (s : Played) × HasPlayed player.old s }
     ensures played { IfOk result (λ _. (s : Played) × HasPlayed player.new s) }
-    ensures whole { IfOk result (λ _. S.whole screen.old → S.whole screen.new) }
 {
     let reply = player.line(bare)?;
     if let LineReply::Refused(cause) = reply {
@@ -77,10 +74,7 @@ pub fn is_among(words: &[&[u8]], word: &[u8]) -> bool {
 
 /// Returns a line without its line feed.
 pub fn without_feed(line: &[u8]) -> &[u8] {
-    match line {
-        [front @ .., b'\n'] => front,
-        _ => line,
-    }
+    line.strip_suffix(b"\n".as_slice()).unwrap_or(line)
 }
 
 /// The most bytes that are read of one line: those of the longest line, a carriage return, a line feed, and one more.
@@ -102,7 +96,8 @@ pub fn read_line<R: Read + Drop>(
     }
 }
 
-/// Reads a script to its end and gives each of its lines to the listener, with a player that has taken no line at first.
+/// Reads a script to its end, unless printing fails, and gives each of its lines to the listener, with a player that has taken no line at
+/// first.
 ///
 /// # Errors
 /// The first of the listener; `Read`: the reader failed; `Memory`: the host is out of memory.
@@ -111,15 +106,13 @@ pub fn each_line<R: Read + Drop, S: Screen, L: Listener>(
     reader: R,
     screen: &mut S,
     listener: &mut L,
-) -> Result<(), Fault>
-    ensures whole { IfOk result (λ _. S.whole screen.old → S.whole screen.new) }
-{
+) -> Result<(), Fault> {
     let mut player = LinePlayer::new(alloc)?;
     let mut reader = BufReader::new(alloc, reader)?;
     let mut line = Vec::new(alloc);
     let mut lines = 0;
     'lines: for number in 1..u64::MAX {
-        if listener.is_over() {
+        if listener.is_over() || !screen.is_whole() {
             break;
         }
         line.clear();
@@ -130,6 +123,5 @@ pub fn each_line<R: Read + Drop, S: Screen, L: Listener>(
         let text = plain_line(alloc, without_feed(line.as_slice()))?;
         listener.line(screen, &mut player, number, text.as_slice())?;
     }
-    listener.end(screen, &player, lines)?;
-    Ok(())
+    listener.end(screen, &player, lines)
 }

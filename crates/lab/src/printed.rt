@@ -1,26 +1,29 @@
 // Prints grades as a command line asks for: `print_grades`.
 
-ghost use Rattle.std.specs.Prelude.{IfOk};
-
 use crate::fault::Fault;
-use crate::screen::Screen;
+use crate::screen::{Screen, print, print_object};
 use command_words::GradeForm;
 use grade_reports::{
     FileGrade, FileObject, ResultsObject, csv_head, csv_row, put_summary, put_table,
 };
 use std::alloc::Global;
+use text_builder::Text;
 
 /// Prints grades.
+///
+/// # Errors
+/// `Memory`: the host is out of memory.
 pub fn print_grades<S: Screen>(
     alloc: Global,
     screen: &mut S,
     form: GradeForm,
     grades: &[FileGrade],
-) -> Result<(), Fault>
-    ensures whole { IfOk result (λ _. S.whole screen.old → S.whole screen.new) }
-{
+) -> Result<(), Fault> {
     match form {
-        GradeForm::Table => print_table(alloc, screen, grades),
+        GradeForm::Table => {
+            print_table(alloc, screen, grades);
+            Ok(())
+        }
         GradeForm::Csv => print_csv(alloc, screen, grades),
         GradeForm::Json => print_objects(alloc, screen, grades),
         GradeForm::Gradescope => print_results(alloc, screen, grades),
@@ -28,22 +31,18 @@ pub fn print_grades<S: Screen>(
 }
 
 /// Prints grades as a table, and what is counted of all.
-fn print_table<S: Screen>(alloc: Global, screen: &mut S, grades: &[FileGrade]) -> Result<(), Fault>
-    ensures whole { IfOk result (λ _. S.whole screen.old → S.whole screen.new) }
-{
-    let mut text = String::new(alloc);
-    put_table(alloc, &mut text, grades)?;
-    put_summary(&mut text, grades)?;
-    screen.out(text.as_str())
+fn print_table<S: Screen>(alloc: Global, screen: &mut S, grades: &[FileGrade]) {
+    let mut text = Text::new(alloc);
+    put_table(alloc, &mut text, grades);
+    put_summary(&mut text, grades);
+    print(screen, text)
 }
 
 /// Prints grades as CSV.
-fn print_csv<S: Screen>(alloc: Global, screen: &mut S, grades: &[FileGrade]) -> Result<(), Fault>
-    ensures whole { IfOk result (λ _. S.whole screen.old → S.whole screen.new) }
-{
-    screen.out(csv_head())?;
+fn print_csv<S: Screen>(alloc: Global, screen: &mut S, grades: &[FileGrade]) -> Result<(), Fault> {
+    screen.out(csv_head());
     'grades: for grade in grades {
-        screen.out_bytes(csv_row(alloc, grade)?.as_slice())?;
+        screen.out_bytes(csv_row(alloc, grade)?.as_slice());
     }
     Ok(())
 }
@@ -53,14 +52,9 @@ fn print_objects<S: Screen>(
     alloc: Global,
     screen: &mut S,
     grades: &[FileGrade],
-) -> Result<(), Fault>
-    ensures whole { IfOk result (λ _. S.whole screen.old → S.whole screen.new) }
-{
+) -> Result<(), Fault> {
     'grades: for grade in grades {
-        let object = FileObject::of(alloc, grade)?;
-        let mut text = serde_json::to_string(alloc, &object)?;
-        text.push_str("\n")?;
-        screen.out(text.as_str())?;
+        print_object(alloc, screen, &FileObject::of(alloc, grade)?);
     }
     Ok(())
 }
@@ -70,14 +64,9 @@ fn print_results<S: Screen>(
     alloc: Global,
     screen: &mut S,
     grades: &[FileGrade],
-) -> Result<(), Fault>
-    ensures whole { IfOk result (λ _. S.whole screen.old → S.whole screen.new) }
-{
-    let Some(grade) = grades.first() else {
-        return Ok(());
-    };
-    let object = ResultsObject::of(alloc, grade)?;
-    let mut text = serde_json::to_string(alloc, &object)?;
-    text.push_str("\n")?;
-    screen.out(text.as_str())
+) -> Result<(), Fault> {
+    if let Some(grade) = grades.first() {
+        print_object(alloc, screen, &ResultsObject::of(alloc, grade)?);
+    }
+    Ok(())
 }

@@ -1,12 +1,12 @@
 // `Game`: a quiz whose script was played: the answers, what happened on each line, and which lines are asked.
 
-ghost use Rattle.std.specs.Prelude.{IfOk};
 ghost use Rattle.line_player.specs.Answers.{HasPlayed};
 ghost use Rattle.line_player.specs.PlayedLines.{Played};
 
 use crate::fault::Fault;
 use crate::play::{Listener, each_line, is_among};
 use crate::screen::Screen;
+use crate::usertest::{script_text, tell_difference};
 use grade_reports::{Reason, put_reason as put_wrong, reason_of_text, word_of};
 use line_player::LinePlayer;
 use line_traces::{Ledger, put_trace, trace_line};
@@ -19,6 +19,7 @@ use quiz_answers::{
 use quizzes::{Quiz, Subject, Teller, make};
 use script_reader::{first_field, number};
 use std::alloc::{AllocError, Global};
+use text_builder::Text;
 use usertest_rows::Line;
 use usertest_text::{PlayFault, compare, predicted_answers};
 
@@ -38,14 +39,11 @@ impl Seen {
     fn drawing(&self, player: &LinePlayer) -> Result<String, AllocError>
         requires played { (s : Played) × HasPlayed player.now s }
     {
-        let mut text = String::new(self.alloc);
-        if !self.draws {
-            return Ok(text);
+        let mut text = Text::new(self.alloc);
+        if let (Some(machine), true) = (player.machine(), self.draws) {
+            put_picture(&mut text, machine);
         }
-        if let Some(machine) = player.machine() {
-            put_picture(&mut text, machine)?;
-        }
-        Ok(text)
+        text.finish()
     }
 }
 
@@ -59,10 +57,10 @@ impl Listener for Seen {
     ) -> Result<(), Fault> {
         let mut trace = trace_line(self.alloc, player, number, line)?;
         self.ledger.add(&mut trace, player.machine())?;
-        let mut text = String::new(self.alloc);
-        put_trace(&mut text, &trace)?;
+        let mut text = Text::new(self.alloc);
+        put_trace(&mut text, &trace);
+        self.traces.push(text.finish()?)?;
         let picture = self.drawing(player)?;
-        self.traces.push(text)?;
         self.pictures.push(picture)?;
         Ok(())
     }
@@ -92,23 +90,13 @@ pub struct Game {
     pub asked: Vec<usize>,
 }
 
-/// Returns the lines of a script as its text.
-fn script_of(alloc: Global, lines: &[Line]) -> Result<String, AllocError> {
-    let mut text = String::new(alloc);
-    for line in lines {
-        text.push_str(line.text.as_str())?;
-        text.push_str("\n")?;
-    }
-    Ok(text)
-}
-
 /// Returns the answer of the reference MMU to a line.
 fn mmu_answer(alloc: Global, player: &mut MmuPlayer, line: &Line) -> Result<Vec<u8>, AllocError> {
-    let mut text = String::new(alloc);
-    if let Some(answer) = player.line(line.text.as_str().as_bytes())? {
-        put_answer(&mut text, &answer)?;
+    let mut text = Text::new(alloc);
+    if let Some(answer) = player.line(line.text.as_bytes())? {
+        put_answer(&mut text, &answer);
     }
-    Vec::from_slice(alloc, text.as_bytes().trim_ascii())
+    Vec::from_slice(alloc, text.finish()?.as_bytes().trim_ascii())
 }
 
 /// Returns the answers of the reference MMU to some lines.
@@ -126,19 +114,21 @@ fn mmu_answers(alloc: Global, lines: &[Line]) -> Result<Vec<Vec<u8>>, PlayFault>
     Ok(answers)
 }
 
-/// Returns the indices of a virtual address of Sv39, one for each level, and its offset, as text; or that it is not canonical.
-fn indices(alloc: Global, address: u64) -> Result<String, AllocError> {
+/// Appends the indices of a virtual address of Sv39, one for each level, and its offset; or that it is not canonical.
+fn put_indices(out: &mut Text, address: u64) {
     let high = address >> 38;
     if high != 0 && high != 0x3ff_ffff {
-        return String::from_str(
-            alloc,
-            "bits 63 to 39 differ from bit 38: not canonical, so no walk",
+        return out.push_str(
+            "        bits 63 to 39 differ from bit 38: not canonical, so no walk\n",
         );
     }
     let offset = address % 4096;
     let page = address / 4096;
     let (last, middle, first) = (page % 512, page / 512 % 512, page / 262_144 % 512);
-    format!(in alloc; "VPN[2] {first}, VPN[1] {middle}, VPN[0] {last}, offset 0x{offset:x}")
+    writeln!(
+        out,
+        "        VPN[2] {first}, VPN[1] {middle}, VPN[0] {last}, offset 0x{offset:x}"
+    )
 }
 
 /// Returns an outcome of a guess as a client of a reference MMU tells it; a physical address in hexadecimal digits.
@@ -159,23 +149,29 @@ fn only_number(text: &[u8]) -> Option<u64> {
     number(field)
 }
 
+/// Appends an outcome with what is said of it, and a reason.
+fn put_verdict(out: &mut Text, outcome: &str, verdict: &str, reason: &str) {
+    writeln!(out, "  {outcome}: {verdict}{reason}")
+}
+
 /// Appends what a reference MMU answers to a line that tells an outcome: that it is permitted, or why it is not.
 fn put_reason(
-    out: &mut String,
+    out: &mut Text,
     player: &mut MmuPlayer,
     line: &str,
     outcome: &str,
 ) -> Result<(), AllocError> {
-    let alloc = *out.allocator();
+    let alloc = out.allocator();
     let text = format!(in alloc; "{line} => {outcome}")?;
-    match player.line(text.as_str().as_bytes())? {
+    let answer = player.line(text.as_str().as_bytes())?;
+    match &answer {
         Some(Answer::NotPermitted { reason, .. }) => {
-            let reason = reason.as_str();
-            writeln!(out, "  {outcome}: NOT permitted: {reason}")
+            put_verdict(out, outcome, "NOT permitted: ", reason.as_str())
         }
-        Some(Answer::Permitted(_)) => { writeln!(out, "  {outcome}: permitted") }
-        _ => Ok(()),
+        Some(Answer::Permitted(_)) => put_verdict(out, outcome, "permitted", ""),
+        _ => {}
     }
+    Ok(())
 }
 
 /// Returns why an outcome that a guess lacks is permitted, by the word with which a reference MMU begins it.
@@ -210,35 +206,15 @@ fn mmu_trace(
     number_of_line: usize,
     line: &str,
     answer: &str,
-) -> Result<String, AllocError> {
-    let mut text = format!(in alloc; "{number_of_line:>4}  {line}\n")?;
+) -> Text {
+    let mut text = Text::new(alloc);
+    writeln!(&mut text, "{number_of_line:>4}  {line}");
     if let Some(address) = accessed(line.as_bytes()) {
-        let indices = indices(alloc, address)?;
-        let indices = indices.as_str();
-        writeln!(&mut text, "        {indices}")?;
-        player.put_walk_steps(&mut text, address)?;
+        put_indices(&mut text, address);
+        player.put_walk_steps(&mut text, address);
     }
-    writeln!(&mut text, "        {answer}")?;
-    Ok(text)
-}
-
-/// Prints in which line the machine answers otherwise than the generator predicts.
-fn tell_difference<S: Screen>(
-    alloc: Global,
-    screen: &mut S,
-    order: Order,
-    fault: &PlayFault,
-) -> Result<Fault, Fault>
-    ensures whole { IfOk result (λ _. S.whole screen.old → S.whole screen.new) }
-{
-    match fault {
-        PlayFault::Memory => Ok(Fault::Memory),
-        PlayFault::Differs(text) => {
-            let (name, seed, text) = (order.subject.name(), order.seed, text.as_str());
-            screen.err(format!(in alloc; "quiz {name} {seed}: line {text}\n")?.as_str())?;
-            Ok(Fault::Told)
-        }
-    }
+    writeln!(&mut text, "        {answer}");
+    text
 }
 
 /// Returns the places of lines that are worth a question, but those of misaligned accesses: more is permitted of these than is listed.
@@ -284,9 +260,7 @@ impl Game {
         screen: &mut S,
         order: Order,
         attempt: u64,
-    ) -> Result<Game, Fault>
-        ensures whole { IfOk result (λ _. S.whole screen.old → S.whole screen.new) }
-    {
+    ) -> Result<Game, Fault> {
         let quiz = make(alloc, order.subject, order.seed, attempt)?;
         let played = match quiz.teller {
             Teller::Machine => predicted_answers(alloc, quiz.lines.as_slice()),
@@ -294,7 +268,11 @@ impl Game {
         };
         let answers = match played {
             Ok(answers) => answers,
-            Err(fault) => return Err(tell_difference(alloc, screen, order, &fault)?),
+            Err(fault) => {
+                let (name, seed) = (order.subject.name(), order.seed);
+                let line = format_args!("quiz {name} {seed}: line ");
+                return Err(tell_difference(screen, line, fault));
+            }
         };
         let script = Script {
             lines: quiz.lines.as_slice(),
@@ -315,11 +293,8 @@ impl Game {
     /// Returns the quiz of a subject and a seed, played.
     ///
     /// # Errors
-    /// `Told`: the machine answers a line otherwise than the generator predicts; that was told. `Memory`: the host is out of memory. `Io`:
-    /// printing failed.
-    pub fn play<S: Screen>(alloc: Global, screen: &mut S, order: Order) -> Result<Game, Fault>
-        ensures whole { IfOk result (λ _. S.whole screen.old → S.whole screen.new) }
-    {
+    /// `Told`: the machine answers a line otherwise than the generator predicts; that was told. `Memory`: the host is out of memory.
+    pub fn play<S: Screen>(alloc: Global, screen: &mut S, order: Order) -> Result<Game, Fault> {
         let mut game = Game::attempt(alloc, screen, order, 0)?;
         'attempts: for attempt in 1..ATTEMPTS {
             if game.asked.len() >= order.count.min(ENOUGH) {
@@ -332,14 +307,12 @@ impl Game {
     }
 
     /// Notes what happens on each line.
-    fn look<S: Screen>(&mut self, screen: &mut S, draws: bool) -> Result<(), Fault>
-        ensures whole { IfOk result (λ _. S.whole screen.old → S.whole screen.new) }
-    {
+    fn look<S: Screen>(&mut self, screen: &mut S, draws: bool) -> Result<(), Fault> {
         let alloc = self.alloc;
         if self.quiz.teller == Teller::Mmu {
             return self.look_at_mmu();
         }
-        let script = script_of(alloc, self.quiz.lines.as_slice())?;
+        let script = script_text(alloc, self.quiz.lines.as_slice()).finish()?;
         let mut seen = Seen {
             alloc,
             draws,
@@ -363,8 +336,8 @@ impl Game {
                 at.saturating_add(1),
                 self.line(at),
                 self.answer(at),
-            )?;
-            self.traces.push(trace)?;
+            );
+            self.traces.push(trace.finish()?)?;
             player.line(self.line(at).as_bytes())?;
         }
         Ok(())
@@ -428,30 +401,19 @@ impl Game {
     }
 
     /// Appends the outcomes that a guess lacks, one a line, with why they are permitted too.
-    fn put_missed(&self, out: &mut String, at: usize, guess: &[u8]) -> Result<(), AllocError> {
+    fn put_missed(&self, out: &mut Text, at: usize, guess: &[u8]) -> Result<(), AllocError> {
         let missed = missed_parts(self.alloc, guess, self.answer(at).as_bytes())?;
         'parts: for part in missed.as_slice() {
             let part = part.as_slice();
             let outcome = std::str::from_utf8(part).unwrap_or("?");
             let why = why_permitted(part);
-            writeln!(out, "  missed: {outcome}: {why}")?;
+            writeln!(out, "  missed: {outcome}: {why}");
         }
         Ok(())
     }
 
-    /// Returns what the reference MMU says of the outcomes in a wrong guess, and those that it lacks, one a line; empty of other quizzes.
-    pub fn reasons(&self, at: usize, guess: &[u8]) -> Result<String, AllocError> {
-        let mut text = String::new(self.alloc);
-        if self.quiz.teller == Teller::Machine {
-            return Ok(text);
-        }
-        self.put_reasons(&mut text, at, guess)?;
-        self.put_missed(&mut text, at, guess)?;
-        Ok(text)
-    }
-
     /// Appends what the reference MMU says of the outcomes in a guess, one a line.
-    fn put_reasons(&self, out: &mut String, at: usize, guess: &[u8]) -> Result<(), AllocError> {
+    fn put_reasons(&self, out: &mut Text, at: usize, guess: &[u8]) -> Result<(), AllocError> {
         let mut player = self.mmu_before(at)?;
         let parts = plain_parts(self.alloc, guess)?;
         'parts: for part in parts.as_slice() {
@@ -461,34 +423,28 @@ impl Game {
         Ok(())
     }
 
-    /// Returns which parts of a guess at a line are wrong, if its word is right; empty of a reference MMU.
-    pub fn wrong_parts(&self, at: usize, guess: &[u8]) -> Result<String, AllocError> {
-        let (alloc, mut text) = (self.alloc, String::new(self.alloc));
-        if self.quiz.teller == Teller::Mmu {
-            return Ok(text);
-        }
+    /// Appends which parts of a guess at a line are wrong, if its word is right.
+    fn put_wrong_parts(&self, out: &mut Text, at: usize, guess: &[u8]) -> Result<(), AllocError> {
         let word = word_of(self.line(at).as_bytes());
-        let reason = reason_of_text(alloc, word, guess, self.answer(at).as_bytes())?;
+        let reason = reason_of_text(self.alloc, word, guess, self.answer(at).as_bytes())?;
         if let Reason::Parts(_) = &reason {
-            text.push_str("  ")?;
-            put_wrong(&mut text, word, &reason)?;
-            text.push_str("\n")?;
+            out.push_str("  ");
+            put_wrong(out, word, &reason);
+            out.push_str("\n");
         }
-        Ok(text)
+        Ok(())
     }
 
-    /// Returns the lines of questions that were missed, each with its number and its right answer; empty if none were.
-    pub fn missed(&self, missed: &[usize]) -> Result<String, AllocError> {
-        let mut text = String::new(self.alloc);
-        if missed.is_empty() {
-            return Ok(text);
+    /// Appends what is wrong with a guess, in lines: which of its parts are; of a reference MMU, what that says of the outcomes in the guess, and
+    /// those that the guess lacks.
+    pub fn put_why(&self, out: &mut Text, at: usize, guess: &[u8]) -> Result<(), AllocError> {
+        match self.quiz.teller {
+            Teller::Machine => self.put_wrong_parts(out, at, guess),
+            Teller::Mmu => {
+                self.put_reasons(out, at, guess)?;
+                self.put_missed(out, at, guess)
+            }
         }
-        text.push_str("missed:\n")?;
-        for at in missed {
-            let (number, line, answer) = (at.saturating_add(1), self.line(*at), self.answer(*at));
-            write!(&mut text, "  line {number}: {line}\n    {answer}\n")?;
-        }
-        Ok(text)
     }
 
     /// Returns what happens on a line; empty if there is none.
@@ -511,7 +467,7 @@ impl Game {
     }
 
     /// Appends a line with its answer: beside it, or below it for the reference MMU, whose lines have another meaning of `=>`.
-    pub fn put_line(&self, out: &mut String, at: usize) -> Result<(), AllocError> {
+    pub fn put_line(&self, out: &mut Text, at: usize) {
         let (line, answer) = (self.line(at), self.answer(at));
         if answer.is_empty() {
             return writeln!(out, "{line}");
@@ -522,13 +478,11 @@ impl Game {
         }
     }
 
-    /// Returns lines with their answers, from one on, before another.
-    pub fn between(&self, first: usize, end: usize) -> Result<String, AllocError> {
-        let mut text = String::new(self.alloc);
+    /// Appends lines with their answers, from one on, before another.
+    pub fn put_between(&self, out: &mut Text, first: usize, end: usize) {
         for at in first..end {
-            self.put_line(&mut text, at)?;
+            self.put_line(out, at);
         }
-        Ok(text)
     }
 
     /// Returns the question about a line on a page; `lines` are those before it, since the question before.

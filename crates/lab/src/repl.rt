@@ -8,7 +8,7 @@ ghost use Rattle.line_player.specs.PlayedLines.{Played, nothing_played, played_l
 use crate::fault::Fault;
 use crate::looks::{Asked, Look, NO_MACHINE, look_of, put_look};
 use crate::play::Listener;
-use crate::screen::Screen;
+use crate::screen::{Screen, print};
 use fault_texts::{explain, field_names};
 use handouts::split;
 use line_player::{LinePlayer, LineReply};
@@ -18,6 +18,7 @@ use script_reader::{Row, first_field, trim_return};
 use std::alloc::{AllocError, Global};
 use std::fs;
 use std::rt::Files;
+use text_builder::Text;
 
 /// What is printed, on standard error, when a line may be typed.
 const PROMPT: &str = "> ";
@@ -87,96 +88,91 @@ fn replayed(alloc: Global, lines: &[Vec<u8>]) -> Result<LinePlayer, AllocError>
 
 impl<'a, F: Files> ReplLines<'a, F> {
     /// Asks for the first line.
-    ///
-    /// # Errors
-    /// `Io`: printing failed.
-    pub fn new<S: Screen>(
-        alloc: Global,
-        files: &'a F,
-        screen: &mut S,
-    ) -> Result<ReplLines<'a, F>, Fault>
-        ensures whole { IfOk result (λ _. S.whole screen.old → S.whole screen.new) }
-    {
-        screen.err(BANNER)?;
-        screen.err(PROMPT)?;
-        Ok(ReplLines {
+    pub fn new<S: Screen>(alloc: Global, files: &'a F, screen: &mut S) -> ReplLines<'a, F> {
+        screen.err(BANNER);
+        screen.err(PROMPT);
+        ReplLines {
             alloc,
             files,
             taken: Vec::new(alloc),
             over: false,
-        })
+        }
     }
 
-    /// Writes the lines that were taken to a new file, as a script.
-    fn save<S: Screen>(&self, screen: &mut S, name: &str) -> Result<(), Fault>
-        ensures whole { IfOk result (λ _. S.whole screen.old → S.whole screen.new) }
-    {
-        if name.is_empty() {
-            return screen.out("save FILE: the name of a new file is missing\n");
-        }
-        if fs::open(self.files, name).is_ok() {
-            return screen.out(format!(in self.alloc;
-                "{name} is there already, and stays as it is; name another file\n"
-            )?.as_str());
-        }
+    /// Returns the lines that were taken, as a script.
+    fn script(&self) -> Result<Vec<u8>, AllocError> {
         let mut text = Vec::new(self.alloc);
         'lines: for line in self.taken.as_slice() {
             text.extend_from_slice(line.as_slice())?;
             text.push(b'\n')?;
         }
-        let count = self.taken.len();
-        match fs::write(self.files, name, text.as_slice()) {
-            Ok(()) => screen.out(format!(in self.alloc; "{count} lines are in {name}\n")?.as_str()),
-            Err(error) => screen.out(format!(in self.alloc; "{name}: {error}\n")?.as_str()),
+        Ok(text)
+    }
+
+    /// Writes the lines that were taken to a new file, as a script.
+    fn save<S: Screen>(&self, screen: &mut S, name: &str) -> Result<(), AllocError> {
+        if name.is_empty() {
+            screen.out("save FILE: the name of a new file is missing\n");
+            return Ok(());
         }
+        if fs::open(self.files, name).is_ok() {
+            screen.out(format_args!(
+                "{name} is there already, and stays as it is; name another file\n"
+            ));
+            return Ok(());
+        }
+        let count = self.taken.len();
+        match fs::write(self.files, name, self.script()?.as_slice()) {
+            Ok(()) => screen.out(format_args!("{count} lines are in {name}\n")),
+            Err(error) => screen.out(format_args!("{name}: {error}\n")),
+        }
+        Ok(())
     }
 
     /// Prints the words of lines with their fields.
-    fn tell_lines<S: Screen>(&self, screen: &mut S) -> Result<(), Fault>
-        ensures whole { IfOk result (λ _. S.whole screen.old → S.whole screen.new) }
-    {
-        let mut text = String::new(self.alloc);
+    fn tell_lines<S: Screen>(&self, screen: &mut S) {
+        let mut text = Text::new(self.alloc);
         for row in Row::all().as_slice() {
             let word = std::str::from_utf8(row.text).unwrap_or("?");
             let fields = field_names(row.word);
             if row.kinds.is_empty() {
-                writeln!(&mut text, "  {word}")?;
+                writeln!(&mut text, "  {word}");
             } else {
-                writeln!(&mut text, "  {word} {fields}")?;
+                writeln!(&mut text, "  {word} {fields}");
             }
         }
-        text.push_str(OWN_LINES)?;
-        screen.out(text.as_str())
+        text.push_str(OWN_LINES);
+        print(screen, text)
     }
 
     /// Takes the last line back: the player has then taken those before it, and no others.
-    fn undo<S: Screen>(&mut self, screen: &mut S, player: &mut LinePlayer) -> Result<(), Fault>
+    fn undo<S: Screen>(&mut self, screen: &mut S, player: &mut LinePlayer) -> Result<(), AllocError>
         requires played { (s : Played) × HasPlayed player.old s }
         ensures played { IfOk result (λ _. (s : Played) × HasPlayed player.new s) }
         ensures undone { IfOk result (λ _. 0 < length self.old.taken.items →
             (self.new.taken.items ≡ take (length self.old.taken.items - 1) self.old.taken.items)
             × HasPlayed player.new (played_lines nothing_played (map (λ line. line.items) self.new.taken.items))) }
-        ensures whole { IfOk result (λ _. S.whole screen.old → S.whole screen.new) }
     {
         let Some(last) = self.taken.pop() else {
-            return screen.out("there is no line to take back\n");
+            screen.out("there is no line to take back\n");
+            return Ok(());
         };
         *player = replayed(self.alloc, self.taken.as_slice())?;
         let text = std::str::from_utf8(last.as_slice()).unwrap_or("?");
-        screen.out(format!(in self.alloc; "took back: {text}\n")?.as_str())
+        screen.out(format_args!("took back: {text}\n"));
+        Ok(())
     }
 
     /// Prints the answer to a question about the machine.
-    fn look<S: Screen>(&self, screen: &mut S, player: &LinePlayer, look: Look) -> Result<(), Fault>
+    fn look<S: Screen>(&self, screen: &mut S, player: &LinePlayer, look: Look)
         requires played { (s : Played) × HasPlayed player.now s }
-        ensures whole { IfOk result (λ _. S.whole screen.old → S.whole screen.new) }
     {
         let Some(machine) = player.machine() else {
-            return screen.out(format!(in self.alloc; "{NO_MACHINE}\n")?.as_str());
+            return screen.out(format_args!("{NO_MACHINE}\n"));
         };
-        let mut text = String::new(self.alloc);
-        put_look(&mut text, machine, look)?;
-        screen.out(text.as_str())
+        let mut text = Text::new(self.alloc);
+        put_look(&mut text, machine, look);
+        print(screen, text)
     }
 
     /// Prints why a line is refused.
@@ -186,16 +182,14 @@ impl<'a, F: Files> ReplLines<'a, F> {
         player: &LinePlayer,
         line: &[u8],
         cause: Cause,
-    ) -> Result<(), Fault>
-        ensures whole { IfOk result (λ _. S.whole screen.old → S.whole screen.new) }
-    {
+    ) -> Result<(), AllocError> {
         let mistake = explain(self.alloc, player.draft(), trim_return(line), cause)?;
         let text = mistake.text.as_str();
-        let told = match mistake.column {
-            Some(column) => format!(in self.alloc; "column {column}: {text}\n")?,
-            None => format!(in self.alloc; "{text}\n")?,
-        };
-        screen.out(told.as_str())
+        match mistake.column {
+            Some(column) => screen.out(format_args!("column {column}: {text}\n")),
+            None => screen.out(format_args!("{text}\n")),
+        }
+        Ok(())
     }
 
     /// Keeps a line that was taken.
@@ -210,26 +204,21 @@ impl<'a, F: Files> ReplLines<'a, F> {
         screen: &mut S,
         player: &mut LinePlayer,
         line: &[u8],
-    ) -> Result<(), Fault>
+    ) -> Result<(), AllocError>
         requires played { (s : Played) × HasPlayed player.old s }
         ensures played { IfOk result (λ _. (s : Played) × HasPlayed player.new s) }
-        ensures whole { IfOk result (λ _. S.whole screen.old → S.whole screen.new) }
     {
         let before = Before::line(self.alloc, player, line)?;
         match player.line(line)? {
             LineReply::Refused(cause) => self.tell(screen, player, line, cause),
-            LineReply::Nothing => {
-                self.keep(line)?;
-                Ok(())
-            }
+            LineReply::Nothing => self.keep(line),
             LineReply::Text => {
-                self.keep(line)?;
                 let answer = std::str::from_utf8(player.answer()).unwrap_or("?");
-                screen.out(format!(in self.alloc; "{answer}\n")?.as_str())?;
-                match explain_answer(self.alloc, player, &before, line)? {
-                    Some(note) => screen.out(format!(in self.alloc; "  {note}\n")?.as_str()),
-                    None => Ok(()),
+                screen.out(format_args!("{answer}\n"));
+                if let Some(note) = explain_answer(self.alloc, player, &before, line)? {
+                    screen.out(format_args!("  {note}\n"));
                 }
+                self.keep(line)
             }
         }
     }
@@ -240,16 +229,19 @@ impl<'a, F: Files> ReplLines<'a, F> {
         screen: &mut S,
         player: &mut LinePlayer,
         line: &[u8],
-    ) -> Result<(), Fault>
+    ) -> Result<(), AllocError>
         requires played { (s : Played) × HasPlayed player.old s }
         ensures played { IfOk result (λ _. (s : Played) × HasPlayed player.new s) }
-        ensures whole { IfOk result (λ _. S.whole screen.old → S.whole screen.new) }
     {
         match look_of(line) {
             Asked::No => self.play(screen, player, line),
-            Asked::Yes(look) => self.look(screen, player, look),
+            Asked::Yes(look) => {
+                self.look(screen, player, look);
+                Ok(())
+            }
             Asked::Wrong(text) => {
-                screen.out(format!(in self.alloc; "column 1: {text}\n")?.as_str())
+                screen.out(format_args!("column 1: {text}\n"));
+                Ok(())
             }
         }
     }
@@ -260,10 +252,9 @@ impl<'a, F: Files> ReplLines<'a, F> {
         screen: &mut S,
         player: &mut LinePlayer,
         line: &[u8],
-    ) -> Result<(), Fault>
+    ) -> Result<(), AllocError>
         requires played { (s : Played) × HasPlayed player.old s }
         ensures played { IfOk result (λ _. (s : Played) × HasPlayed player.new s) }
-        ensures whole { IfOk result (λ _. S.whole screen.old → S.whole screen.new) }
     {
         if let Some((b"save", name)) = first_field(line) {
             let name = std::str::from_utf8(name.trim_ascii()).unwrap_or("");
@@ -271,16 +262,14 @@ impl<'a, F: Files> ReplLines<'a, F> {
         }
         match wish_of(line.trim_ascii()) {
             Some(Wish::Help) => self.tell_lines(screen),
-            Some(Wish::Undo) => self.undo(screen, player),
-            Some(Wish::Quit) => {
-                self.over = true;
-                Ok(())
-            }
+            Some(Wish::Undo) => return self.undo(screen, player),
+            Some(Wish::Quit) => self.over = true,
             Some(Wish::Exit) => screen.out(
                 "`exit HART STATUS` ends a process; `quit` or Ctrl-D ends `repl`\n",
             ),
-            None => self.play_or_look(screen, player, line),
+            None => return self.play_or_look(screen, player, line),
         }
+        Ok(())
     }
 }
 
@@ -293,10 +282,10 @@ impl<F: Files> Listener for ReplLines<'_, F> {
         line: &[u8],
     ) -> Result<(), Fault> {
         self.answer(screen, player, split(line).line)?;
-        if self.over {
-            return Ok(());
+        if !self.over {
+            screen.err(PROMPT);
         }
-        screen.err(PROMPT)
+        Ok(())
     }
 
     fn is_over(&self) -> bool {
@@ -309,9 +298,9 @@ impl<F: Files> Listener for ReplLines<'_, F> {
         _player: &LinePlayer,
         _lines: u64,
     ) -> Result<(), Fault> {
-        if self.over {
-            return Ok(());
+        if !self.over {
+            screen.err("\n");
         }
-        screen.err("\n")
+        Ok(())
     }
 }

@@ -56,17 +56,15 @@ impl<'a> RunLines<'a> {
     }
 
     /// Tells how many lines were refused, if some were and it is to be told.
-    fn tell_refusals<S: Screen>(&self, screen: &mut S) -> Result<(), Fault>
-        ensures whole { IfOk result (λ _. S.whole screen.old → S.whole screen.new) }
-    {
+    fn tell_refusals<S: Screen>(&self, screen: &mut S) {
         if self.refused == 0 || !self.telling.explain {
-            return Ok(());
+            return;
         }
         let (count, first) = (self.refused, self.first);
         let lines = if count == 1 { "line" } else { "lines" };
-        screen.out(format!(in self.alloc;
+        screen.out(format_args!(
             "# {count} {lines} refused, the first is line {first}: what follows it may be answered for another phase or process; --strict stops there\n"
-        )?.as_str())
+        ))
     }
 }
 
@@ -80,7 +78,6 @@ pub fn tell_unexpected<S: Screen>(
     line: Expected<'_>,
 ) -> Result<(), Fault>
     requires played { (s : Played) × HasPlayed player.now s }
-    ensures whole { IfOk result (λ _. S.whole screen.old → S.whole screen.new) }
 {
     let answer = player.answer();
     if !answer.starts_with(b"refused") || line.answer == Some(answer) {
@@ -88,8 +85,8 @@ pub fn tell_unexpected<S: Screen>(
     }
     let text = std::str::from_utf8(answer).unwrap_or("?");
     match explain_answer(alloc, player, before, line.line)? {
-        Some(note) => screen.err(format!(in alloc; "{place}: {text}: {note}\n")?.as_str())?,
-        None => screen.err(format!(in alloc; "{place}: {text}\n")?.as_str())?,
+        Some(note) => screen.err(format_args!("{place}: {text}: {note}\n")),
+        None => screen.err(format_args!("{place}: {text}\n")),
     }
     Err(Fault::Told)
 }
@@ -103,12 +100,11 @@ fn put_note<S: Screen>(
     line: &[u8],
 ) -> Result<(), Fault>
     requires played { (s : Played) × HasPlayed player.now s }
-    ensures whole { IfOk result (λ _. S.whole screen.old → S.whole screen.new) }
 {
-    match explain_answer(alloc, player, before, line)? {
-        Some(note) => screen.out(format!(in alloc; "#   {note}\n")?.as_str()),
-        None => Ok(()),
+    if let Some(note) = explain_answer(alloc, player, before, line)? {
+        screen.out(format_args!("#   {note}\n"));
     }
+    Ok(())
 }
 
 /// Prints a line with the answer that it got, and what is to be told of that.
@@ -122,17 +118,16 @@ fn put_answer<S: Screen>(
     telling: Telling,
 ) -> Result<(), Fault>
     requires played { (s : Played) × HasPlayed player.now s }
-    ensures whole { IfOk result (λ _. S.whole screen.old → S.whole screen.new) }
 {
     let text = String::from_utf8_lossy(alloc, trim_return(line.line))?;
     let text = text.as_str();
     let answer = std::str::from_utf8(player.answer()).unwrap_or("?");
-    screen.out(format!(in alloc; "{text:<34} => {answer}\n")?.as_str())?;
+    screen.out(format_args!("{text:<34} => {answer}\n"));
     if telling.explain || player.answer().starts_with(b"refused 12 BadImage") {
         put_note(alloc, screen, player, before, line.line)?;
     }
     if telling.strict {
-        tell_unexpected(alloc, screen, place, player, before, line)?;
+        return tell_unexpected(alloc, screen, place, player, before, line);
     }
     Ok(())
 }
@@ -140,7 +135,7 @@ fn put_answer<S: Screen>(
 /// Plays a line, and prints it with its answer.
 ///
 /// # Errors
-/// `Told`: the line is refused; that was told. `Memory`: the host is out of memory. `Io`: printing failed.
+/// `Told`: the line is refused; that was told. `Memory`: the host is out of memory.
 pub fn run_line<S: Screen>(
     alloc: Global,
     screen: &mut S,
@@ -151,7 +146,6 @@ pub fn run_line<S: Screen>(
 ) -> Result<(), Fault>
     requires played { (s : Played) × HasPlayed player.old s }
     ensures played { IfOk result (λ _. (s : Played) × HasPlayed player.new s) }
-    ensures whole { IfOk result (λ _. S.whole screen.old → S.whole screen.new) }
 {
     let bare = line.line;
     let before = Before::line(alloc, player, bare)?;
@@ -159,7 +153,8 @@ pub fn run_line<S: Screen>(
         LineReply::Nothing => {
             let text = String::from_utf8_lossy(alloc, trim_return(bare))?;
             let text = text.as_str();
-            screen.out(format!(in alloc; "{text}\n")?.as_str())
+            screen.out(format_args!("{text}\n"));
+            Ok(())
         }
         LineReply::Text => put_answer(alloc, screen, place, player, &before, line, telling),
         LineReply::Refused(cause) => tell_refused(alloc, screen, place, player, bare, cause),
@@ -190,7 +185,8 @@ impl Listener for RunLines<'_> {
         player: &LinePlayer,
         lines: u64,
     ) -> Result<(), Fault> {
-        tell_end(self.alloc, screen, self.file, player, lines)?;
-        self.tell_refusals(screen)
+        tell_end(screen, self.file, player, lines)?;
+        self.tell_refusals(screen);
+        Ok(())
     }
 }

@@ -1,6 +1,5 @@
 // `ShowLines`: each line is printed with its answer; lines that ask a question about the machine are answered below them.
 
-ghost use Rattle.std.specs.Prelude.{IfOk};
 ghost use Rattle.line_player.specs.Answers.{HasPlayed};
 ghost use Rattle.line_player.specs.PlayedLines.{Played};
 
@@ -9,10 +8,11 @@ use crate::looks::{Asked, Look, NO_MACHINE, look_of, put_look};
 use crate::mistakes::{Place, tell_end};
 use crate::play::Listener;
 use crate::run::{ANSWERS_ALONE, run_line};
-use crate::screen::Screen;
+use crate::screen::{Screen, print, put_lossy};
 use handouts::split;
 use line_player::LinePlayer;
 use std::alloc::Global;
+use text_builder::Text;
 
 /// Prints each line with its answer, and answers questions about the machine.
 #[derive(Drop)]
@@ -23,11 +23,8 @@ pub struct ShowLines<'a> {
 
 impl ShowLines<'_> {
     /// Tells what is wrong with a line that asks a question, and returns `Told`.
-    fn tell<S: Screen>(&self, screen: &mut S, place: Place<'_>, text: &str) -> Result<(), Fault>
-        ensures whole { IfOk result (λ _. S.whole screen.old → S.whole screen.new) }
-    {
-        screen.err(format!(in self.alloc; "{place}:1: {text}\n")?.as_str())?;
-        Err(Fault::Told)
+    fn tell<S: Screen>(&self, screen: &mut S, place: Place<'_>, text: &str) -> Result<(), Fault> {
+        Err(Fault::told(screen, format_args!("{place}:1: {text}\n")))
     }
 
     /// Prints a line that asks a question, and the answer.
@@ -40,16 +37,16 @@ impl ShowLines<'_> {
         look: Look,
     ) -> Result<(), Fault>
         requires played { (s : Played) × HasPlayed player.now s }
-        ensures whole { IfOk result (λ _. S.whole screen.old → S.whole screen.new) }
     {
         let Some(machine) = player.machine() else {
             return self.tell(screen, place, NO_MACHINE);
         };
-        let line = String::from_utf8_lossy(self.alloc, line)?;
-        let line = line.as_str();
-        let mut text = format!(in self.alloc; "{line}\n")?;
-        put_look(&mut text, machine, look)?;
-        screen.out(text.as_str())
+        let mut text = Text::new(self.alloc);
+        put_lossy(&mut text, line);
+        text.push_str("\n");
+        put_look(&mut text, machine, look);
+        print(screen, text);
+        Ok(())
     }
 }
 
@@ -86,6 +83,6 @@ impl Listener for ShowLines<'_> {
         player: &LinePlayer,
         lines: u64,
     ) -> Result<(), Fault> {
-        tell_end(self.alloc, screen, self.file, player, lines)
+        tell_end(screen, self.file, player, lines)
     }
 }

@@ -1,14 +1,12 @@
 // Files for threads, which `check` takes too: `begins_for_threads` tells one from a script, and `judge` tells its first fault, or
 // warns if its processes may fork for ever.
 
-ghost use Rattle.std.specs.Prelude.{IfOk};
-
 use crate::fault::Fault;
 use crate::mistakes::Place;
 use crate::play::{is_among, read_line, without_feed};
 use crate::screen::Screen;
 use fork_cycles::{Warning, warn_of_forks};
-use script_language::{Cause, LONGEST_SCRIPT};
+use script_language::LONGEST_SCRIPT;
 use script_reader::{ScriptError, ThreadScript, first_field, trim_return};
 use std::alloc::Global;
 use std::io::{BufReader, Read};
@@ -68,47 +66,33 @@ pub fn read_rest<R: Read + Drop>(reader: BufReader<R>, front: &mut Vec<u8>) -> R
     }
 }
 
-/// Tells the first fault of a file for threads, and returns `Told`.
-fn tell_fault<S: Screen>(
-    alloc: Global,
-    screen: &mut S,
-    file: &str,
-    line: u64,
-    cause: Cause,
-) -> Result<(), Fault>
-    ensures whole { IfOk result (λ _. S.whole screen.old → S.whole screen.new) }
-{
-    let place = Place { file, line };
-    let text = format!(in alloc;
-        "{place}: refused, {cause}: see \"Files for threads\" in docs/SCRIPTS.md\n"
-    )?;
-    screen.err(text.as_str())?;
-    Err(Fault::Told)
-}
-
 /// Reads a file for threads, and warns if its processes may fork for ever: if a start reaches a list that forks itself, or forks a list
 /// that forks it, and so on.
 ///
 /// # Errors
-/// `Told`: the file is refused; that was told. `Memory`: the host is out of memory. `Io`: printing failed.
+/// `Told`: the file is refused; that was told. `Memory`: the host is out of memory.
 pub fn judge<S: Screen>(
     alloc: Global,
     screen: &mut S,
     file: &str,
     bytes: &[u8],
-) -> Result<(), Fault>
-    ensures whole { IfOk result (λ _. S.whole screen.old → S.whole screen.new) }
-{
+) -> Result<(), Fault> {
     let script = match ThreadScript::read(alloc, bytes) {
         Ok(script) => script,
         Err(ScriptError::Memory) => return Err(Fault::Memory),
-        Err(ScriptError::Line(line, cause)) => return tell_fault(alloc, screen, file, line, cause),
+        Err(ScriptError::Line(line, cause)) => {
+            let place = Place { file, line };
+            return Err(Fault::told(
+                screen,
+                format_args!(
+                    "{place}: refused, {cause}: see \"Files for threads\" in docs/SCRIPTS.md\n"
+                ),
+            ));
+        }
     };
-    let Some(Warning { line, text }) = warn_of_forks(alloc, &script, bytes)? else {
-        return Ok(());
-    };
-    let (place, text) = (Place { file, line }, text.as_str());
-    screen.err(format!(in alloc;
-        "{place}: warning: {text}: processes may fork for ever\n"
-    )?.as_str())
+    if let Some(Warning { line, text }) = warn_of_forks(alloc, &script, bytes)? {
+        let place = Place { file, line };
+        screen.err(format_args!("{place}: warning: {text}: processes may fork for ever\n"));
+    }
+    Ok(())
 }

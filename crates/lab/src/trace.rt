@@ -1,6 +1,5 @@
 // `TraceLines`: what happens on each line, or on one, is printed, as text or as JSON.
 
-ghost use Rattle.std.specs.Prelude.{IfOk};
 ghost use Rattle.line_player.specs.Answers.{HasPlayed};
 ghost use Rattle.line_player.specs.PlayedLines.{Played};
 
@@ -8,11 +7,12 @@ use crate::chosen_line::ChosenLine;
 use crate::fault::Fault;
 use crate::mistakes::{Place, tell_end, tell_refused};
 use crate::play::Listener;
-use crate::screen::Screen;
+use crate::screen::{Screen, print, put_object};
 use handouts::split;
 use line_player::{LinePlayer, LineReply};
 use line_traces::{Ledger, LineTrace, put_trace, trace_line};
 use std::alloc::Global;
+use text_builder::Text;
 
 /// Prints what happens on each line, or on one.
 #[derive(Drop)]
@@ -40,17 +40,14 @@ impl TraceLines<'_> {
     }
 
     /// Prints what happened on a line.
-    fn print<S: Screen>(&self, screen: &mut S, trace: &LineTrace) -> Result<(), Fault>
-        ensures whole { IfOk result (λ _. S.whole screen.old → S.whole screen.new) }
-    {
-        let mut text = String::new(self.alloc);
+    fn print<S: Screen>(&self, screen: &mut S, trace: &LineTrace) {
+        let mut text = Text::new(self.alloc);
         if self.json {
-            text.push_str(serde_json::to_string(self.alloc, trace)?.as_str())?;
-            text.push_str("\n")?;
+            put_object(&mut text, trace);
         } else {
-            put_trace(&mut text, trace)?;
+            put_trace(&mut text, trace);
         }
-        screen.out(text.as_str())
+        print(screen, text)
     }
 }
 
@@ -73,7 +70,7 @@ impl Listener for TraceLines<'_> {
         }
         self.ledger.add(&mut trace, player.machine())?;
         if self.note(number, trace.reply) {
-            return self.print(screen, &trace);
+            self.print(screen, &trace);
         }
         Ok(())
     }
@@ -84,9 +81,9 @@ impl Listener for TraceLines<'_> {
         player: &LinePlayer,
         lines: u64,
     ) -> Result<(), Fault> {
-        tell_end(self.alloc, screen, self.file, player, lines)?;
+        tell_end(screen, self.file, player, lines)?;
         match &self.only {
-            Some(only) => only.tell_missing(self.alloc, screen, self.file, lines),
+            Some(only) => only.tell_missing(screen, self.file, lines),
             None => Ok(()),
         }
     }

@@ -1,40 +1,35 @@
 // `Program`: a program in C that tests a kernel, made test by test; `script_of`, the script of its first test.
 
-ghost use Rattle.std.specs.Prelude.{IfOk};
-
 use crate::fault::Fault;
 use crate::screen::Screen;
 use command_words::Tests;
 use std::alloc::{AllocError, Global};
+use std::fmt::Display;
+use text_builder::Text;
+use usertest_rows::Line;
 use usertest_text::{Names, PlayFault, put_head, put_main, put_test};
 use usertests::{Test, make};
 
-/// Returns the text of a script.
-fn script_text(alloc: Global, test: &Test) -> Result<String, AllocError> {
-    let mut text = String::new(alloc);
-    for line in test.lines.as_slice() {
-        text.push_str(line.text.as_str())?;
-        text.push_str("\n")?;
+/// Returns the lines of a script as its text.
+pub fn script_text(alloc: Global, lines: &[Line]) -> Text {
+    let mut text = Text::new(alloc);
+    'lines: for line in lines {
+        text.push_str(line.text.as_str());
+        text.push_str("\n");
     }
-    Ok(text)
+    text
 }
 
-/// Prints in which line the machine answers otherwise than the generator predicts.
-fn tell_difference<S: Screen>(
-    alloc: Global,
+/// Returns why the program ends if the machine answers otherwise than the generator predicts, and tells in which line; `name` is what stands
+/// before the line's number.
+pub fn tell_difference<S: Screen, D: Display + Drop>(
     screen: &mut S,
-    name: &str,
-    fault: &PlayFault,
-) -> Result<(), Fault>
-    ensures whole { IfOk result (λ _. S.whole screen.old → S.whole screen.new) }
-{
+    name: D,
+    fault: PlayFault,
+) -> Fault {
     match fault {
-        PlayFault::Memory => Err(Fault::Memory),
-        PlayFault::Differs(text) => {
-            let text = text.as_str();
-            screen.err(format!(in alloc; "{name}.script:{text}\n")?.as_str())?;
-            Err(Fault::Told)
-        }
+        PlayFault::Memory => Fault::Memory,
+        PlayFault::Differs(text) => Fault::told(screen, format_args!("{name}{text}\n")),
     }
 }
 
@@ -44,9 +39,9 @@ fn test_of(alloc: Global, tests: Tests, seed: u64, parts: usize) -> Result<Test,
 }
 
 /// Returns the script of the first test.
-pub fn script_of(alloc: Global, tests: Tests) -> Result<String, AllocError> {
+pub fn script_of(alloc: Global, tests: Tests) -> Result<Text, AllocError> {
     let test = test_of(alloc, tests, tests.seed, 0)?;
-    script_text(alloc, &test)
+    Ok(script_text(alloc, test.lines.as_slice()))
 }
 
 /// A C program that is being made.
@@ -75,20 +70,18 @@ impl Program {
     /// Adds the test of a seed. Returns its name and its script.
     ///
     /// # Errors
-    /// `Told`: the machine answers a line otherwise than the generator predicts; that was told. `Memory`: the host is out of memory. `Io`:
-    /// printing failed.
-    pub fn add<S: Screen>(&mut self, screen: &mut S, seed: u64) -> Result<(String, String), Fault>
-        ensures whole { IfOk result (λ _. S.whole screen.old → S.whole screen.new) }
-    {
+    /// `Told`: the machine answers a line otherwise than the generator predicts; that was told. `Memory`: the host is out of memory.
+    pub fn add<S: Screen>(&mut self, screen: &mut S, seed: u64) -> Result<(String, String), Fault> {
         let alloc = self.alloc;
         let test = test_of(alloc, self.tests, seed, self.names.parts_count)?;
         let (lines, lives) = (test.lines.as_slice(), test.lives.as_slice());
         if let Err(fault) = put_test(alloc, &mut self.text, lines, lives) {
-            tell_difference(alloc, screen, test.name.as_str(), &fault)?;
+            let name = test.name.as_str();
+            return Err(tell_difference(screen, format_args!("{name}.script:"), fault));
         }
         self.names.add(test.prefix.as_str(), test.parts.as_slice())?;
-        let name = String::from_str(alloc, test.name.as_str())?;
-        Ok((name, script_text(alloc, &test)?))
+        let script = script_text(alloc, lines).finish()?;
+        Ok((String::from_str(alloc, test.name.as_str())?, script))
     }
 
     /// Ends the program.

@@ -1,6 +1,6 @@
-// `Access`: an access of hart 0, as a line of a script.
+// `Verb`: what an access of hart 0 does, as a line of a script.
 
-use std::fmt;
+use crate::numbers::Numbers;
 
 /// What an access does.
 #[derive(Clone, Copy)]
@@ -14,31 +14,38 @@ pub enum Verb {
 }
 
 impl Verb {
+    /// Returns a load or a store of this value, each as often as the other.
+    pub fn load_or_store(numbers: &mut Numbers, value: u64) -> Verb {
+        if numbers.chance(50) {
+            Verb::Load
+        } else {
+            Verb::Store(value)
+        }
+    }
+
+    /// Returns the template of its line: the address is named `denied`, what is stored `value`.
+    pub fn line(self) -> &'static str {
+        match self {
+            Verb::Load => "load 0 {denied} 8",
+            Verb::Store(_) => "store 0 {denied} 8 {value}",
+            Verb::Fetch => "fetch 0 {denied}",
+        }
+    }
+
+    /// Returns what it stores, 0 if nothing.
+    pub fn value(self) -> u64 {
+        match self {
+            Verb::Store(value) => value,
+            Verb::Load | Verb::Fetch => 0,
+        }
+    }
+
     /// Returns the cause of a page fault of such an access (RISC-V Privileged Architecture, 4.1.8).
     pub fn cause(self) -> u64 {
         match self {
             Verb::Load => 13,
             Verb::Store(_) => 15,
             Verb::Fetch => 12,
-        }
-    }
-}
-
-/// An access of hart 0.
-#[derive(Clone, Copy)]
-pub struct Access {
-    pub verb: Verb,
-    pub address: u64,
-}
-
-/// The line, as `load 0 0x1000 8`.
-impl fmt::Display for Access {
-    fn fmt<W: fmt::Write>(&self, f: &mut fmt::Formatter<W>) -> fmt::Result {
-        let address = self.address;
-        match self.verb {
-            Verb::Load => write!(f, "load 0 {address:#x} 8"),
-            Verb::Store(value) => write!(f, "store 0 {address:#x} 8 {value:#x}"),
-            Verb::Fetch => write!(f, "fetch 0 {address:#x}"),
         }
     }
 }

@@ -2,8 +2,8 @@
 
 use crate::frames::{Counts, PAGE};
 use crate::numbers::Numbers;
-use crate::sheet::{Sheet, Value};
-use std::alloc::AllocError;
+use crate::sheet::{self, Form, Name, Values};
+use text_builder::Text;
 
 /// The lines of the lab.
 const LINES: &str =
@@ -15,7 +15,7 @@ on 0 0 => ok
 store 0 {place} 8 {word} => stored
 store 0 {other} 8 {another} => stored
 enter 0 => ok
-audit => {counts}
+audit => free {free} held {held} shared 1 references {references}
 # a) The fork.
 fork 0 => slot 1
 audit => ?
@@ -43,9 +43,31 @@ audit => ?
 on 0 0 => ok
 store 0 {again} 8 {last} => ?";
 
+/// The names in the lines.
+static NAMES: [Name; 18] = [
+    ("pages", Form::Count),
+    ("data", Form::Count),
+    ("base", Form::Hex),
+    ("size", Form::Hex),
+    ("frames", Form::Count),
+    ("slots", Form::Count),
+    ("place", Form::Hex),
+    ("other", Form::Hex),
+    ("word", Form::Hex),
+    ("another", Form::Hex),
+    ("free", Form::Count),
+    ("held", Form::Count),
+    ("references", Form::Count),
+    ("parents", Form::Hex),
+    ("upper", Form::Hex),
+    ("childs", Form::Hex),
+    ("again", Form::Hex),
+    ("last", Form::Hex),
+];
+
 /// What varies.
 #[derive(Clone, Copy)]
-struct Script {
+pub struct Script {
     /// The number of the first page of the data, and how many pages they have.
     first: u64,
     data: u64,
@@ -67,7 +89,7 @@ struct Script {
 }
 
 /// The numbers of the page.
-const OF_PAGE: Script = Script {
+pub static OF_PAGE: Script = Script {
     first: 1,
     data: 2,
     frames: 64,
@@ -84,7 +106,7 @@ const OF_PAGE: Script = Script {
 
 impl Script {
     /// Returns a script with numbers that are drawn.
-    fn drawn(numbers: &mut Numbers) -> Script {
+    pub fn drawn(numbers: &mut Numbers) -> Script {
         let data = numbers.between(2, 251);
         let page = numbers.below(data);
         let step = numbers.between(1, data);
@@ -115,39 +137,36 @@ impl Script {
         page.saturating_mul(PAGE).saturating_add(self.offset)
     }
 
-    /// Adds the lines.
-    fn put(&self, sheet: &mut Sheet) -> Result<(), AllocError> {
+    /// Appends the lines.
+    pub fn put(&self, text: &mut Text) {
         let pages = self.data.saturating_add(2);
         let counts = Counts::of_boot(self.frames, self.slots).with_process(self.first, pages);
         let (place, other) = (self.place_in(self.page), self.place_in(self.other));
         let (word, another) = self.words;
-        let values = [
-            ("pages", Value::Count(pages)),
-            ("data", Value::Count(self.data)),
-            ("base", Value::Hex(self.first.saturating_mul(PAGE))),
-            ("size", Value::Hex(self.data.saturating_mul(PAGE))),
-            ("frames", Value::Count(self.frames)),
-            ("slots", Value::Count(self.slots)),
-            ("place", Value::Hex(place)),
-            ("other", Value::Hex(other)),
-            ("word", Value::Hex(word)),
-            ("another", Value::Hex(another)),
-            ("counts", Value::Frames(counts)),
-            ("parents", Value::Hex(self.parents)),
-            ("upper", Value::Hex(place.saturating_add(6))),
-            ("childs", Value::Hex(self.childs)),
-            ("again", Value::Hex(if self.again { place } else { other })),
-            ("last", Value::Hex(self.last)),
+        let numbers = [
+            pages,
+            self.data,
+            self.first.saturating_mul(PAGE),
+            self.data.saturating_mul(PAGE),
+            self.frames,
+            self.slots,
+            place,
+            other,
+            word,
+            another,
+            counts.free(),
+            counts.held,
+            counts.references(),
+            self.parents,
+            place.saturating_add(6),
+            self.childs,
+            if self.again { place } else { other },
+            self.last,
         ];
-        sheet.put(LINES, &values)
+        let values = Values {
+            names: NAMES.as_slice(),
+            numbers: numbers.as_slice(),
+        };
+        sheet::put(text, LINES, values);
     }
-}
-
-/// Adds the lines of the lab.
-pub fn put(sheet: &mut Sheet, numbers: Option<Numbers>) -> Result<(), AllocError> {
-    let script = match numbers {
-        Some(mut numbers) => Script::drawn(&mut numbers),
-        None => OF_PAGE,
-    };
-    script.put(sheet)
 }

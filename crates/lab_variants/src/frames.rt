@@ -1,7 +1,5 @@
 // How many frames are free and held, as `audit` answers it: `Counts`.
 
-use std::fmt;
-
 /// The bytes of a page.
 pub const PAGE: u64 = 4096;
 
@@ -20,13 +18,12 @@ const PAGES_OF_TABLE: u64 = 512;
 /// From how many frames on the kernel takes another page table.
 const MANY_FRAMES: u64 = 513;
 
-/// The answer to an audit, of a machine with at most one process.
+/// The answer to an audit, of a machine with at most one process: if there is one, the trampoline's frame is shared, and it is the one
+/// reference more than there are held frames.
 #[derive(Clone, Copy)]
 pub struct Counts {
     frames: u64,
-    held: u64,
-    /// Whether there is a process: the trampoline's frame is shared then, and it is the one reference more than there are held frames.
-    has_process: bool,
+    pub held: u64,
 }
 
 impl Counts {
@@ -36,7 +33,6 @@ impl Counts {
         Counts {
             frames,
             held: slots.saturating_add(6).saturating_add(more),
-            has_process: false,
         }
     }
 
@@ -49,7 +45,6 @@ impl Counts {
             .saturating_add(1 + EACH_PROCESS);
         Counts {
             held: self.held.saturating_add(process),
-            has_process: true,
             ..self
         }
     }
@@ -72,17 +67,9 @@ impl Counts {
     pub fn free(self) -> u64 {
         self.frames.saturating_sub(self.held)
     }
-}
 
-/// The answer, as `free 56 held 8 shared 0 references 8`.
-impl fmt::Display for Counts {
-    fn fmt<W: fmt::Write>(&self, f: &mut fmt::Formatter<W>) -> fmt::Result {
-        let (free, held) = (self.free(), self.held);
-        let shared = if self.has_process { 1u64 } else { 0u64 };
-        let references = held.saturating_add(shared);
-        write!(
-            f,
-            "free {free} held {held} shared {shared} references {references}"
-        )
+    /// Returns how many references there are while there is a process.
+    pub fn references(self) -> u64 {
+        self.held.saturating_add(1)
     }
 }

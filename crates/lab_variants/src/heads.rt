@@ -1,7 +1,10 @@
 // The comments at the head of a handout: `put_head` writes them; `seed_of` and `is_of_page` read what they say.
 
+ghost use Rattle.std.specs.Prelude.{◌≤◌, length};
+
 use crate::names::Lab;
 use std::alloc::{AllocError, Global};
+use text_builder::Text;
 
 /// How the second comment of a handout begins that has the numbers of the lab's page.
 const OF_PAGE: &str = "# Its numbers are those of the page.";
@@ -13,36 +16,40 @@ const BETWEEN: &str = "\", made by xv6lab lab ";
 
 const BEHIND: &str = " --seed. It has other numbers than the page.";
 
-/// Adds a seed. What is no letter, digit or other sign of ASCII stands as the numbers of its bytes: a script has nothing
+/// Appends a seed. What is no letter, digit or other sign of ASCII stands as the numbers of its bytes: a script has nothing
 /// else, and a line end would end the comment.
-fn put_seed(text: &mut String, seed: &str) -> Result<(), AllocError> {
-    for byte in seed.as_bytes() {
-        let byte = *byte;
+fn put_seed(text: &mut Text, seed: &str) {
+    for (place, byte) in seed.as_bytes().iter().enumerate() {
         match byte {
-            b'"' | b'\\' => write!(text, "\\x{byte:02x}")?,
-            b' '..=b'~' => text.push(char::from(byte))?,
-            _ => write!(text, "\\x{byte:02x}")?,
+            b' ' | b'!' | b'#'..=b'[' | b']'..=b'~' => {
+                text.push_str(seed.get(place..=place).unwrap_or(""));
+            }
+            _ => write!(text, "\\x{byte:02x}"),
         }
     }
-    Ok(())
 }
 
-/// Adds the comments at the head: what the lab is, and of which seed the handout is.
-pub fn put_head(text: &mut String, lab: Lab, seed: Option<&str>) -> Result<(), AllocError> {
-    let (name, title, page) = (lab.name(), lab.title(), lab.page());
-    writeln!(
-        text,
-        "# {title}. {page} has the questions; fill in each ?, and compare by xv6lab check FILE."
-    )?;
-    let Some(seed) = seed else {
-        return writeln!(
-            text,
-            "{OF_PAGE} One with others for each student: xv6lab lab {name} --seed STUDENT."
-        );
-    };
-    text.push_str(BEFORE)?;
-    put_seed(text, seed)?;
-    writeln!(text, "{BETWEEN}{name}{BEHIND}")
+/// Appends the comments at the head: what the lab is, and of which seed the handout is.
+pub fn put_head(text: &mut Text, lab: Lab, seed: Option<&str>) {
+    text.push_str("# ");
+    text.push_str(lab.title());
+    text.push_str(" has the questions; fill in each ?, and compare by xv6lab check FILE.\n");
+    match seed {
+        Some(seed) => {
+            text.push_str(BEFORE);
+            put_seed(text, seed);
+            text.push_str(BETWEEN);
+            text.push_str(lab.name());
+            text.push_str(BEHIND);
+        }
+        None => {
+            text.push_str(OF_PAGE);
+            text.push_str(" One with others for each student: xv6lab lab ");
+            text.push_str(lab.name());
+            text.push_str(" --seed STUDENT.");
+        }
+    }
+    text.push_str("\n");
 }
 
 /// Returns the value of a hexadecimal digit.
@@ -56,9 +63,21 @@ fn digit(byte: u8) -> Option<u8> {
 
 /// Returns the byte that a text begins with as a head writes it, `\x` and two digits; `None`: it begins otherwise.
 fn escaped(text: &[u8]) -> Option<u8> {
-    match text {
-        [b'\\', b'x', high, low, ..] => Some(digit(*high)? << 4 | digit(*low)?),
+    let [b'\\', b'x', high, low, ..] = text else {
+        return None;
+    };
+    match (digit(*high), digit(*low)) {
+        (Some(high), Some(low)) => Some(high << 4 | low),
         _ => None,
+    }
+}
+
+/// Returns the byte that a text begins with, and how many bytes stand for it; `None`: the text is empty.
+fn first_byte(text: &[u8]) -> Option<(u8, usize)> {
+    match (escaped(text), text.first()) {
+        (Some(byte), _) => Some((byte, 4)),
+        (None, Some(byte)) => Some((*byte, 1)),
+        (None, None) => None,
     }
 }
 
@@ -66,27 +85,27 @@ fn escaped(text: &[u8]) -> Option<u8> {
 fn plain_seed(alloc: Global, named: &[u8]) -> Result<String, AllocError> {
     let (mut bytes, mut rest) = (Vec::new(alloc), named);
     'bytes: for _ in 0..named.len() {
-        if let Some(byte) = escaped(rest) {
-            bytes.push(byte)?;
-            rest = rest.get(4..).unwrap_or(&[]);
-            continue;
-        }
-        let [byte, after @ ..] = rest else {
+        let Some((byte, length)) = first_byte(rest) else {
             break;
         };
-        bytes.push(*byte)?;
-        rest = after;
+        bytes.push(byte)?;
+        rest = rest.get(length..).unwrap_or(&[]);
     }
     String::from_utf8_lossy(alloc, bytes.as_slice())
 }
 
 /// Returns the seed in a comment, as `put_seed` writes it, if it is the comment of a handout of a lab.
 fn named_in(lab: Lab, comment: &[u8]) -> Option<&[u8]> {
-    comment
-        .strip_prefix(BEFORE.as_bytes())?
-        .strip_suffix(BEHIND.as_bytes())?
-        .strip_suffix(lab.name().as_bytes())?
-        .strip_suffix(BETWEEN.as_bytes())
+    let Some(rest) = comment.strip_prefix(BEFORE.as_bytes()) else {
+        return None;
+    };
+    let Some(rest) = rest.strip_suffix(BEHIND.as_bytes()) else {
+        return None;
+    };
+    let Some(rest) = rest.strip_suffix(lab.name().as_bytes()) else {
+        return None;
+    };
+    rest.strip_suffix(BETWEEN.as_bytes())
 }
 
 /// Whether a byte ends a line, as students may write one.
@@ -94,13 +113,29 @@ fn is_end(byte: u8) -> bool {
     byte == b'\n' || byte == b'\r'
 }
 
+/// Returns the line of a file that begins at a place, without blanks around it; empty if none begins there.
+fn line_at(file: &[u8], place: usize) -> &[u8]
+    requires { place ≤ length file.now }
+{
+    if place > 0 && !is_end(file[place - 1]) {
+        return b"";
+    }
+    let rest = &file[place..];
+    'bytes: for length in 0..rest.len() {
+        if is_end(rest[length]) {
+            return rest[..length].trim_ascii();
+        }
+    }
+    rest.trim_ascii()
+}
+
 /// Returns the seed of the handout of a lab from which a file is made, by its head; `None`: it names none.
 ///
 /// # Errors
 /// `AllocError`: the host is out of memory.
 pub fn seed_of(alloc: Global, lab: Lab, file: &[u8]) -> Result<Option<String>, AllocError> {
-    'lines: for line in file.split(|byte| is_end(*byte)) {
-        match named_in(lab, line.trim_ascii()) {
+    'lines: for place in 0..file.len() {
+        match named_in(lab, line_at(file, place)) {
             Some(named) if !named.is_empty() => return Ok(Some(plain_seed(alloc, named)?)),
             _ => {}
         }
@@ -110,8 +145,8 @@ pub fn seed_of(alloc: Global, lab: Lab, file: &[u8]) -> Result<Option<String>, A
 
 /// Returns whether a file is made from the script of a lab's page, by its head.
 pub fn is_of_page(file: &[u8]) -> bool {
-    'lines: for line in file.split(|byte| is_end(*byte)) {
-        if line.trim_ascii().starts_with(OF_PAGE.as_bytes()) {
+    'lines: for place in 0..file.len() {
+        if line_at(file, place).starts_with(OF_PAGE.as_bytes()) {
             return true;
         }
     }

@@ -1,18 +1,18 @@
 // Lab 3, lazy growth: a heap that takes its frames at its first faults.
 
-use crate::accesses::{Access, Verb};
+use crate::accesses::Verb;
 use crate::frames::{Counts, PAGE};
 use crate::numbers::Numbers;
-use crate::sheet::{Sheet, Value};
-use std::alloc::AllocError;
+use crate::sheet::{self, Form, Name, Values};
+use text_builder::Text;
 
-/// The lines of the lab.
+/// The lines before the access that is denied.
 const LINES: &str = "# The heap begins at {heap}. {free} frames are free after boot.
 image {base}:{size}:rw:61
 boot 1 {frames} {slots} full => ok
 start 0 => slot 0
 on 0 0 => ok
-audit => {counts}
+audit => free {free_before} held {held_before} shared 1 references {references_before}
 # a) The heap grows by {growth} pages, more than there is memory.
 enter 0 => ok
 sbrk 0 {more} => ?
@@ -24,16 +24,17 @@ store 0 {place} 8 {word} => fault 15
 fix 0 => ready
 store 0 {place} 8 {word} => stored
 load 0 {upper} 4 => ?
-audit => {touched}
+audit => free {free_after} held {held_after} shared 1 references {references_after}
 # c) A store {far} pages further on, and a load of those bytes and the four before.
 store 0 {far_upper} 4 {top} => fault 15
 fix 0 => ready
 store 0 {far_upper} 4 {top} => stored
 load 0 {far_place} 8 => ?
 audit => ?
-# d) The heap ends at {end}. An access that no service makes ready.
-{access} => ?
-fix 0 => ?
+# d) The heap ends at {end}. An access that no service makes ready.";
+
+/// The lines after the access that is denied.
+const END: &str = "fix 0 => ?
 audit => ?";
 
 /// Where the access that is denied goes.
@@ -45,9 +46,37 @@ enum Target {
     Misaligned,
 }
 
+/// The names in the lines.
+static NAMES: [Name; 24] = [
+    ("heap", Form::Hex),
+    ("free", Form::Count),
+    ("base", Form::Hex),
+    ("size", Form::Hex),
+    ("frames", Form::Count),
+    ("slots", Form::Count),
+    ("free_before", Form::Count),
+    ("held_before", Form::Count),
+    ("references_before", Form::Count),
+    ("growth", Form::Count),
+    ("more", Form::Hex),
+    ("place", Form::Hex),
+    ("word", Form::Hex),
+    ("upper", Form::Hex),
+    ("free_after", Form::Count),
+    ("held_after", Form::Count),
+    ("references_after", Form::Count),
+    ("far", Form::Count),
+    ("far_upper", Form::Hex),
+    ("far_place", Form::Hex),
+    ("top", Form::Hex),
+    ("end", Form::Hex),
+    ("denied", Form::Hex),
+    ("value", Form::Hex),
+];
+
 /// What varies.
 #[derive(Clone, Copy)]
-struct Script {
+pub struct Script {
     /// The number of the image's first page, and how many pages it has: the whole process is below 1 GiB.
     first: u64,
     data: u64,
@@ -67,7 +96,7 @@ struct Script {
 }
 
 /// The numbers of the page.
-const OF_PAGE: Script = Script {
+pub static OF_PAGE: Script = Script {
     first: 1,
     data: 1,
     frames: 22,
@@ -84,11 +113,7 @@ const OF_PAGE: Script = Script {
 /// Returns an access that is denied.
 fn denied(numbers: &mut Numbers) -> (Target, Verb) {
     let value = numbers.word();
-    let verb = if numbers.chance(50) {
-        Verb::Load
-    } else {
-        Verb::Store(value)
-    };
+    let verb = Verb::load_or_store(numbers, value);
     match numbers.below(4) {
         0 => (Target::PastHeap, verb),
         1 => (Target::Guard, verb),
@@ -109,7 +134,7 @@ fn far(numbers: &mut Numbers) -> u64 {
 
 impl Script {
     /// Returns a script with numbers that are drawn.
-    fn drawn(numbers: &mut Numbers) -> Script {
+    pub fn drawn(numbers: &mut Numbers) -> Script {
         let (target, verb) = denied(numbers);
         Script {
             first: numbers.between(1, 150_000),
@@ -146,58 +171,56 @@ impl Script {
         self.heap().saturating_add(self.offset)
     }
 
-    /// Returns the access that is denied.
-    fn last_access(&self) -> Access {
-        let address = match self.target {
+    /// Returns the address of the access that is denied.
+    fn denied(&self) -> u64 {
+        match self.target {
             Target::PastHeap => self.end(),
             Target::Guard => self.guard(),
             Target::Heap => self.place(),
             Target::Misaligned => self.place().saturating_add(4),
-        };
-        Access {
-            verb: self.verb,
-            address,
         }
     }
 
-    /// Adds the lines.
-    fn put(&self, sheet: &mut Sheet) -> Result<(), AllocError> {
+    /// Appends the lines.
+    pub fn put(&self, text: &mut Text) {
         let (heap, place) = (self.heap(), self.place());
         let far = place.saturating_add(self.far.saturating_mul(PAGE));
         let boot = Counts::of_boot(self.frames, self.slots);
         let counts = boot.with_process(self.first, self.data.saturating_add(2));
         let page = heap / PAGE;
         let touched = counts.with_page(page.saturating_sub(1), page);
-        let values = [
-            ("heap", Value::Hex(heap)),
-            ("free", Value::Count(boot.free())),
-            ("base", Value::Hex(self.first.saturating_mul(PAGE))),
-            ("size", Value::Hex(self.data.saturating_mul(PAGE))),
-            ("frames", Value::Count(self.frames)),
-            ("slots", Value::Count(self.slots)),
-            ("counts", Value::Frames(counts)),
-            ("growth", Value::Count(self.growth)),
-            ("more", Value::Hex(self.growth.saturating_mul(PAGE))),
-            ("place", Value::Hex(place)),
-            ("word", Value::Hex(self.word)),
-            ("upper", Value::Hex(place.saturating_add(4))),
-            ("touched", Value::Frames(touched)),
-            ("far", Value::Count(self.far)),
-            ("far_upper", Value::Hex(far.saturating_add(4))),
-            ("far_place", Value::Hex(far)),
-            ("top", Value::Hex(self.top)),
-            ("end", Value::Hex(self.end())),
-            ("access", Value::Access(self.last_access())),
+        let numbers = [
+            heap,
+            boot.free(),
+            self.first.saturating_mul(PAGE),
+            self.data.saturating_mul(PAGE),
+            self.frames,
+            self.slots,
+            counts.free(),
+            counts.held,
+            counts.references(),
+            self.growth,
+            self.growth.saturating_mul(PAGE),
+            place,
+            self.word,
+            place.saturating_add(4),
+            touched.free(),
+            touched.held,
+            touched.references(),
+            self.far,
+            far.saturating_add(4),
+            far,
+            self.top,
+            self.end(),
+            self.denied(),
+            self.verb.value(),
         ];
-        sheet.put(LINES, &values)
+        let values = Values {
+            names: NAMES.as_slice(),
+            numbers: numbers.as_slice(),
+        };
+        sheet::put(text, LINES, values);
+        sheet::put_line(text, self.verb.line(), "?", values);
+        sheet::put(text, END, values);
     }
-}
-
-/// Adds the lines of the lab.
-pub fn put(sheet: &mut Sheet, numbers: Option<Numbers>) -> Result<(), AllocError> {
-    let script = match numbers {
-        Some(mut numbers) => Script::drawn(&mut numbers),
-        None => OF_PAGE,
-    };
-    script.put(sheet)
 }

@@ -3,34 +3,46 @@
 use crate::heads::put_head;
 use crate::names::Lab;
 use crate::numbers::Numbers;
-use crate::sheet::Sheet;
 use crate::{copy_on_write, lazy_growth, mmap, page_tables, stale_entries, traps};
 use std::alloc::{AllocError, Global};
+use text_builder::Text;
 
-/// Adds the lines of the lab: with numbers that are drawn, or with those of the page.
-fn put_lab(sheet: &mut Sheet, lab: Lab, numbers: Option<Numbers>) -> Result<(), AllocError> {
+/// Appends the lines of a lab, with numbers that are drawn.
+fn put_drawn(text: &mut Text, lab: Lab, numbers: &mut Numbers) {
     match lab {
-        Lab::PageTables => page_tables::put(sheet, numbers),
-        Lab::Traps => traps::put(sheet, numbers),
-        Lab::LazyGrowth => lazy_growth::put(sheet, numbers),
-        Lab::CopyOnWrite => copy_on_write::put(sheet, numbers),
-        Lab::Mmap => mmap::put(sheet, numbers),
-        Lab::StaleEntries => stale_entries::put(sheet, numbers),
+        Lab::PageTables => page_tables::Script::drawn(numbers).put(text),
+        Lab::Traps => traps::Script::drawn(numbers).put(text),
+        Lab::LazyGrowth => lazy_growth::Script::drawn(numbers).put(text),
+        Lab::CopyOnWrite => copy_on_write::Script::drawn(numbers).put(text),
+        Lab::Mmap => mmap::Script::drawn(numbers).put(text),
+        Lab::StaleEntries => stale_entries::Script::drawn(numbers).put(text),
+    }
+}
+
+/// Appends the lines of a lab, with the numbers of its page.
+fn put_of_page(text: &mut Text, lab: Lab) {
+    match lab {
+        Lab::PageTables => page_tables::OF_PAGE.put(text),
+        Lab::Traps => traps::OF_PAGE.put(text),
+        Lab::LazyGrowth => lazy_growth::OF_PAGE.put(text),
+        Lab::CopyOnWrite => copy_on_write::OF_PAGE.put(text),
+        Lab::Mmap => mmap::OF_PAGE.put(text),
+        Lab::StaleEntries => stale_entries::OF_PAGE.put(text),
     }
 }
 
 /// Returns the handout of a lab for a seed, which may be any text: equal seeds give equal handouts.
 pub fn handout(alloc: Global, lab: Lab, seed: &str) -> Result<String, AllocError> {
-    let mut sheet = Sheet::new(alloc);
-    put_head(&mut sheet.text, lab, Some(seed))?;
-    put_lab(&mut sheet, lab, Some(Numbers::of_seed(lab, seed)))?;
-    Ok(sheet.text)
+    let mut text = Text::new(alloc);
+    put_head(&mut text, lab, Some(seed));
+    put_drawn(&mut text, lab, &mut Numbers::of_seed(lab, seed));
+    text.finish()
 }
 
 /// Returns the handout of a lab with the numbers of its page: `labs/NAME.script`.
 pub fn plain(alloc: Global, lab: Lab) -> Result<String, AllocError> {
-    let mut sheet = Sheet::new(alloc);
-    put_head(&mut sheet.text, lab, None)?;
-    put_lab(&mut sheet, lab, None)?;
-    Ok(sheet.text)
+    let mut text = Text::new(alloc);
+    put_head(&mut text, lab, None);
+    put_of_page(&mut text, lab);
+    text.finish()
 }

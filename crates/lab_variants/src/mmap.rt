@@ -1,12 +1,12 @@
 // Lab 5, mmap: pages of a file, in a shared and in a private mapping, and when they are written back.
 
-use crate::accesses::{Access, Verb};
+use crate::accesses::Verb;
 use crate::frames::{PAGE, TRAPFRAME};
 use crate::numbers::Numbers;
-use crate::sheet::{Sheet, Value};
-use std::alloc::AllocError;
+use crate::sheet::{self, Form, Name, Values};
+use text_builder::Text;
 
-/// The lines of the lab.
+/// The lines before the access that is denied.
 const LINES: &str = "file {length} rw {first}{second}
 image 0x1000:0x1000:rw:-
 boot 1 {frames} {slots} full => ok
@@ -36,9 +36,10 @@ munmap 0 {start} 4096 => ok
 show 0 {offset} 8 => ?
 leave 0 => ok
 load 0 {private_place} 8 => ?
-# e) An access that is denied.
-{access} => ?
-fix 0 => ?";
+# e) An access that is denied.";
+
+/// The lines after the access that is denied.
+const END: &str = "fix 0 => ?";
 
 /// Where the access that is denied goes.
 #[derive(Clone, Copy)]
@@ -47,9 +48,28 @@ enum Target {
     Private,
 }
 
+/// The names in the lines.
+static NAMES: [Name; 15] = [
+    ("length", Form::Count),
+    ("first", Form::Bytes(8)),
+    ("second", Form::Bytes(8)),
+    ("frames", Form::Count),
+    ("slots", Form::Count),
+    ("shared", Form::Count),
+    ("private", Form::Count),
+    ("start", Form::Hex),
+    ("place", Form::Hex),
+    ("upper", Form::Hex),
+    ("stored", Form::Hex),
+    ("offset", Form::Count),
+    ("private_place", Form::Hex),
+    ("denied", Form::Hex),
+    ("value", Form::Hex),
+];
+
 /// What varies.
 #[derive(Clone, Copy)]
-struct Script {
+pub struct Script {
     /// The bytes of the file, of which the first 16 are these.
     length: u64,
     words: (u64, u64),
@@ -68,7 +88,7 @@ struct Script {
 }
 
 /// The numbers of the page.
-const OF_PAGE: Script = Script {
+pub static OF_PAGE: Script = Script {
     length: 5000,
     words: (0x6867_6665_6463_6261, 0x706f_6e6d_6c6b_6a69),
     shared: 5000,
@@ -85,11 +105,7 @@ const OF_PAGE: Script = Script {
 /// Returns an access that is denied.
 fn denied(numbers: &mut Numbers) -> (Target, Verb) {
     let value = numbers.word();
-    let any = if numbers.chance(50) {
-        Verb::Load
-    } else {
-        Verb::Store(value)
-    };
+    let any = Verb::load_or_store(numbers, value);
     match numbers.below(3) {
         0 => (Target::Unmapped, any),
         1 => (Target::Private, Verb::Store(value)),
@@ -104,7 +120,7 @@ fn rounded_up(size: u64) -> u64 {
 
 impl Script {
     /// Returns a script with numbers that are drawn.
-    fn drawn(numbers: &mut Numbers) -> Script {
+    pub fn drawn(numbers: &mut Numbers) -> Script {
         let (target, verb) = denied(numbers);
         let length = numbers.between(20_000, 65_537);
         let past = length.saturating_add(1);
@@ -133,49 +149,43 @@ impl Script {
         self.shared_start().saturating_sub(rounded_up(self.private))
     }
 
-    /// Returns the access that is denied.
-    fn last_access(&self) -> Access {
-        let address = match self.target {
+    /// Returns the address of the access that is denied.
+    fn denied(&self) -> u64 {
+        match self.target {
             Target::Unmapped => self.shared_start(),
             Target::Private => self.private_start(),
-        };
-        Access {
-            verb: self.verb,
-            address,
         }
     }
 
-    /// Adds the lines.
-    fn put(&self, sheet: &mut Sheet) -> Result<(), AllocError> {
+    /// Appends the lines.
+    pub fn put(&self, text: &mut Text) {
         let (first, second) = self.words;
         let start = self.shared_start();
         let place = start.saturating_add(self.offset);
         let private_place = self.private_start().saturating_add(self.offset);
-        let values = [
-            ("length", Value::Count(self.length)),
-            ("first", Value::Bytes(first, 8)),
-            ("second", Value::Bytes(second, 8)),
-            ("frames", Value::Count(self.frames)),
-            ("slots", Value::Count(self.slots)),
-            ("shared", Value::Count(self.shared)),
-            ("private", Value::Count(self.private)),
-            ("start", Value::Hex(start)),
-            ("place", Value::Hex(place)),
-            ("upper", Value::Hex(place.saturating_add(self.step))),
-            ("stored", Value::Hex(self.stored)),
-            ("offset", Value::Count(self.offset)),
-            ("private_place", Value::Hex(private_place)),
-            ("access", Value::Access(self.last_access())),
+        let numbers = [
+            self.length,
+            first,
+            second,
+            self.frames,
+            self.slots,
+            self.shared,
+            self.private,
+            start,
+            place,
+            place.saturating_add(self.step),
+            self.stored,
+            self.offset,
+            private_place,
+            self.denied(),
+            self.verb.value(),
         ];
-        sheet.put(LINES, &values)
+        let values = Values {
+            names: NAMES.as_slice(),
+            numbers: numbers.as_slice(),
+        };
+        sheet::put(text, LINES, values);
+        sheet::put_line(text, self.verb.line(), "?", values);
+        sheet::put(text, END, values);
     }
-}
-
-/// Adds the lines of the lab.
-pub fn put(sheet: &mut Sheet, numbers: Option<Numbers>) -> Result<(), AllocError> {
-    let script = match numbers {
-        Some(mut numbers) => Script::drawn(&mut numbers),
-        None => OF_PAGE,
-    };
-    script.put(sheet)
 }

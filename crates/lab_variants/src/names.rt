@@ -12,7 +12,7 @@ pub enum Lab {
 }
 
 /// The labs, in the order in which they are done.
-pub const LABS: [Lab; 6] = [
+pub static LABS: [Lab; 6] = [
     Lab::PageTables,
     Lab::Traps,
     Lab::LazyGrowth,
@@ -36,8 +36,7 @@ impl Lab {
 
     /// Returns the lab of this name.
     pub fn of_name(name: &str) -> Option<Lab> {
-        let labs = LABS;
-        for lab in labs.iter() {
+        for lab in LABS.as_slice() {
             if lab.name() == name {
                 return Some(*lab);
             }
@@ -45,27 +44,15 @@ impl Lab {
         None
     }
 
-    /// Returns what the handout calls it.
+    /// Returns what the handout calls it, and the path of its page.
     pub(crate) fn title(self) -> &'static str {
         match self {
-            Lab::PageTables => "Lab 1, page tables",
-            Lab::Traps => "Lab 2, traps",
-            Lab::LazyGrowth => "Lab 3, lazy growth",
-            Lab::CopyOnWrite => "Lab 4, copy-on-write fork",
-            Lab::Mmap => "Lab 5, mmap",
-            Lab::StaleEntries => "Lab 6, stale entries and ASIDs",
-        }
-    }
-
-    /// Returns the path of its page.
-    pub(crate) fn page(self) -> &'static str {
-        match self {
-            Lab::PageTables => "docs/labs/1-page-tables.md",
-            Lab::Traps => "docs/labs/2-traps.md",
-            Lab::LazyGrowth => "docs/labs/3-lazy-growth.md",
-            Lab::CopyOnWrite => "docs/labs/4-copy-on-write.md",
-            Lab::Mmap => "docs/labs/5-mmap.md",
-            Lab::StaleEntries => "docs/labs/6-stale-entries.md",
+            Lab::PageTables => "Lab 1, page tables. docs/labs/1-page-tables.md",
+            Lab::Traps => "Lab 2, traps. docs/labs/2-traps.md",
+            Lab::LazyGrowth => "Lab 3, lazy growth. docs/labs/3-lazy-growth.md",
+            Lab::CopyOnWrite => "Lab 4, copy-on-write fork. docs/labs/4-copy-on-write.md",
+            Lab::Mmap => "Lab 5, mmap. docs/labs/5-mmap.md",
+            Lab::StaleEntries => "Lab 6, stale entries and ASIDs. docs/labs/6-stale-entries.md",
         }
     }
 }

@@ -1,17 +1,17 @@
 // Lab 1, page tables: which frames a process takes, and what its tables map.
 
-use crate::accesses::{Access, Verb};
+use crate::accesses::Verb;
 use crate::frames::{Counts, PAGE, TRAMPOLINE, TRAPFRAME};
 use crate::numbers::Numbers;
-use crate::sheet::{Sheet, Value};
-use std::alloc::AllocError;
+use crate::sheet::{self, Form, Name, Values};
+use text_builder::Text;
 
-/// The lines of the lab.
+/// The lines before the access that is denied.
 const LINES: &str =
     "# Pages of the image: {code} of code at {base}, {data} of data at {start}. A guard page and a stack page follow.
 image {base}:{code_size}:rx:{instruction} {start}:{data_size}:rw:{first}
 boot 1 {frames} {slots} full => ok
-audit => {counts}
+audit => free {free} held {held} shared 0 references {held}
 start 0 => slot 0
 # a) How many frames does the process take?
 audit => ?
@@ -27,9 +27,10 @@ load 0 {last} 8 => ?
 # Four bytes are stored to the stack, and eight loaded.
 store 0 {stack_upper} 4 {top} => stored
 load 0 {stack} 8 => ?
-# c) A page that is mapped, but not for this access.
-{access} => ?
-fix 0 => ?
+# c) A page that is mapped, but not for this access.";
+
+/// The lines after the access that is denied.
+const END: &str = "fix 0 => ?
 # d) What is left of the process?
 audit => ?";
 
@@ -47,9 +48,35 @@ enum Target {
     Stack,
 }
 
+/// The names in the lines.
+static NAMES: [Name; 22] = [
+    ("code", Form::Count),
+    ("base", Form::Hex),
+    ("data", Form::Count),
+    ("start", Form::Hex),
+    ("code_size", Form::Hex),
+    ("instruction", Form::Bytes(4)),
+    ("data_size", Form::Hex),
+    ("first", Form::Bytes(8)),
+    ("frames", Form::Count),
+    ("slots", Form::Count),
+    ("free", Form::Count),
+    ("held", Form::Count),
+    ("last", Form::Hex),
+    ("word", Form::Hex),
+    ("upper", Form::Hex),
+    ("middle", Form::Hex),
+    ("half", Form::Hex),
+    ("stack_upper", Form::Hex),
+    ("top", Form::Hex),
+    ("stack", Form::Hex),
+    ("denied", Form::Hex),
+    ("value", Form::Hex),
+];
+
 /// What varies.
 #[derive(Clone, Copy)]
-struct Script {
+pub struct Script {
     /// The address of the code.
     base: u64,
     /// How many pages of code and of data the image has.
@@ -72,7 +99,7 @@ struct Script {
 }
 
 /// The numbers of the page.
-const OF_PAGE: Script = Script {
+pub static OF_PAGE: Script = Script {
     base: 0,
     code: 1,
     data: 2,
@@ -114,7 +141,7 @@ fn denied(numbers: &mut Numbers) -> (Target, Verb) {
 
 impl Script {
     /// Returns a script with numbers that are drawn.
-    fn drawn(numbers: &mut Numbers) -> Script {
+    pub fn drawn(numbers: &mut Numbers) -> Script {
         let (target, verb) = denied(numbers);
         let register = numbers.below(32).saturating_mul(0x80);
         let upper = numbers.below(0x10_0000).saturating_mul(PAGE);
@@ -151,59 +178,52 @@ impl Script {
         self.guard().saturating_add(PAGE)
     }
 
-    /// Returns the access that is denied.
-    fn last_access(&self) -> Access {
-        let address = match self.target {
+    /// Returns the address of the access that is denied.
+    fn denied(&self) -> u64 {
+        match self.target {
             Target::Trampoline => TRAMPOLINE,
             Target::Trapframe => TRAPFRAME,
             Target::Guard => self.guard(),
             Target::Code => self.base,
             Target::Data => self.data_start(),
             Target::Stack => self.stack(),
-        };
-        Access {
-            verb: self.verb,
-            address,
         }
     }
 
-    /// Adds the lines.
-    fn put(&self, sheet: &mut Sheet) -> Result<(), AllocError> {
+    /// Appends the lines.
+    pub fn put(&self, text: &mut Text) {
         let (guard, stack) = (self.guard(), self.stack().saturating_add(self.offset));
-        let values = [
-            ("code", Value::Count(self.code)),
-            ("base", Value::Hex(self.base)),
-            ("data", Value::Count(self.data)),
-            ("start", Value::Hex(self.data_start())),
-            ("code_size", Value::Hex(self.code.saturating_mul(PAGE))),
-            ("instruction", Value::Bytes(self.instruction, 4)),
-            ("data_size", Value::Hex(self.data.saturating_mul(PAGE))),
-            ("first", Value::Bytes(self.first, 8)),
-            ("frames", Value::Count(self.frames)),
-            ("slots", Value::Count(self.slots)),
-            (
-                "counts",
-                Value::Frames(Counts::of_boot(self.frames, self.slots)),
-            ),
-            ("last", Value::Hex(guard.saturating_sub(8))),
-            ("word", Value::Hex(self.word)),
-            ("upper", Value::Hex(guard.saturating_sub(4))),
-            ("middle", Value::Hex(guard.saturating_sub(6))),
-            ("half", Value::Hex(self.half)),
-            ("stack_upper", Value::Hex(stack.saturating_add(4))),
-            ("top", Value::Hex(self.top)),
-            ("stack", Value::Hex(stack)),
-            ("access", Value::Access(self.last_access())),
+        let boot = Counts::of_boot(self.frames, self.slots);
+        let numbers = [
+            self.code,
+            self.base,
+            self.data,
+            self.data_start(),
+            self.code.saturating_mul(PAGE),
+            self.instruction,
+            self.data.saturating_mul(PAGE),
+            self.first,
+            self.frames,
+            self.slots,
+            boot.free(),
+            boot.held,
+            guard.saturating_sub(8),
+            self.word,
+            guard.saturating_sub(4),
+            guard.saturating_sub(6),
+            self.half,
+            stack.saturating_add(4),
+            self.top,
+            stack,
+            self.denied(),
+            self.verb.value(),
         ];
-        sheet.put(LINES, &values)
+        let values = Values {
+            names: NAMES.as_slice(),
+            numbers: numbers.as_slice(),
+        };
+        sheet::put(text, LINES, values);
+        sheet::put_line(text, self.verb.line(), "?", values);
+        sheet::put(text, END, values);
     }
-}
-
-/// Adds the lines of the lab.
-pub fn put(sheet: &mut Sheet, numbers: Option<Numbers>) -> Result<(), AllocError> {
-    let script = match numbers {
-        Some(mut numbers) => Script::drawn(&mut numbers),
-        None => OF_PAGE,
-    };
-    script.put(sheet)
 }

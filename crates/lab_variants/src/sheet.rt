@@ -1,110 +1,95 @@
-// `Sheet`: the text of a handout while it is made, of templates in which names between braces stand for values.
+// The lines of a handout, of templates in which names between braces stand for numbers: `put`, and `put_line`.
 
-use crate::accesses::Access;
-use crate::frames::Counts;
-use std::alloc::{AllocError, Global};
-use std::fmt;
+use text_builder::Text;
 
-/// What a name between braces stands for.
+/// The column after which a line's answer stands.
+const ANSWER_COLUMN: usize = 34;
+
+/// How a number stands in a handout.
 #[derive(Clone, Copy)]
-pub enum Value {
-    /// A number in decimal digits.
-    Count(u64),
-    /// A number in hexadecimal digits, as `0x1000`.
-    Hex(u64),
-    /// The lowest bytes of a number, the lowest first, as HEX of a script: at most eight.
-    Bytes(u64, usize),
-    /// An access, as a line of a script.
-    Access(Access),
-    /// An answer to `audit`.
-    Frames(Counts),
+pub enum Form {
+    /// In decimal digits.
+    Count,
+    /// In hexadecimal digits, as `0x1000`.
+    Hex,
+    /// Its lowest bytes, of this number, the lowest first, as HEX of a script.
+    Bytes(u32),
 }
 
-/// The value, as a script has it.
-impl fmt::Display for Value {
-    fn fmt<W: fmt::Write>(&self, f: &mut fmt::Formatter<W>) -> fmt::Result {
-        match self {
-            Value::Count(number) => write!(f, "{number}"),
-            Value::Hex(number) => write!(f, "{number:#x}"),
-            Value::Bytes(number, count) => {
-                for byte in number.to_le_bytes().iter().take(*count) {
-                    write!(f, "{byte:02x}")?;
-                }
-                Ok(())
-            }
-            Value::Access(access) => write!(f, "{access}"),
-            Value::Frames(counts) => write!(f, "{counts}"),
+/// A name of a template, and how its number stands in a handout.
+pub type Name = (&'static str, Form);
+
+/// The names of a template, and their numbers, in the same order.
+#[derive(Clone, Copy)]
+pub struct Values<'a> {
+    pub names: &'static [Name],
+    pub numbers: &'a [u64],
+}
+
+/// Appends the lowest bytes of a number.
+fn put_bytes(text: &mut Text, number: u64, count: u32) {
+    let mut rest = number;
+    for _ in 0..count {
+        let byte = rest & 0xff;
+        write!(text, "{byte:02x}");
+        rest >>= 8;
+    }
+}
+
+/// Appends a number.
+fn put_number(text: &mut Text, form: Form, number: u64) {
+    match form {
+        Form::Count => write!(text, "{number}"),
+        Form::Hex => write!(text, "{number:#x}"),
+        Form::Bytes(count) => put_bytes(text, number, count),
+    }
+}
+
+/// Appends the number of a name.
+fn put_value(text: &mut Text, values: Values<'_>, name: &str) {
+    for (place, (its_name, form)) in values.names.iter().enumerate() {
+        if *its_name == name
+            && let Some(number) = values.numbers.get(place)
+        {
+            return put_number(text, *form, *number);
         }
     }
 }
 
-/// A name with its value.
-pub type Named = (&'static str, Value);
-
-/// The lines of a handout so far.
-#[derive(Drop)]
-pub struct Sheet {
-    alloc: Global,
-    pub text: String,
-}
-
-/// Appends the value of a name.
-fn put_value(text: &mut String, values: &[Named], name: &str) -> Result<(), AllocError> {
-    for (its_name, value) in values {
-        if *its_name == name {
-            return write!(text, "{value}");
-        }
-    }
-    Ok(())
-}
-
-/// Returns a part of a template, with values in place of names between braces.
-fn filled(alloc: Global, part: &str, values: &[Named]) -> Result<String, AllocError> {
-    let mut text = String::new(alloc);
+/// Appends a part of a template, with numbers in place of names between braces.
+fn put_filled(text: &mut Text, part: &str, values: Values<'_>) {
     for piece in part.split('{') {
         match piece.split_once('}') {
             Some((name, after)) => {
-                put_value(&mut text, values, name)?;
-                text.push_str(after)?;
+                put_value(text, values, name);
+                text.push_str(after);
             }
-            None => text.push_str(piece)?,
+            None => text.push_str(piece),
         }
     }
-    Ok(text)
 }
 
-impl Sheet {
-    /// Returns a handout without lines.
-    pub fn new(alloc: Global) -> Sheet {
-        Sheet {
-            alloc,
-            text: String::new(alloc),
-        }
+/// Appends a line of a template, and its answer in a column.
+pub fn put_line(text: &mut Text, line: &str, answer: &str, values: Values<'_>) {
+    let start = text.as_str().len();
+    put_filled(text, line, values);
+    for _ in text.as_str().len()..start.saturating_add(ANSWER_COLUMN) {
+        text.push_str(" ");
     }
+    text.push_str(" => ");
+    put_filled(text, answer, values);
+    text.push_str("\n");
+}
 
-    /// Adds a line of a template.
-    fn put_line(&mut self, line: &str, values: &[Named]) -> Result<(), AllocError> {
-        let (before, after) = match line.split_once(" => ") {
-            Some((before, after)) => (before, Some(after)),
-            None => (line, None),
-        };
-        let before = filled(self.alloc, before, values)?;
-        let text = before.as_str();
-        match after {
-            Some(after) => {
-                let after = filled(self.alloc, after, values)?;
-                let answer = after.as_str();
-                writeln!(&mut self.text, "{text:<34} => {answer}")
+/// Appends the lines of a template: comments, declarations, and lines with ` => ` and an answer, which is `?` if it is a blank.
+pub fn put(text: &mut Text, template: &str, values: Values<'_>) {
+    for line in template.split('\n') {
+        match line.split_once(" => ") {
+            Some((line, answer)) => put_line(text, line, answer, values),
+            None => {
+                put_filled(text, line, values);
+                text.push_str("\n");
             }
-            None => writeln!(&mut self.text, "{text}"),
         }
-    }
-
-    /// Adds the lines of a template: comments, declarations, and lines with ` => ` and an answer, which is `?` if it is a blank.
-    pub fn put(&mut self, template: &str, values: &[Named]) -> Result<(), AllocError> {
-        for line in template.split('\n') {
-            self.put_line(line, values)?;
-        }
-        Ok(())
     }
 }

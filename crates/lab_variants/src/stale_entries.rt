@@ -2,8 +2,8 @@
 
 use crate::frames::PAGE;
 use crate::numbers::Numbers;
-use crate::sheet::{Named, Sheet, Value};
-use std::alloc::AllocError;
+use crate::sheet::{self, Form, Name, Values};
+use text_builder::Text;
 
 /// The address of frame 0, which the kernel's page table maps to itself (memlayout.h of xv6: KERNBASE).
 const KERNBASE: u64 = 0x8000_0000;
@@ -52,9 +52,29 @@ on 0 0 => ok
 load 0 {place} 8 @{parents} => ?
 load 0 {other} 8 => ?";
 
+/// The names in the line that fills an entry.
+static FILL_NAMES: [Name; 2] = [("address", Form::Hex), ("entry", Form::Count)];
+
+/// The names in the other lines.
+static NAMES: [Name; 13] = [
+    ("base", Form::Hex),
+    ("size", Form::Hex),
+    ("frames", Form::Count),
+    ("slots", Form::Count),
+    ("place", Form::Hex),
+    ("other", Form::Hex),
+    ("word", Form::Hex),
+    ("another", Form::Hex),
+    ("entry", Form::Count),
+    ("upper", Form::Hex),
+    ("parents", Form::Count),
+    ("childs", Form::Count),
+    ("stored", Form::Hex),
+];
+
 /// What varies.
 #[derive(Clone, Copy)]
-struct Script {
+pub struct Script {
     /// The number of the first page of the data, and how many pages they have.
     first: u64,
     data: u64,
@@ -77,7 +97,7 @@ struct Script {
 }
 
 /// The numbers of the page.
-const OF_PAGE: Script = Script {
+pub static OF_PAGE: Script = Script {
     first: 1,
     data: 2,
     frames: 64,
@@ -94,7 +114,7 @@ const OF_PAGE: Script = Script {
 
 impl Script {
     /// Returns a script with numbers that are drawn.
-    fn drawn(numbers: &mut Numbers) -> Script {
+    pub fn drawn(numbers: &mut Numbers) -> Script {
         let data = numbers.between(2, 61);
         let page = numbers.below(data);
         let step = numbers.between(1, data);
@@ -160,55 +180,45 @@ impl Script {
         }
     }
 
-    /// Adds fills of these entries.
-    fn put_fills(&self, sheet: &mut Sheet, first: u64, end: u64) -> Result<(), AllocError> {
+    /// Appends fills of these entries.
+    fn put_fills(&self, text: &mut Text, first: u64, end: u64) {
         for entry in first..end {
-            let values = [
-                ("address", Value::Hex(self.filled(entry))),
-                ("entry", Value::Count(entry)),
-            ];
-            sheet.put("fill 0 {address} => entry {entry}", &values)?;
+            let numbers = [self.filled(entry), entry];
+            let values = Values {
+                names: FILL_NAMES.as_slice(),
+                numbers: numbers.as_slice(),
+            };
+            sheet::put(text, "fill 0 {address} => entry {entry}", values);
         }
-        Ok(())
     }
 
-    /// Adds the fills of the process and of the kernel between the other lines.
-    fn put_all(&self, sheet: &mut Sheet, values: &[Named]) -> Result<(), AllocError> {
-        sheet.put(START, values)?;
-        self.put_fills(sheet, 0, self.in_user)?;
-        sheet.put("enter 0 => ok", values)?;
-        self.put_fills(sheet, self.in_user, FILLS)?;
-        sheet.put(QUESTIONS, values)
-    }
-
-    /// Adds the lines.
-    fn put(&self, sheet: &mut Sheet) -> Result<(), AllocError> {
+    /// Appends the lines.
+    pub fn put(&self, text: &mut Text) {
         let (place, parents) = (self.place(), self.parents_entry());
         let (word, another) = self.words;
-        let values = [
-            ("base", Value::Hex(self.first.saturating_mul(PAGE))),
-            ("size", Value::Hex(self.data.saturating_mul(PAGE))),
-            ("frames", Value::Count(self.frames)),
-            ("slots", Value::Count(self.slots)),
-            ("place", Value::Hex(place)),
-            ("other", Value::Hex(self.place_in(self.other))),
-            ("word", Value::Hex(word)),
-            ("another", Value::Hex(another)),
-            ("entry", Value::Count(self.entry)),
-            ("upper", Value::Hex(place.saturating_add(4))),
-            ("parents", Value::Count(parents)),
-            ("childs", Value::Count(parents.saturating_add(1))),
-            ("stored", Value::Hex(self.childs)),
+        let numbers = [
+            self.first.saturating_mul(PAGE),
+            self.data.saturating_mul(PAGE),
+            self.frames,
+            self.slots,
+            place,
+            self.place_in(self.other),
+            word,
+            another,
+            self.entry,
+            place.saturating_add(4),
+            parents,
+            parents.saturating_add(1),
+            self.childs,
         ];
-        self.put_all(sheet, &values)
+        let values = Values {
+            names: NAMES.as_slice(),
+            numbers: numbers.as_slice(),
+        };
+        sheet::put(text, START, values);
+        self.put_fills(text, 0, self.in_user);
+        sheet::put(text, "enter 0 => ok", values);
+        self.put_fills(text, self.in_user, FILLS);
+        sheet::put(text, QUESTIONS, values);
     }
-}
-
-/// Adds the lines of the lab.
-pub fn put(sheet: &mut Sheet, numbers: Option<Numbers>) -> Result<(), AllocError> {
-    let script = match numbers {
-        Some(mut numbers) => Script::drawn(&mut numbers),
-        None => OF_PAGE,
-    };
-    script.put(sheet)
 }

@@ -1,12 +1,12 @@
 // Lab 2, traps: the instructions between user mode and the kernel, and their fences. Two harts run a process each.
 
-use crate::accesses::{Access, Verb};
+use crate::accesses::Verb;
 use crate::frames::{PAGE, TRAMPOLINE};
 use crate::numbers::Numbers;
-use crate::sheet::{Sheet, Value};
-use std::alloc::AllocError;
+use crate::sheet::{self, Form, Name, Values};
+use text_builder::Text;
 
-/// The lines of the lab.
+/// The lines before the access that is denied.
 const LINES: &str =
     "# Pages of the image: {data} of data at {base}. A guard page and a stack page follow. Each hart runs a process of it.
 image {base}:{size}:rw:{first}
@@ -47,9 +47,10 @@ copyin 0 {address} 8 => ?
 copyout 0 {middle} {copied} => copied 2
 # e) Back, and an access that is denied.
 leave 0 => ok
-load 0 {address} 8 => ?
-{access} => fault {cause}
-fix 0 => ?";
+load 0 {address} 8 => ?";
+
+/// The lines after the access that is denied.
+const END: &str = "fix 0 => ?";
 
 /// Where the access that is denied goes.
 #[derive(Clone, Copy)]
@@ -60,9 +61,36 @@ enum Target {
     Data,
 }
 
+/// The names in the lines.
+static NAMES: [Name; 23] = [
+    ("data", Form::Count),
+    ("base", Form::Hex),
+    ("size", Form::Hex),
+    ("first", Form::Bytes(8)),
+    ("frames", Form::Count),
+    ("slots", Form::Count),
+    ("address", Form::Hex),
+    ("mine", Form::Hex),
+    ("other", Form::Hex),
+    ("first_fill", Form::Hex),
+    ("second_fill", Form::Hex),
+    ("third_fill", Form::Hex),
+    ("upper", Form::Hex),
+    ("entry", Form::Count),
+    ("evicts", Form::Count),
+    ("evicted", Form::Count),
+    ("left", Form::Count),
+    ("later", Form::Count),
+    ("middle", Form::Hex),
+    ("copied", Form::Bytes(2)),
+    ("denied", Form::Hex),
+    ("value", Form::Hex),
+    ("cause", Form::Count),
+];
+
 /// What varies.
 #[derive(Clone, Copy)]
-struct Script {
+pub struct Script {
     /// The address of the data, and how many pages they have.
     base: u64,
     data: u64,
@@ -88,7 +116,7 @@ struct Script {
 }
 
 /// The numbers of the page.
-const OF_PAGE: Script = Script {
+pub static OF_PAGE: Script = Script {
     base: 0x1000,
     data: 2,
     frames: 64,
@@ -108,11 +136,7 @@ const OF_PAGE: Script = Script {
 /// Returns an access that is denied.
 fn denied(numbers: &mut Numbers) -> (Target, Verb) {
     let value = numbers.word();
-    let verb = if numbers.chance(50) {
-        Verb::Load
-    } else {
-        Verb::Store(value)
-    };
+    let verb = Verb::load_or_store(numbers, value);
     match numbers.below(4) {
         0 => (Target::Guard, verb),
         1 => (Target::PastStack, verb),
@@ -123,7 +147,7 @@ fn denied(numbers: &mut Numbers) -> (Target, Verb) {
 
 impl Script {
     /// Returns a script with numbers that are drawn.
-    fn drawn(numbers: &mut Numbers) -> Script {
+    pub fn drawn(numbers: &mut Numbers) -> Script {
         let (target, verb) = denied(numbers);
         let data = numbers.between(2, 61);
         let page = numbers.between(1, data).saturating_mul(PAGE);
@@ -172,17 +196,13 @@ impl Script {
         }
     }
 
-    /// Returns the access that is denied.
-    fn last_access(&self) -> Access {
-        let address = match self.target {
+    /// Returns the address of the access that is denied.
+    fn denied(&self) -> u64 {
+        match self.target {
             Target::Guard => self.guard(),
             Target::PastStack => self.guard().saturating_add(2 * PAGE),
             Target::Trampoline => TRAMPOLINE,
             Target::Data => self.base,
-        };
-        Access {
-            verb: self.verb,
-            address,
         }
     }
 
@@ -197,43 +217,41 @@ impl Script {
         }
     }
 
-    /// Adds the lines.
-    fn put(&self, sheet: &mut Sheet) -> Result<(), AllocError> {
-        let (address, access) = (self.address(), self.last_access());
+    /// Appends the lines.
+    pub fn put(&self, text: &mut Text) {
+        let address = self.address();
         let (mine, other) = self.words;
-        let values = [
-            ("data", Value::Count(self.data)),
-            ("base", Value::Hex(self.base)),
-            ("size", Value::Hex(self.data.saturating_mul(PAGE))),
-            ("first", Value::Bytes(self.first, 8)),
-            ("frames", Value::Count(self.frames)),
-            ("slots", Value::Count(self.slots)),
-            ("address", Value::Hex(address)),
-            ("mine", Value::Hex(mine)),
-            ("other", Value::Hex(other)),
-            ("first_fill", Value::Hex(self.filled(0))),
-            ("second_fill", Value::Hex(self.filled(1))),
-            ("third_fill", Value::Hex(self.filled(2))),
-            ("upper", Value::Hex(address.saturating_add(4))),
-            ("entry", Value::Count(self.entry)),
-            ("evicts", Value::Count(self.evicts)),
-            ("evicted", Value::Count(self.evicted)),
-            ("left", Value::Count(self.entry_left())),
-            ("later", Value::Count(self.later)),
-            ("middle", Value::Hex(address.saturating_add(2))),
-            ("copied", Value::Bytes(self.copied, 2)),
-            ("access", Value::Access(access)),
-            ("cause", Value::Count(access.verb.cause())),
+        let numbers = [
+            self.data,
+            self.base,
+            self.data.saturating_mul(PAGE),
+            self.first,
+            self.frames,
+            self.slots,
+            address,
+            mine,
+            other,
+            self.filled(0),
+            self.filled(1),
+            self.filled(2),
+            address.saturating_add(4),
+            self.entry,
+            self.evicts,
+            self.evicted,
+            self.entry_left(),
+            self.later,
+            address.saturating_add(2),
+            self.copied,
+            self.denied(),
+            self.verb.value(),
+            self.verb.cause(),
         ];
-        sheet.put(LINES, &values)
+        let values = Values {
+            names: NAMES.as_slice(),
+            numbers: numbers.as_slice(),
+        };
+        sheet::put(text, LINES, values);
+        sheet::put_line(text, self.verb.line(), "fault {cause}", values);
+        sheet::put(text, END, values);
     }
-}
-
-/// Adds the lines of the lab.
-pub fn put(sheet: &mut Sheet, numbers: Option<Numbers>) -> Result<(), AllocError> {
-    let script = match numbers {
-        Some(mut numbers) => Script::drawn(&mut numbers),
-        None => OF_PAGE,
-    };
-    script.put(sheet)
 }

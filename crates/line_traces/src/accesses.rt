@@ -85,6 +85,19 @@ impl fmt::Display for InRegion {
     }
 }
 
+/// How regions decide an access, as text.
+#[derive(Clone, Copy)]
+struct Outcome(Option<RuleLine>);
+
+impl fmt::Display for Outcome {
+    fn fmt<W: fmt::Write>(&self, f: &mut fmt::Formatter<W>) -> fmt::Result {
+        match self.0 {
+            Some(RuleLine { number, name }) => write!(f, "denied by rule {number} {name}"),
+            None => write!(f, "granted"),
+        }
+    }
+}
+
 /// For example `regions: store of 1 byte at 0x1000 granted, in segment 0x1000..0x2000 rw-`.
 impl fmt::Display for AccessLine {
     fn fmt<W: fmt::Write>(&self, f: &mut fmt::Formatter<W>) -> fmt::Result {
@@ -92,22 +105,15 @@ impl fmt::Display for AccessLine {
             access,
             address,
             width,
-            ..
+            region,
+            rule,
         } = *self;
-        let (bytes, region) = (
-            if width == 1 { "byte" } else { "bytes" },
-            InRegion(self.region),
-        );
-        match self.rule {
-            Some(RuleLine { number, name }) => write!(
-                f,
-                "regions: {access} of {width} {bytes} at {address} denied by rule {number} {name}{region}"
-            ),
-            None => write!(
-                f,
-                "regions: {access} of {width} {bytes} at {address} granted{region}"
-            ),
-        }
+        let bytes = if width == 1 { "byte" } else { "bytes" };
+        let (outcome, region) = (Outcome(rule), InRegion(region));
+        write!(
+            f,
+            "regions: {access} of {width} {bytes} at {address} {outcome}{region}"
+        )
     }
 }
 

@@ -7,8 +7,8 @@ use script_reader::{first_field, number};
 pub enum Answer {
     /// A step was refused, by the refusal of this number.
     Refused(u64),
-    /// An access faulted, with this exception cause.
-    Fault(u64),
+    /// An access faulted.
+    Fault,
     /// The process was ended, by the rule of this number.
     Ended(u64),
     /// A kernel copy stopped, by the rule of this number, after so many bytes.
@@ -48,9 +48,8 @@ fn first_number(text: &[u8]) -> Option<(u64, &[u8])> {
     Some((number(field)?, rest))
 }
 
-/// Returns the rule and the count of `N NAME done COUNT ..`.
-fn short(text: &[u8]) -> Option<Answer> {
-    let (rule, rest) = first_number(text)?;
+/// Returns how a copy stopped, by the number of the rule and what follows it, `NAME done COUNT ..`.
+fn short(rule: u64, rest: &[u8]) -> Option<Answer> {
     let (_, rest) = first_field(rest)?;
     let (_, rest) = first_field(rest)?;
     let (count, _) = first_number(rest)?;
@@ -61,11 +60,13 @@ impl Answer {
     /// Returns how a line was answered whose answer is this text; `None` if that is plain success.
     pub fn of(text: &[u8]) -> Option<Answer> {
         let (field, rest) = first_field(text)?;
-        match word_of(field)? {
-            Word::Refused => Some(Answer::Refused(first_number(rest)?.0)),
-            Word::Fault => Some(Answer::Fault(first_number(rest)?.0)),
-            Word::Ended => Some(Answer::Ended(first_number(rest)?.0)),
-            Word::Short => short(rest),
+        let word = word_of(field)?;
+        let (number, rest) = first_number(rest)?;
+        match word {
+            Word::Refused => Some(Answer::Refused(number)),
+            Word::Fault => Some(Answer::Fault),
+            Word::Ended => Some(Answer::Ended(number)),
+            Word::Short => short(number, rest),
         }
     }
 }

@@ -1,12 +1,13 @@
-// `Before`: what is seen of a machine before a line, since a process that the line ends is gone after it.
+// `Before`: what is seen of a machine before a line, since a process that the line ends is gone after it; and `command_of`, the command
+// of the line.
 
 ghost use Rattle.hart_machine.specs.BufferEntries.{IsInWorld};
 ghost use Rattle.line_player.specs.Answers.{HasPlayed};
 ghost use Rattle.line_player.specs.PlayedLines.{Played};
 ghost use Rattle.process_model.specs.World.{World};
 
-use crate::command_words::CommandWord;
 use crate::frame_needs::service_need;
+use crate::requests::faulted;
 use address_space::Region;
 use hart_machine::{Machine, Pending};
 use line_player::LinePlayer;
@@ -29,34 +30,29 @@ pub struct Before {
 
 impl Before {
     /// Nothing is seen: there is no machine.
-    const NOTHING: Before = Before {
+    pub const NOTHING: Before = Before {
         pending: None,
         region: None,
         needed: 0,
         free: 0,
     };
 
-    /// Returns the slot of the process on the hart that a command names, and the access of that process that faulted.
-    fn faulted(machine: &Machine, command: &Command) -> Option<(usize, Pending)> {
-        let slot = machine.slot(CommandWord::of(command).hart?)?;
-        Some((slot, machine.pending(slot)?))
-    }
-
     /// Returns what is seen of a machine before a command.
-    fn of_command(machine: &Machine, command: &Command) -> Before
+    pub fn of_command(machine: &Machine, command: &Command) -> Before
         requires world { (w : World) × IsInWorld machine.now w }
     {
-        let Some((slot, access)) = Before::faulted(machine, command) else {
-            return Before {
-                free: machine.report().free,
+        let free = machine.report().free;
+        match faulted(machine, command) {
+            Some(it) => Before {
+                pending: Some(it.access),
+                region: machine.region(it.slot, it.access.va),
+                needed: service_need(machine, it.slot, it.access.va),
+                free,
+            },
+            None => Before {
+                free,
                 ..Before::NOTHING
-            };
-        };
-        Before {
-            pending: Some(access),
-            region: machine.region(slot, access.va),
-            needed: service_need(machine, slot, access.va),
-            free: machine.report().free,
+            },
         }
     }
 
@@ -67,13 +63,31 @@ impl Before {
     pub fn line(alloc: Global, player: &LinePlayer, line: &[u8]) -> Result<Before, AllocError>
         requires played { (s : Played) × HasPlayed player.now s }
     {
-        let Some(machine) = player.machine() else {
-            return Ok(Before::NOTHING);
-        };
-        match line_item(alloc, player.draft(), trim_return(line)) {
-            Ok(Some(Item::Command(command))) => Ok(Before::of_command(machine, &command)),
-            Err(LineFault::Memory) => Err(AllocError),
-            Ok(_) | Err(LineFault::Cause(_)) => Ok(Before::NOTHING),
+        let command = command_of(alloc, player, line)?;
+        match (&command, player.machine()) {
+            (Some(command), Some(machine)) => Ok(Before::of_command(machine, command)),
+            _ => Ok(Before::NOTHING),
         }
+    }
+}
+
+/// Returns the command of a line that the player takes next, `None` if the line has none or is refused, or no machine was booted.
+///
+/// # Errors
+/// `AllocError`: the host is out of memory.
+pub fn command_of(
+    alloc: Global,
+    player: &LinePlayer,
+    line: &[u8],
+) -> Result<Option<Command>, AllocError>
+    requires played { (s : Played) × HasPlayed player.now s }
+{
+    if player.machine().is_none() {
+        return Ok(None);
+    }
+    match line_item(alloc, player.draft(), trim_return(line)) {
+        Ok(Some(Item::Command(command))) => Ok(Some(command)),
+        Err(LineFault::Memory) => Err(AllocError),
+        Ok(_) | Err(LineFault::Cause(_)) => Ok(None),
     }
 }

@@ -1,4 +1,4 @@
-// `explain_call`: why a kernel call, a start or a fork was refused: frames, slots, the heap, mappings.
+// `put_call`: why a kernel call, a start or a fork was refused: frames, slots, the heap, mappings.
 
 ghost use Rattle.hart_machine.specs.BufferEntries.{IsInWorld};
 ghost use Rattle.process_model.specs.World.{World};
@@ -10,61 +10,57 @@ use hart_machine::Machine;
 use process_model::{MOST_MAPPINGS, Step};
 use script_language::Command;
 use script_reader::Draft;
-use std::alloc::{AllocError, Global};
+use std::alloc::AllocError;
 use sv39_entry::{PAGE_SIZE, Va};
+use text_builder::Text;
 use walk_lines::Hex;
 
-/// How many frames were needed and are free; nothing for a line that takes none.
-fn frames(
-    alloc: Global,
-    needed: usize,
-    free: usize,
-    what: &str,
-) -> Result<Option<String>, AllocError> {
-    Ok(Some(format!(in alloc; "{what} takes {needed} frames; free: {free}")?))
+/// Tells how many frames something takes and how many are free.
+fn put_frames(text: &mut Text, machine: &Machine, needed: usize, what: &str) {
+    let free = machine.report().free;
+    write!(text, "{what} takes {needed} frames; free: {free}");
 }
 
-/// Why a start, an exec or a fork got no frames.
-fn no_frame(
-    alloc: Global,
-    machine: &Machine,
-    draft: &Draft,
-    command: &Command,
-) -> Result<Option<String>, AllocError>
-    requires world { (w : World) × IsInWorld machine.now w }
-{
-    let free = machine.report().free;
-    match command {
-        Command::Start { image } => match draft.images().get(*image) {
-            Some(image) => frames(
-                alloc,
-                start_need(machine.scheme(), image),
-                free,
-                "the start",
-            ),
-            None => Ok(None),
-        },
-        Command::Exec { image, .. } => match draft.images().get(*image) {
-            Some(image) => {
-                let needed = start_need(machine.scheme(), image).saturating_sub(1);
-                frames(
-                    alloc,
-                    needed,
-                    free,
-                    "the exec, before it gives the old pages back,",
-                )
-            }
-            None => Ok(None),
-        },
-        Command::One(Step::Fork { hart }) => match machine.slot(*hart) {
-            Some(slot) => frames(alloc, fork_need(alloc, machine, slot)?, free, "the fork"),
-            None => Ok(None),
-        },
-        _ => Ok(None),
+/// Tells why a start of an image got no frames, or an exec.
+fn put_image(text: &mut Text, machine: &Machine, draft: &Draft, image: usize, is_exec: bool) {
+    let Some(image) = draft.images().get(image) else {
+        return;
+    };
+    let needed = start_need(machine.scheme(), image);
+    if is_exec {
+        let what = "the exec, before it gives the old pages back,";
+        put_frames(text, machine, needed.saturating_sub(1), what);
+    } else {
+        put_frames(text, machine, needed, "the start");
     }
 }
 
-/// The process's region of this kind that is lowest in memory.
+/// Tells why a fork of the process on a hart got no frames.
+fn put_fork(text: &mut Text, machine: &Machine, hart: usize)
+    requires world { (w : World) × IsInWorld machine.now w }
+{
+    let Some(slot) = machine.slot(hart) else {
+        return;
+    };
+    match fork_need(text.allocator(), machine, slot) {
+        Ok(needed) => put_frames(text, machine, needed, "the fork"),
+        Err(_) => text.note(Err(AllocError)),
+    }
+}
+
+/// Tells why a start, an exec or a fork got no frames.
+fn put_no_frame(text: &mut Text, machine: &Machine, draft: &Draft, command: &Command)
+    requires world { (w : World) × IsInWorld machine.now w }
+{
+    match command {
+        Command::Start { image } => put_image(text, machine, draft, *image, false),
+        Command::Exec { image, .. } => put_image(text, machine, draft, *image, true),
+        Command::One(Step::Fork { hart }) => put_fork(text, machine, *hart),
+        _ => {}
+    }
+}
+
+/// The process's region of these kinds that is lowest in memory.
 fn lowest(machine: &Machine, slot: usize, kinds: &[RegionKind]) -> Option<Region> {
     let regions = machine.regions(slot)?;
     'regions: for region in regions.as_slice() {
@@ -75,14 +71,8 @@ fn lowest(machine: &Machine, slot: usize, kinds: &[RegionKind]) -> Option<Region
     None
 }
 
-/// The address at which the heap of the process in a slot begins.
-fn heap_base(machine: &Machine, slot: usize) -> Option<Hex> {
-    let heap = lowest(machine, slot, &[RegionKind::Heap])?;
-    Some(Hex(heap.first.wrapping_mul(PAGE_SIZE)))
-}
-
 /// What ends the room of the heap: the lowest mapping, or the trapframe.
-fn put_heap_limit(text: &mut String, machine: &Machine, slot: usize) -> Result<(), AllocError> {
+fn put_heap_limit(text: &mut Text, machine: &Machine, slot: usize) {
     let mappings = [RegionKind::SharedMapping, RegionKind::PrivateMapping];
     match lowest(machine, slot, &mappings) {
         Some(region) => {
@@ -96,109 +86,87 @@ fn put_heap_limit(text: &mut String, machine: &Machine, slot: usize) -> Result<(
     }
 }
 
-/// Why the heap cannot have the size that was asked for.
-fn bad_heap(
-    alloc: Global,
-    machine: &Machine,
-    command: &Command,
-    below: bool,
-) -> Result<Option<String>, AllocError> {
-    let Command::One(Step::Sbrk { hart, delta }) = command else {
-        return Ok(None);
+/// Tells why the heap of the process on a hart cannot have the size that was asked for; `below`: it would end below where it begins.
+fn put_heap(text: &mut Text, machine: &Machine, hart: usize, delta: i64, below: bool) {
+    let Some(slot) = machine.slot(hart) else {
+        return;
     };
-    let Some(slot) = machine.slot(*hart) else {
-        return Ok(None);
-    };
-    let mut text = String::new(alloc);
-    match heap_base(machine, slot) {
-        Some(base) if below => {
-            write!(
-                &mut text,
-                "changed by {delta} bytes, the heap would end below {base}, where it begins"
-            )?;
+    write!(text, "changed by {delta} bytes, the heap would ");
+    match lowest(machine, slot, &[RegionKind::Heap]) {
+        Some(heap) if below => {
+            let base = Hex(heap.first.wrapping_mul(PAGE_SIZE));
+            write!(text, "end below {base}, where it begins")
         }
         _ => {
-            write!(&mut text, "changed by {delta} bytes, the heap would reach ")?;
-            put_heap_limit(&mut text, machine, slot)?;
+            text.push_str("reach ");
+            put_heap_limit(text, machine, slot)
         }
     }
-    Ok(Some(text))
 }
 
-/// The mapping at an address of the process on a hart.
-fn mapping_at(machine: &Machine, hart: usize, address: u64) -> Option<RegionLine> {
-    let region = machine.region(machine.slot(hart)?, Va(address))?;
-    Some(RegionLine::of(region))
-}
-
-/// Why a mapping cannot be made or cut.
-fn bad_mapping(
-    alloc: Global,
-    machine: &Machine,
-    command: &Command,
-    number: u64,
-) -> Result<Option<String>, AllocError> {
-    match command {
-        Command::One(Step::Mmap { length, file, .. }) => {
-            let pages = length.div_ceil(PAGE_SIZE);
-            let text = match number {
-                14 => format!(in alloc;
-                    "{pages} pages fit nowhere above the heap, below the trapframe and between the mappings"
-                )?,
-                16 => format!(in alloc;
-                    "file {file} is read-only (`ro`), so a shared mapping of it may not ask for PROT_WRITE (2)"
-                )?,
-                _ => format!(in alloc;
-                    "the process has {MOST_MAPPINGS} mappings, the most that it may have: `munmap` takes one away"
-                )?,
-            };
-            Ok(Some(text))
-        }
-        Command::One(
-            Step::Munmap {
-                hart,
-                address,
-                length,
-            },
-        ) => match mapping_at(machine, *hart, *address) {
-            Some(mapping) => {
-                let (at, end) = (Hex(*address), Hex(address.saturating_add(*length)));
-                Ok(Some(format!(in alloc;
-                    "without {at}..{end}, {mapping} would be in two parts: the bytes must reach its first or its last page"
-                )?))
-            }
-            None => Ok(None),
-        },
-        _ => Ok(None),
+/// Tells why a mapping cannot be made, by the number of the refusal.
+fn put_mmap(text: &mut Text, length: u64, file: usize, number: u64) {
+    let pages = length.div_ceil(PAGE_SIZE);
+    match number {
+        14 => write!(
+            text,
+            "{pages} pages fit nowhere above the heap, below the trapframe and between the mappings"
+        ),
+        16 => write!(
+            text,
+            "file {file} is read-only (`ro`), so a shared mapping of it may not ask for PROT_WRITE (2)"
+        ),
+        _ => write!(
+            text,
+            "the process has {MOST_MAPPINGS} mappings, the most that it may have: `munmap` takes one away"
+        ),
     }
 }
 
-/// Returns why a call was refused, by the number of the refusal: 9, 10, 13, 14, 16, 17 or 18.
-///
-/// # Errors
-/// `AllocError`: the host is out of memory.
-pub fn explain_call(
-    alloc: Global,
-    machine: &Machine,
-    draft: &Draft,
-    command: &Command,
-    number: u64,
-) -> Result<Option<String>, AllocError>
+/// Tells why a mapping of the process on a hart cannot be cut.
+fn put_munmap(text: &mut Text, machine: &Machine, hart: usize, address: u64, length: u64) {
+    let Some(slot) = machine.slot(hart) else {
+        return;
+    };
+    if let Some(region) = machine.region(slot, Va(address)) {
+        let (at, end) = (Hex(address), Hex(address.saturating_add(length)));
+        let mapping = RegionLine::of(region);
+        write!(
+            text,
+            "without {at}..{end}, {mapping} would be in two parts: the bytes must reach its first or its last page"
+        );
+    }
+}
+
+/// Tells why a call was refused, by the number of the refusal: 9, 10, 13, 14, 16, 17 or 18.
+pub fn put_call(text: &mut Text, machine: &Machine, draft: &Draft, command: &Command, number: u64)
     requires world { (w : World) × IsInWorld machine.now w }
 {
-    match number {
-        9 => no_frame(alloc, machine, draft, command),
-        10 => {
+    match (number, command) {
+        (9, _) => put_no_frame(text, machine, draft, command),
+        (10, _) => {
             let slots = machine.slot_count();
-            Ok(Some(format!(in alloc;
+            write!(
+                text,
                 "no slot is free: there are {slots}, and a slot is free again when its process has ended"
-            )?))
+            )
         }
-        13 => bad_heap(alloc, machine, command, true),
-        14 if matches!(command, Command::One(Step::Sbrk { .. })) => bad_heap(
-            alloc, machine, command, false,
-        ),
-        14 | 16 | 17 | 18 => bad_mapping(alloc, machine, command, number),
-        _ => Ok(None),
+        (13 | 14, Command::One(Step::Sbrk { hart, delta })) => {
+            put_heap(text, machine, *hart, *delta, number == 13)
+        }
+        (14 | 16 | 17 | 18, Command::One(Step::Mmap { length, file, .. })) => {
+            put_mmap(text, *length, *file, number)
+        }
+        (
+            14 | 16 | 17 | 18,
+            Command::One(
+                Step::Munmap {
+                    hart,
+                    address,
+                    length,
+                },
+            ),
+        ) => put_munmap(text, machine, *hart, *address, *length),
+        _ => {}
     }
 }

@@ -3,8 +3,8 @@
 use crate::access_names::access_name;
 use crate::regions::RegionLine;
 use address_space::Region;
-use std::alloc::AllocError;
 use sv39_entry::{Access, Rule, Scheme, Va};
+use text_builder::Text;
 use walk_lines::Hex;
 
 /// An access or a copy that a rule denies.
@@ -43,52 +43,54 @@ fn right_name(access: Access) -> &'static str {
     }
 }
 
-/// Tells why a rule other than `NoFrame` denies an access.
-pub fn put_denial(text: &mut String, rule: Rule, denied: &Denied) -> Result<(), AllocError> {
-    let (word, at, width) = (access_name(denied.access), Hex(denied.va.0), denied.width);
-    match rule {
-        Rule::Misaligned => write!(
-            text,
-            "{word} of {width} bytes at {at}, which is no multiple of {width}"
-        ),
-        Rule::BeyondMax => {
-            let max = Hex(denied.scheme.maxva().0);
+/// Tells that the region of an access does not grant it.
+fn put_no_right(text: &mut Text, denied: &Denied) {
+    let right = right_name(denied.access);
+    match denied.region {
+        Some(region) => {
+            let region = RegionLine::of(region);
+            write!(text, "in {region}, which does not grant {right}")
+        }
+        None => write!(text, "whose region does not grant {right}"),
+    }
+}
+
+/// Tells that an access is in the guard page.
+fn put_guard(text: &mut Text, region: Option<Region>) {
+    match region {
+        Some(region) => {
+            let region = RegionLine::of(region);
             write!(
                 text,
-                "{word} at {at}, and addresses must be below {max} (MAXVA)"
+                "in {region}, the page that catches an overflow of the stack"
             )
         }
-        Rule::KernelPage => write!(
+        None => text.push_str("in the guard page below the stack"),
+    }
+}
+
+/// Tells why a rule denies an access.
+pub fn put_denial(text: &mut Text, rule: Rule, denied: &Denied) {
+    let (word, at, width) = (access_name(denied.access), Hex(denied.va.0), denied.width);
+    if rule == Rule::Misaligned {
+        write!(
             text,
-            "{word} at {at}, in the page of the trampoline or of the trapframe, which are the kernel's"
-        ),
-        Rule::GuardPage => match denied.region {
-            Some(region) => {
-                let region = RegionLine::of(region);
-                write!(
-                    text,
-                    "{word} at {at}, in {region}, the page that catches an overflow of the stack"
-                )
-            }
-            None => write!(text, "{word} at {at}, in the guard page below the stack"),
-        },
-        Rule::NoRegion => write!(text, "{word} at {at}, which no region of the process holds"),
-        Rule::NoRead | Rule::NoWrite | Rule::NoExec => {
-            let right = right_name(denied.access);
-            match denied.region {
-                Some(region) => {
-                    let region = RegionLine::of(region);
-                    write!(
-                        text,
-                        "{word} at {at}, in {region}, which does not grant {right}"
-                    )
-                }
-                None => write!(text, "{word} at {at}, whose region does not grant {right}"),
-            }
+            "{word} of {width} bytes at {at}, which is no multiple of {width}"
+        );
+        return;
+    }
+    write!(text, "{word} at {at}, ");
+    match rule {
+        Rule::BeyondMax => {
+            let max = Hex(denied.scheme.maxva().0);
+            write!(text, "and addresses must be below {max} (MAXVA)")
         }
-        Rule::NoFrame => write!(
-            text,
-            "{word} at {at}, which is granted, but too few frames are free"
+        Rule::KernelPage => text.push_str(
+            "in the page of the trampoline or of the trapframe, which are the kernel's",
         ),
+        Rule::GuardPage => put_guard(text, denied.region),
+        Rule::NoRegion => text.push_str("which no region of the process holds"),
+        Rule::NoFrame => text.push_str("which is granted, but too few frames are free"),
+        _ => put_no_right(text, denied),
     }
 }

@@ -1,4 +1,4 @@
-// `explain_entry`: why a buffer entry does not serve: it is not there, or it is for another page or another ASID.
+// `put_entry`: why a buffer entry does not serve: it is not there, or it is for another page or another ASID.
 
 ghost use Rattle.hart_machine.specs.BufferEntries.{IsInWorld};
 ghost use Rattle.process_model.specs.World.{World};
@@ -6,8 +6,8 @@ ghost use Rattle.process_model.specs.World.{World};
 use hart_machine::Machine;
 use process_model::Step;
 use script_language::Command;
-use std::alloc::{AllocError, Global};
 use sv39_entry::{PAGE_SIZE, Va};
+use text_builder::Text;
 use walk_lines::Hex;
 
 /// The entry that a command names, by hart and number, and the address that it is to serve; `None` for no address: an eviction.
@@ -38,40 +38,33 @@ fn entry_named(machine: &Machine, command: &Command) -> Option<(usize, usize, Op
     }
 }
 
-/// Returns why the entry that a command names does not serve it; `None` if it names none.
-///
-/// # Errors
-/// `AllocError`: the host is out of memory.
-pub fn explain_entry(
-    alloc: Global,
-    machine: &Machine,
-    command: &Command,
-) -> Result<Option<String>, AllocError>
+/// Tells why the entry that a command names does not serve it; nothing if it names none.
+pub fn put_entry(text: &mut Text, machine: &Machine, command: &Command)
     requires world { (w : World) × IsInWorld machine.now w }
 {
     let Some((hart, number, va)) = entry_named(machine, command) else {
-        return Ok(None);
+        return;
     };
     let Some(buffer) = machine.buffer(hart) else {
-        return Ok(None);
+        return;
     };
     let count = buffer.len();
-    let text = match (buffer.entry(number), va, machine.satp(hart)) {
+    match (buffer.entry(number), va, machine.satp(hart)) {
         (Some(entry), Some(va), Some(satp)) => {
             let (page, asked) = (Hex(entry.page.number().wrapping_mul(PAGE_SIZE)), Hex(va.0));
             let (asid, now) = (entry.asid, satp.asid());
-            format!(in alloc;
+            write!(
+                text,
                 "TLB entry {number} of hart {hart} is for the page at {page} under ASID {asid}; the access is at {asked} under ASID {now}"
-            )?
+            )
         }
-        _ if count == 0 => format!(in alloc;
+        _ if count == 0 => write!(
+            text,
             "the TLB of hart {hart} is empty: `fill {hart} ADDRESS` adds an entry, a fence of entry or return removes entries"
-        )?,
-        _ => {
-            format!(in alloc;
-                "the TLB of hart {hart} has no entry {number}: it has {count}, the oldest is entry 0"
-            )?
-        }
-    };
-    Ok(Some(text))
+        ),
+        _ => write!(
+            text,
+            "the TLB of hart {hart} has no entry {number}: it has {count}, the oldest is entry 0"
+        ),
+    }
 }

@@ -6,14 +6,14 @@ ghost use Rattle.line_player.specs.PlayedLines.{Played};
 ghost use Rattle.process_model.specs.World.{World};
 
 use crate::answer::Answer;
-use crate::arguments::explain_argument;
+use crate::arguments::put_argument;
 use crate::before::Before;
-use crate::calls::explain_call;
-use crate::command_words::CommandWord;
+use crate::calls::put_call;
 use crate::denials::{Denied, put_denial, rule_of};
-use crate::entries::explain_entry;
+use crate::entries::put_entry;
 use crate::frame_needs::service_need;
-use crate::phases::explain_phase;
+use crate::phases::put_phase;
+use crate::requests::faulted;
 use audit_player::lend;
 use fault_texts::explain_image;
 use hart_machine::Machine;
@@ -23,6 +23,7 @@ use script_language::{Command, Item};
 use script_reader::{Draft, line_item, trim_return};
 use std::alloc::{AllocError, Global};
 use sv39_entry::{Access, Rule, Va};
+use text_builder::Text;
 
 /// The slot that a command puts on a hart.
 fn slot_named(command: &Command) -> Option<usize> {
@@ -33,87 +34,62 @@ fn slot_named(command: &Command) -> Option<usize> {
     }
 }
 
-/// Which check the image fails that a command starts or executes.
-fn explain_bad_image(
-    alloc: Global,
-    machine: &Machine,
-    draft: &Draft,
-    command: &Command,
-) -> Result<Option<String>, AllocError> {
+/// Tells which check the image fails that a command starts or executes.
+fn put_bad_image(text: &mut Text, machine: &Machine, draft: &Draft, command: &Command) {
     let number = match command {
         Command::Start { image } | Command::Exec { image, .. } => *image,
-        _ => return Ok(None),
+        _ => return,
     };
-    match draft.images().get(number) {
-        Some(image) => explain_image(alloc, machine.scheme(), lend(image)),
-        None => Ok(None),
+    let Some(image) = draft.images().get(number) else {
+        return;
+    };
+    match explain_image(text.allocator(), machine.scheme(), lend(image)) {
+        Ok(Some(check)) => text.push_str(check.as_str()),
+        Ok(None) => {}
+        Err(_) => text.note(Err(AllocError)),
     }
 }
 
-/// Why a command was refused, by the number of the refusal.
-fn explain_refusal(
-    alloc: Global,
-    machine: &Machine,
-    draft: &Draft,
-    command: &Command,
-    number: u64,
-) -> Result<Option<String>, AllocError>
+/// Tells why a command was refused, by the number of the refusal.
+fn put_refusal(text: &mut Text, machine: &Machine, draft: &Draft, command: &Command, number: u64)
     requires world { (w : World) × IsInWorld machine.now w }
 {
     match number {
-        12 => explain_bad_image(alloc, machine, draft, command),
-        15 => explain_argument(alloc, machine, command),
-        19 => explain_phase(
-            alloc,
-            machine,
-            CommandWord::of(command),
-            slot_named(command),
-        ),
-        20 => explain_entry(alloc, machine, command),
-        _ => explain_call(alloc, machine, draft, command, number),
+        12 => put_bad_image(text, machine, draft, command),
+        15 => put_argument(text, machine, command),
+        19 => put_phase(text, machine, command, slot_named(command)),
+        20 => put_entry(text, machine, command),
+        _ => put_call(text, machine, draft, command, number),
     }
 }
 
 /// Tells what the service of a fault does, which takes so many frames.
-fn put_service(
-    text: &mut String,
-    hart: usize,
-    needed: usize,
-    free: usize,
-) -> Result<(), AllocError> {
+fn put_service(text: &mut Text, machine: &Machine, hart: usize, needed: usize) {
+    let free = machine.report().free;
     if needed > free {
-        return write!(
+        write!(
             text,
             "its service takes {needed} frames, free: {free}, so `fix {hart}` ends the process"
-        );
+        )
+    } else {
+        write!(
+            text,
+            "`fix {hart}` serves the fault, then give the line again"
+        )
     }
-    write!(
-        text,
-        "`fix {hart}` serves the fault, then give the line again"
-    )
 }
 
-/// Why an access faulted: a rule denies it, or its page is not resident for it.
-fn explain_fault(
-    alloc: Global,
-    machine: &Machine,
-    command: &Command,
-) -> Result<Option<String>, AllocError>
+/// Tells why an access faulted: a rule denies it, or its page is not resident for it.
+fn put_fault(text: &mut Text, machine: &Machine, command: &Command)
     requires world { (w : World) × IsInWorld machine.now w }
 {
-    let Some(hart) = CommandWord::of(command).hart else {
-        return Ok(None);
+    let Some(faulted) = faulted(machine, command) else {
+        return;
     };
-    let Some(slot) = machine.slot(hart) else {
-        return Ok(None);
-    };
-    let Some(access) = machine.pending(slot) else {
-        return Ok(None);
-    };
+    let (hart, slot, access) = (faulted.hart, faulted.slot, faulted.access);
     if access.width == 0 {
-        return Ok(None);
+        return;
     }
-    let mut text = String::new(alloc);
     match machine.granted(slot, access.access, access.va, access.width) {
         Some(Err(rule)) => {
             let denied = Denied {
@@ -123,35 +99,29 @@ fn explain_fault(
                 region: machine.region(slot, access.va),
                 scheme: machine.scheme(),
             };
-            put_denial(&mut text, rule, &denied)?;
-            write!(&mut text, ": its service, `fix {hart}`, ends the process")?;
+            put_denial(text, rule, &denied);
+            write!(text, ": its service, `fix {hart}`, ends the process")
         }
         _ => {
-            write!(
-                &mut text,
-                "the process may make this access, and its page is not ready for it: "
-            )?;
-            let (needed, free) = (
-                service_need(machine, slot, access.va),
-                machine.report().free,
-            );
-            put_service(&mut text, hart, needed, free)?;
+            text.push_str("the process may make this access, and its page is not ready for it: ");
+            put_service(text, machine, hart, service_need(machine, slot, access.va))
         }
     }
-    Ok(Some(text))
 }
 
-/// Why a process was ended.
-fn explain_end(
-    alloc: Global,
-    machine: &Machine,
-    before: &Before,
-    number: u64,
-) -> Result<Option<String>, AllocError> {
+/// Tells by which rule an access was denied; if too few frames were free, how many were, and how many were needed.
+fn put_rule(text: &mut Text, rule: Rule, denied: &Denied, needed: usize, free: usize) {
+    put_denial(text, rule, denied);
+    if rule == Rule::NoFrame {
+        write!(text, ": needed {needed}, free {free}");
+    }
+}
+
+/// Tells why a process was ended.
+fn put_end(text: &mut Text, machine: &Machine, before: &Before, number: u64) {
     let Some(access) = before.pending else {
-        return Ok(None);
+        return;
     };
-    let mut text = String::new(alloc);
     let denied = Denied {
         access: access.access,
         va: access.va,
@@ -159,12 +129,7 @@ fn explain_end(
         region: before.region,
         scheme: machine.scheme(),
     };
-    put_denial(&mut text, rule_of(number), &denied)?;
-    if rule_of(number) == Rule::NoFrame {
-        let (needed, free) = (before.needed, before.free);
-        write!(&mut text, ": needed {needed}, free {free}")?;
-    }
-    Ok(Some(text))
+    put_rule(text, rule_of(number), &denied, before.needed, before.free);
 }
 
 /// The process and the address of a copy, and how it accesses memory.
@@ -180,21 +145,14 @@ fn copy_of(machine: &Machine, command: &Command) -> Option<(usize, u64, Access)>
     }
 }
 
-/// Why a copy stopped after so many bytes.
-fn explain_short(
-    alloc: Global,
-    machine: &Machine,
-    command: &Command,
-    number: u64,
-    done: u64,
-) -> Result<Option<String>, AllocError>
+/// Tells why a copy stopped after so many bytes.
+fn put_short(text: &mut Text, machine: &Machine, command: &Command, number: u64, done: u64)
     requires world { (w : World) × IsInWorld machine.now w }
 {
     let Some((slot, address, access)) = copy_of(machine, command) else {
-        return Ok(None);
+        return;
     };
     let va = Va(address.wrapping_add(done));
-    let mut text = String::new(alloc);
     let denied = Denied {
         access,
         va,
@@ -202,13 +160,9 @@ fn explain_short(
         region: machine.region(slot, va),
         scheme: machine.scheme(),
     };
-    write!(&mut text, "the copy stopped at a ")?;
-    put_denial(&mut text, rule_of(number), &denied)?;
-    if rule_of(number) == Rule::NoFrame {
-        let (needed, free) = (service_need(machine, slot, va), machine.report().free);
-        write!(&mut text, ": needed {needed}, free {free}")?;
-    }
-    Ok(Some(text))
+    let (needed, free) = (service_need(machine, slot, va), machine.report().free);
+    text.push_str("the copy stopped at a ");
+    put_rule(text, rule_of(number), &denied, needed, free);
 }
 
 /// Returns why a player answered its last line otherwise than by plain success, and which line would be right, in words: one line of
@@ -224,25 +178,23 @@ pub fn explain_answer(
 ) -> Result<Option<String>, AllocError>
     requires played { (s : Played) × HasPlayed player.now s }
 {
-    let Some(answer) = Answer::of(player.answer()) else {
+    let (Some(answer), Some(machine)) = (Answer::of(player.answer()), player.machine()) else {
         return Ok(None);
     };
-    let (Some(machine), Ok(Some(Item::Command(command)))) = (
-        player.machine(),
-        line_item(alloc, player.draft(), trim_return(line)),
-    ) else {
+    let draft = player.draft();
+    let Ok(Some(Item::Command(command))) = line_item(alloc, draft, trim_return(line)) else {
         return Ok(None);
     };
+    let mut text = Text::new(alloc);
     match answer {
-        Answer::Refused(number) => explain_refusal(
-            alloc,
-            machine,
-            player.draft(),
-            &command,
-            number,
-        ),
-        Answer::Fault(_) => explain_fault(alloc, machine, &command),
-        Answer::Ended(number) => explain_end(alloc, machine, before, number),
-        Answer::Short(number, done) => explain_short(alloc, machine, &command, number, done),
+        Answer::Refused(number) => put_refusal(&mut text, machine, draft, &command, number),
+        Answer::Fault => put_fault(&mut text, machine, &command),
+        Answer::Ended(number) => put_end(&mut text, machine, before, number),
+        Answer::Short(number, done) => put_short(&mut text, machine, &command, number, done),
     }
+    let text = text.finish()?;
+    if text.is_empty() {
+        return Ok(None);
+    }
+    Ok(Some(text))
 }

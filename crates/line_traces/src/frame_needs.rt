@@ -3,13 +3,14 @@
 ghost use Rattle.hart_machine.specs.BufferEntries.{IsInWorld};
 ghost use Rattle.process_model.specs.World.{World};
 
+use crate::leaves::entries_of;
 use audit_player::lend;
 use exec_segments::{Image, start_frames};
 use hart_machine::Machine;
 use script_language::OwnedImage;
 use std::alloc::{AllocError, Global};
 use sv39_entry::{Entry, EntryFlags, FrameNo, Kind, Scheme, Va};
-use walk_lines::{TableEntry, table_entries, walk_entries};
+use walk_lines::{TableEntry, walk_entries};
 
 /// How many frames the service of a page with this leaf takes: one if it is copy-on-write and its frame has another reference.
 fn leaf_need(machine: &Machine, leaf: Entry) -> usize {
@@ -76,11 +77,7 @@ fn tables_with_leaves(entries: &[TableEntry], pages: u64) -> usize {
 pub fn fork_need(alloc: Global, machine: &Machine, slot: usize) -> Result<usize, AllocError>
     requires world { (w : World) × IsInWorld machine.now w }
 {
-    let Some(root) = machine.root(slot) else {
-        return Ok(0);
-    };
-    let mut words = machine.words();
-    let entries = table_entries(alloc, &mut words, machine.scheme(), root.ppn())?;
+    let entries = entries_of(alloc, machine, slot)?;
     let entries = entries.as_slice();
     let lower = tables_with_leaves(entries, 1 << 9);
     let upper = tables_with_leaves(entries, 1 << 18);

@@ -1,5 +1,5 @@
-// `LeafChange`: a leaf that a line changed; `leaves_of`, the leaves of a process; and `changed_leaves`, those that
-// differ.
+// `LeafChange`: a leaf that a line changed; `entries_of`, the entries of the page tables of a process; `leaves_of`, the leaves among
+// them; and `changed_leaves`, those that differ.
 
 ghost use Rattle.std.specs.Prelude.{◌≡◌, IfOk};
 ghost use Rattle.hart_machine.specs.BufferEntries.{IsInWorld};
@@ -22,6 +22,27 @@ pub struct LeafChange {
     pub after: Option<LeafLine>,
 }
 
+/// Returns the valid entries of the page tables of the process in a slot, in the order of their addresses; none if the slot has no
+/// process.
+///
+/// # Errors
+/// `AllocError`: the host is out of memory.
+pub fn entries_of(
+    alloc: Global,
+    machine: &Machine,
+    slot: usize,
+) -> Result<Vec<TableEntry>, AllocError>
+    requires world { (w : World) × IsInWorld machine.now w }
+{
+    match machine.root(slot) {
+        Some(root) => {
+            let mut words = machine.words();
+            table_entries(alloc, &mut words, machine.scheme(), root.ppn())
+        }
+        None => Ok(Vec::new(alloc)),
+    }
+}
+
 /// Returns the leaves of the page tables of the process in a slot, in the order of their addresses; none if the slot has no process.
 ///
 /// # Errors
@@ -34,11 +55,7 @@ pub fn leaves_of(
     requires world { (w : World) × IsInWorld machine.now w }
 {
     let mut leaves = Vec::new(alloc);
-    let Some(root) = machine.root(slot) else {
-        return Ok(leaves);
-    };
-    let mut words = machine.words();
-    let entries = table_entries(alloc, &mut words, machine.scheme(), root.ppn())?;
+    let entries = entries_of(alloc, machine, slot)?;
     for entry in entries.as_slice() {
         if Entry::from_word(entry.word).kind() == Kind::Leaf {
             leaves.push(*entry)?;

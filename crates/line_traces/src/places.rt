@@ -43,8 +43,9 @@ impl HartPlace {
     pub fn of(machine: &Machine, hart: usize) -> Option<HartPlace>
         requires world { (w : World) × IsInWorld machine.now w }
     {
-        let phase = machine.phase(hart)?;
-        let satp = machine.satp(hart)?;
+        let (Some(phase), Some(satp)) = (machine.phase(hart), machine.satp(hart)) else {
+            return None;
+        };
         Some(HartPlace {
             hart,
             phase: phase_name(phase),

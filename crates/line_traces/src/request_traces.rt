@@ -33,23 +33,6 @@ pub struct RequestTrace {
     pub reason: Option<&'static str>,
 }
 
-/// Returns what the walk of an address reads from a root on.
-fn walk_from(
-    alloc: Global,
-    machine: &Machine,
-    root: u64,
-    va: Va,
-) -> Result<Vec<WalkLine>, AllocError> {
-    walk_of(
-        alloc,
-        machine.words(),
-        machine.counts(),
-        machine.scheme(),
-        root,
-        va,
-    )
-}
-
 /// Returns an entry of a hart's buffer, by its number; `None` if it is not there.
 fn entry_of(machine: &Machine, hart: usize, number: usize) -> Option<BufferLine> {
     let entry = machine.buffer(hart)?.entry(number)?;
@@ -82,7 +65,7 @@ impl Request {
     {
         match machine.satp(self.hart) {
             Some(satp) if self.via.is_none() && !self.serves => {
-                walk_from(alloc, machine, satp.ppn(), self.va)
+                walk_of(alloc, machine, satp.ppn(), self.va)
             }
             _ => Ok(Vec::new(alloc)),
         }
@@ -151,28 +134,14 @@ impl RequestTrace {
         if answer.starts_with(b"refused") {
             return Ok(None);
         }
-        let RequestTrace {
-            access,
-            serves,
-            entry,
-            walk,
-            reason,
-        } = self;
-        Ok(Some(RequestTrace {
-            access,
-            serves,
-            entry,
-            walk: if serves {
-                served_walk(alloc, machine, place, access)?
-            } else {
-                walk
-            },
-            reason: if answer.starts_with(b"fault") {
-                reason
-            } else {
-                None
-            },
-        }))
+        let mut trace = self;
+        if trace.serves {
+            trace.walk = served_walk(alloc, machine, place, trace.access)?;
+        }
+        if !answer.starts_with(b"fault") {
+            trace.reason = None;
+        }
+        Ok(Some(trace))
     }
 }
 
@@ -189,7 +158,7 @@ fn served_walk(
         return Ok(Vec::new(alloc));
     };
     match machine.root(slot) {
-        Some(root) => walk_from(alloc, machine, root.ppn(), Va(access.address.0)),
+        Some(root) => walk_of(alloc, machine, root.ppn(), Va(access.address.0)),
         None => Ok(Vec::new(alloc)),
     }
 }

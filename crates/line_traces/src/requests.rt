@@ -1,7 +1,7 @@
-// What a line of a script asks of a hart: which hart it names (`hart_of`), which access it makes or which page it fills (`Request`), and
-// which bytes of a process it touches (`Touched`).
+// What a line of a script asks of a hart: which hart it names (`hart_of`), which access of the hart's process waits (`FaultedAccess`), which
+// access the line makes or which page it fills (`Request`), and which bytes of a process it touches (`Touched`).
 
-use hart_machine::Machine;
+use hart_machine::{Machine, Pending};
 use process_model::Step;
 use script_language::Command;
 use sv39_entry::{Access, Mode, Scheme, Va};
@@ -77,36 +77,55 @@ fn serves(command: &Command) -> bool {
     )
 }
 
+/// The last access that faulted, of the process on a hart.
+#[derive(Clone, Copy)]
+pub struct FaultedAccess {
+    pub hart: usize,
+    pub slot: usize,
+    pub access: Pending,
+}
+
 /// Returns the access that faulted, of the process on the hart that a line names, if there is one.
-fn faulted(machine: &Machine, command: &Command) -> Option<Request> {
+pub fn faulted(machine: &Machine, command: &Command) -> Option<FaultedAccess> {
     let hart = hart_of(command)?;
-    let pending = machine.pending(machine.slot(hart)?)?;
-    Some(Request {
+    let slot = machine.slot(hart)?;
+    Some(FaultedAccess {
         hart,
-        access: Some(pending.access),
-        mode: Mode::User,
-        va: pending.va,
-        width: pending.width,
-        via: None,
-        serves: true,
+        slot,
+        access: machine.pending(slot)?,
     })
+}
+
+/// Returns the access that a line serves, if it serves one.
+fn served(machine: &Machine, command: &Command) -> Option<Request> {
+    let faulted = faulted(machine, command)?;
+    let access = faulted.access;
+    Some(user_access(
+        faulted.hart,
+        access.access,
+        access.va.0,
+        access.width,
+        None,
+        true,
+    ))
 }
 
 /// Returns the request of a line: its access, its fill or, if it serves a fault, the access that faulted.
 pub fn request_of(machine: &Machine, command: &Command) -> Option<Request> {
     if serves(command) {
-        return faulted(machine, command);
+        return served(machine, command);
     }
     made_by(machine.scheme(), command)
 }
 
-/// Returns the access of a user that a line makes.
+/// Returns an access of a user that a line makes, or serves.
 fn user_access(
     hart: usize,
     access: Access,
     address: u64,
     width: u64,
     via: Option<usize>,
+    serves: bool,
 ) -> Request {
     Request {
         hart,
@@ -115,7 +134,7 @@ fn user_access(
         va: Va(address),
         width,
         via,
-        serves: false,
+        serves,
     }
 }
 
@@ -126,21 +145,21 @@ fn made_by(scheme: Scheme, command: &Command) -> Option<Request> {
     };
     match *step {
         Step::Fetch { hart, address, via } => {
-            Some(user_access(hart, Access::Fetch, address, 4, via))
+            Some(user_access(hart, Access::Fetch, address, 4, via, false))
         }
         Step::Load {
             hart,
             address,
             width,
             via,
-        } => Some(user_access(hart, Access::Load, address, width, via)),
+        } => Some(user_access(hart, Access::Load, address, width, via, false)),
         Step::Store {
             hart,
             address,
             width,
             via,
             ..
-        } => Some(user_access(hart, Access::Store, address, width, via)),
+        } => Some(user_access(hart, Access::Store, address, width, via, false)),
         Step::TrampolineFetch { hart, offset, via } => Some(Request {
             hart,
             access: Some(Access::Fetch),

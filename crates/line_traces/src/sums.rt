@@ -6,14 +6,14 @@ ghost use Rattle.process_model.specs.World.{World};
 
 use crate::changes::Changes;
 use crate::frames::FrameChanges;
-use crate::leaves::LeafChange;
+use crate::leaves::{LeafChange, entries_of};
 use crate::traces::LineTrace;
 use hart_machine::Machine;
 use script_reader::first_field;
 use serde::Serialize;
 use std::alloc::{AllocError, Global};
 use sv39_entry::{Entry, Kind};
-use walk_lines::{Hex, table_entries};
+use walk_lines::Hex;
 
 /// The flag in a leaf by which the kernel marks copy-on-write: bit 8.
 const COPY_ON_WRITE: u64 = 1 << 8;
@@ -158,8 +158,7 @@ fn put_tables(
         return Ok(());
     };
     tables.push(root.ppn())?;
-    let mut words = machine.words();
-    let entries = table_entries(alloc, &mut words, machine.scheme(), root.ppn())?;
+    let entries = entries_of(alloc, machine, slot)?;
     for entry in entries.as_slice() {
         let word = Entry::from_word(entry.word);
         if word.kind() == Kind::Pointer {
@@ -204,8 +203,9 @@ impl Ledger {
 
     /// Adds what a line changed of the references of all frames.
     fn add_counts(&mut self, machine: &Machine) -> Result<(), AllocError> {
-        for (before, after) in self.counts.as_slice().iter().zip(machine.counts()) {
-            self.sums.add_count(*before, *after);
+        let (before, after) = (self.counts.as_slice(), machine.counts());
+        for number in 0..before.len().min(after.len()) {
+            self.sums.add_count(before[number], after[number]);
         }
         self.counts = Vec::from_slice(self.alloc, machine.counts())?;
         Ok(())
@@ -247,18 +247,20 @@ impl Ledger {
     ) -> Result<(), AllocError>
         requires world { IfSome machine (λ m. (w : World) × IsInWorld m.now w) }
     {
-        let (Some(machine), Some(changes)) = (machine, &trace.changes) else {
+        let (Some(machine), Some(changes)) = (machine, &trace.seen.changes) else {
             return Ok(());
         };
-        let word = word_of(trace.text.as_str());
+        let (is_exec, is_audit) = match word_of(trace.text.as_str()) {
+            b"exec" => (true, false),
+            b"audit" => (false, true),
+            _ => (false, false),
+        };
         // an image that replaces the process has pages of its own, in frames of the old one too
-        let is_exec = word == b"exec".as_slice();
         let copies = if is_exec {
             0
         } else {
             count_copies(changes.leaves.as_slice())
         };
-        let is_audit = word == b"audit".as_slice();
         self.add_changes(changes, machine, copies)?;
         if is_exec {
             self.tables = tables_of(self.alloc, machine)?;

@@ -6,7 +6,7 @@ ghost use Rattle.line_player.specs.Answers.{Answers, HasPlayed};
 ghost use Rattle.line_player.specs.PlayedLines.{next_answer, Played};
 ghost use Rattle.process_model.specs.World.{World};
 
-use crate::before::Before as SeenBefore;
+use crate::before::{Before, command_of};
 use crate::changes::{Changes, Snapshot};
 use crate::explaining::explain_answer;
 use crate::places::HartPlace;
@@ -15,24 +15,17 @@ use crate::requests::{Touched, hart_of, request_of, touched_by};
 use crate::sums::AuditSums;
 use hart_machine::Machine;
 use line_player::{LinePlayer, LineReply};
-use script_language::{Command, Item};
-use script_reader::{LineFault, line_item, trim_return};
+use script_language::Command;
+use script_reader::trim_return;
 use serde::Serialize;
 use std::alloc::{AllocError, Global};
 
-/// What happens on a line.
+/// What is seen of a line once it was played.
 #[derive(Drop, Serialize)]
-pub struct LineTrace {
-    /// The number of the line, from 1.
-    pub line: u64,
-    /// The line.
-    pub text: String,
+pub struct Seen {
     /// Its answer, if it has one.
     #[serde(skip_serializing_if = "Option::is_none")]
     pub answer: Option<String>,
-    /// How it was answered.
-    #[serde(skip)]
-    pub reply: LineReply,
     /// Where its hart is before the line.
     #[serde(skip_serializing_if = "Option::is_none")]
     pub before: Option<HartPlace>,
@@ -45,6 +38,20 @@ pub struct LineTrace {
     /// What is other after the line, if it is a step and there is a machine.
     #[serde(skip_serializing_if = "Option::is_none")]
     pub changes: Option<Changes>,
+}
+
+/// What happens on a line.
+#[derive(Drop, Serialize)]
+pub struct LineTrace {
+    /// The number of the line, from 1.
+    pub line: u64,
+    /// The line.
+    pub text: String,
+    /// How it was answered.
+    #[serde(skip)]
+    pub reply: LineReply,
+    #[serde(flatten)]
+    pub seen: Seen,
     /// Of an audit, what was taken and given back since the one before; a `Ledger` puts it there.
     #[serde(skip_serializing_if = "Option::is_none")]
     pub sums: Option<AuditSums>,
@@ -55,41 +62,15 @@ pub struct LineTrace {
 
 /// What is seen before a line is played.
 #[derive(Drop)]
-struct Before {
+struct Start {
+    before: Before,
     snapshot: Snapshot,
     request: Option<RequestTrace>,
     touched: Option<Touched>,
 }
 
-/// What is seen of a line once it was played, as in `LineTrace`.
-#[derive(Drop)]
-struct Seen {
-    answer: Option<String>,
-    before: Option<HartPlace>,
-    request: Option<RequestTrace>,
-    changes: Option<Changes>,
-}
-
-/// Returns the command of a line that the player takes next, `None` if the line has none or is refused, or no machine was booted.
-fn command_of(
-    alloc: Global,
-    player: &LinePlayer,
-    line: &[u8],
-) -> Result<Option<Command>, AllocError>
-    requires played { (s : Played) × HasPlayed player.now s }
-{
-    if player.machine().is_none() {
-        return Ok(None);
-    }
-    match line_item(alloc, player.draft(), trim_return(line)) {
-        Ok(Some(Item::Command(command))) => Ok(Some(command)),
-        Err(LineFault::Memory) => Err(AllocError),
-        Ok(_) | Err(LineFault::Cause(_)) => Ok(None),
-    }
-}
-
 /// Returns what is seen of a machine before a command.
-fn seen_before(alloc: Global, machine: &Machine, command: &Command) -> Result<Before, AllocError>
+fn seen_before(alloc: Global, machine: &Machine, command: &Command) -> Result<Start, AllocError>
     requires world { (w : World) × IsInWorld machine.now w }
 {
     let snapshot = Snapshot::take(alloc, machine, hart_of(command))?;
@@ -97,7 +78,8 @@ fn seen_before(alloc: Global, machine: &Machine, command: &Command) -> Result<Be
         Some(request) => Some(RequestTrace::of(alloc, machine, request)?),
         None => None,
     };
-    Ok(Before {
+    Ok(Start {
+        before: Before::of_command(machine, command),
         snapshot,
         request,
         touched: touched_by(machine, command),
@@ -105,13 +87,14 @@ fn seen_before(alloc: Global, machine: &Machine, command: &Command) -> Result<Be
 }
 
 /// Returns what is seen before the next line of a player.
-fn look_before(alloc: Global, player: &LinePlayer, line: &[u8]) -> Result<Before, AllocError>
+fn look_before(alloc: Global, player: &LinePlayer, line: &[u8]) -> Result<Start, AllocError>
     requires played { (s : Played) × HasPlayed player.now s }
 {
     let command = command_of(alloc, player, line)?;
     match (&command, player.machine()) {
         (Some(command), Some(machine)) => seen_before(alloc, machine, command),
-        _ => Ok(Before {
+        _ => Ok(Start {
+            before: Before::NOTHING,
             snapshot: Snapshot::nothing(alloc),
             request: None,
             touched: None,
@@ -140,56 +123,36 @@ fn request_after(
     }
 }
 
-/// Returns what is seen of a line that was answered by a text, but its note.
+/// Returns what is seen of a line that was answered by a text.
 fn seen_after(
     alloc: Global,
     machine: &Machine,
-    before: Before,
+    start: Start,
     answer: &[u8],
+    note: Option<String>,
 ) -> Result<Seen, AllocError>
     requires world { (w : World) × IsInWorld machine.now w }
 {
-    let Before {
+    let Start {
         snapshot,
         request,
         ..
-    } = before;
+    } = start;
     let changes = Changes::since(alloc, machine, &snapshot)?;
     Ok(Seen {
         answer: Some(text_of(alloc, answer)?),
         before: snapshot.place,
         request: request_after(alloc, machine, request, snapshot.place, answer)?,
+        note,
         changes: Some(changes),
     })
-}
-
-/// `seen_after` of a player that took a line.
-fn look_after(
-    alloc: Global,
-    player: &LinePlayer,
-    reply: LineReply,
-    before: Before,
-) -> Result<Seen, AllocError>
-    requires played { (s : Played) × HasPlayed player.now s }
-{
-    match player.machine() {
-        Some(machine) if reply == LineReply::Text => {
-            seen_after(alloc, machine, before, player.answer())
-        }
-        _ => Ok(Seen {
-            answer: None,
-            before: None,
-            request: None,
-            changes: None,
-        }),
-    }
 }
 
 /// Returns why a line was answered otherwise than by plain success; of a fault the request tells that.
 fn note_of(
     alloc: Global,
     player: &LinePlayer,
-    before: &SeenBefore,
+    before: &Before,
     line: &[u8],
 ) -> Result<Option<String>, AllocError>
     requires played { (s : Played) × HasPlayed player.now s }
@@ -198,6 +161,31 @@ fn note_of(
         return Ok(None);
     }
     explain_answer(alloc, player, before, line)
+}
+
+/// Returns what is seen of a line that a player took.
+fn look_after(
+    alloc: Global,
+    player: &LinePlayer,
+    line: &[u8],
+    reply: LineReply,
+    start: Start,
+) -> Result<Seen, AllocError>
+    requires played { (s : Played) × HasPlayed player.now s }
+{
+    let note = note_of(alloc, player, &start.before, line)?;
+    match player.machine() {
+        Some(machine) if reply == LineReply::Text => {
+            seen_after(alloc, machine, start, player.answer(), note)
+        }
+        _ => Ok(Seen {
+            answer: None,
+            before: None,
+            request: None,
+            note,
+            changes: None,
+        }),
+    }
 }
 
 /// Plays the next line, without its end, and returns what happens on it; `number` is that of the line. What happens is that of
@@ -217,20 +205,15 @@ pub fn trace_line(
     ensures answered { IfOk result (λ trace. (s : Played) → HasPlayed player.old s → Answers player.new trace.reply (next_answer s line.now)) }
     ensures number { IfOk result (λ trace. trace.line ≡ number) }
 {
-    let seen_before = SeenBefore::line(alloc, player, line)?;
-    let before = look_before(alloc, player, line)?;
-    let touched = before.touched;
+    let start = look_before(alloc, player, line)?;
+    let touched = start.touched;
     let reply = player.line(line)?;
-    let seen = look_after(alloc, player, reply, before)?;
+    let seen = look_after(alloc, player, line, reply, start)?;
     Ok(LineTrace {
         line: number,
         text: text_of(alloc, trim_return(line))?,
-        answer: seen.answer,
         reply,
-        before: seen.before,
-        request: seen.request,
-        note: note_of(alloc, player, &seen_before, line)?,
-        changes: seen.changes,
+        seen,
         sums: None,
         touched,
     })

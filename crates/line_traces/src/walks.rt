@@ -6,11 +6,11 @@ ghost use Rattle.sv39_entry.specs.Frame.{frame_at};
 ghost use Rattle.sv39_entry.specs.Word.{kind_of, ppn};
 ghost use Rattle.sv39_entry.specs.declared.entry.Kind.TheVariants as kind;
 
+use hart_machine::Machine;
 use serde::{Described, Serialize, Serializer};
 use std::alloc::{AllocError, Global};
 use std::fmt;
-use sv39_entry::{Entry, FrameNo, Kind, Scheme, Va};
-use table_walk::StoredWords;
+use sv39_entry::{Entry, FrameNo, Kind, Va};
 use walk_lines::{Flags, Hex, WalkEntry, walk_entries};
 
 /// A word that a page table walk read.
@@ -41,7 +41,10 @@ struct WalkObject {
 }
 
 /// Returns what a word is to a walk, and the page number to which it leads.
-fn meaning(word: u64) -> (&'static str, Option<Hex>) {
+fn meaning(word: Option<u64>) -> (&'static str, Option<Hex>) {
+    let Some(word) = word else {
+        return ("outside the memory", None);
+    };
     let entry = Entry::from_word(word);
     match entry.kind() {
         Kind::Invalid => ("no leaf", None),
@@ -59,10 +62,7 @@ impl Serialize for WalkLine {
             Some(word) => (Some(Hex(word)), Some(Flags(word))),
             None => (None, None),
         };
-        let (kind, ppn) = match entry.word {
-            Some(word) => meaning(word),
-            None => ("outside the memory", None),
-        };
+        let (kind, ppn) = meaning(entry.word);
         let object = WalkObject {
             level: entry.level,
             table: Hex(entry.table),
@@ -114,25 +114,23 @@ pub fn reference_count(counts: &[u16], word: Option<u64>) -> Option<u16>
     }
 }
 
-/// Returns the words that the walk of an address reads from a root on, the root's first. `words` are those of all frames,
-/// and `counts` the frames' reference counts.
+/// Returns the words that the walk of an address reads in a machine's memory from a root on, the root's first.
 ///
 /// # Errors
 /// `AllocError`: the host is out of memory.
 pub fn walk_of(
     alloc: Global,
-    mut words: StoredWords<'_>,
-    counts: &[u16],
-    scheme: Scheme,
+    machine: &Machine,
     root: u64,
     va: Va,
 ) -> Result<Vec<WalkLine>, AllocError> {
-    let entries = walk_entries(&mut words, scheme, root, va);
+    let mut words = machine.words();
+    let entries = walk_entries(&mut words, machine.scheme(), root, va);
     let mut lines = Vec::new(alloc);
     for entry in entries.as_slice() {
         lines.push(WalkLine {
             entry: *entry,
-            references: reference_count(counts, entry.word),
+            references: reference_count(machine.counts(), entry.word),
         })?;
     }
     Ok(lines)

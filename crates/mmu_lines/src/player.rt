@@ -23,11 +23,13 @@ use access_history::{Outcome, Update};
 use access_judge::{Findings, Log, Told, Way, faulting_part, outcomes};
 use line_fields::Mistake;
 use mmu_reasons::{
-    Answer, By, Lock, OutcomeLine, Recorded, Telling, Witness, put_walk_steps, seek, seek_refusal,
+    Answer, By, Lock, OutcomeLine, Recorded, Telling, Witness, put_walk_steps, seek, seek_by,
+    seek_refusal,
 };
 use mmu_requests::{Claim, End, Profile, Refusal, Request, read_line};
 use std::alloc::{AllocError, Global};
 use sv39_entry::{Entry, Satp, Va};
+use text_builder::Text;
 use walk_lines::Hex;
 use walk_rules::{MemoryType, PmpEntry, Privilege, Status, is_canonical, top_level};
 
@@ -67,6 +69,15 @@ fn with_type(claim: Claim, outcome: Outcome) -> Claim {
             Claim { end, ..claim }
         }
         _ => claim,
+    }
+}
+
+/// Why an address has one outcome alone, if it has.
+fn by_address(telling: &Telling<'_>) -> Option<&'static str> {
+    match telling.by_address() {
+        Some(By::Misaligned) => Some("the address is misaligned"),
+        Some(By::NotCanonical) => Some("the address is not canonical"),
+        _ => None,
     }
 }
 
@@ -150,15 +161,11 @@ impl MmuPlayer {
 
     /// Appends the walk for an address over memory, satp and PMP as they are: for each PTE that it reads a line, after eight blanks, with the PTE's
     /// place, its word and to what it leads. Nothing under Bare, or of an address that is not canonical.
-    ///
-    /// # Errors
-    /// `AllocError`: the host is out of memory.
-    pub fn put_walk_steps(&self, out: &mut String, va: u64) -> Result<(), AllocError> {
+    pub fn put_walk_steps(&self, out: &mut Text, va: u64) {
         let va = Va(va);
-        if !self.is_address(va) {
-            return Ok(());
+        if self.is_address(va) {
+            put_walk_steps(out, &self.recorded, self.profile.extensions, va)
         }
-        put_walk_steps(out, &self.recorded, self.profile.extensions, va)
     }
 
     /// Whether an address is valid under satp: canonical, or any under Bare.
@@ -213,94 +220,117 @@ impl MmuPlayer {
         Ok(lines)
     }
 
-    /// What a permitted outcome has in common with a claim that none has; `None` if nothing.
-    fn near_miss(&self, claim: Claim) -> Option<&'static str> {
-        let mut text = None;
+    /// Appends in what a permitted outcome is another than what a client tells, if one has the same physical address or cause, by the PTE that the
+    /// client tells; returns whether one has.
+    fn put_difference(&self, out: &mut Text, telling: &Telling<'_>, claim: Claim) -> bool {
+        'found: for told in self.findings.found() {
+            if claim.is_end(told.outcome) && claim.is_by(telling.word_of(&told.way)) {
+                out.push_str(difference(claim.update, told.outcome));
+                return true;
+            }
+        }
+        false
+    }
+
+    /// Appends that what a client tells is permitted, but by another PTE, if it is; returns whether it is.
+    fn put_other_pte(&self, out: &mut Text, telling: &Telling<'_>, claim: Claim) -> bool {
         'found: for told in self.findings.found() {
             if claim.is_outcome(told.outcome) {
-                return Some("by another PTE alone");
-            }
-            if claim.is_end(told.outcome) {
-                text = Some(difference(claim.update, told.outcome));
+                match telling.word_of(&told.way) {
+                    Some(word) => {
+                        let word = Hex(word);
+                        write!(out, "by another PTE alone: by {word}")
+                    }
+                    None => out.push_str("by no PTE"),
+                }
+                return true;
             }
         }
-        text
+        false
     }
 
-    /// Appends that a leaf gives a physical address to an access, and why the access is refused all the same; returns whether one does.
-    fn put_refused(
+    /// Appends to what the access comes by the PTE that a client tells; returns whether it comes to anything else.
+    fn put_by(
         &self,
-        out: &mut String,
-        request: access_history::Request,
-        pa: u64,
-    ) -> Result<bool, AllocError>
-        requires { 1 ≤ request.width }
-    {
-        let extensions = self.profile.extensions;
-        let Some(told) = seek_refusal(&self.recorded.unit, extensions, request, pa) else {
-            return Ok(false);
-        };
-        match self.telling(request, &[]).refused_text(&told)? {
-            Some(text) => {
-                out.push_str(text.as_str())?;
-                Ok(true)
-            }
-            None => Ok(false),
-        }
-    }
-
-    /// Appends what is known of a claim that no history permits.
-    fn put_mismatch(
-        &self,
-        out: &mut String,
+        out: &mut Text,
+        telling: &Telling<'_>,
         request: access_history::Request,
         claim: Claim,
-    ) -> Result<(), AllocError>
+    ) -> bool
         requires { 1 ≤ request.width }
     {
-        if let Some(text) = self.near_miss(claim) {
-            return out.push_str(text);
+        let Some(word) = claim.by else {
+            return false;
+        };
+        if self.put_difference(out, telling, claim) {
+            return true;
         }
-        let telling = self.telling(request, &[]);
-        if let End::Granted { pa, .. } = claim.end {
-            if telling.put_translated(out, pa)? || self.put_refused(out, request, pa)? {
-                return Ok(());
-            }
+        match seek_by(&self.recorded.unit, self.profile.extensions, request, word) {
+            Some(told) => telling.put_by(out, claim, &told),
+            None => false,
         }
-        telling.put_walk(out, claim)
+    }
+
+    /// Appends that a leaf leads to the physical address that a client tells, and why the access is refused all the same; returns whether one does.
+    fn put_refused(
+        &self,
+        out: &mut Text,
+        telling: &Telling<'_>,
+        request: access_history::Request,
+        claim: Claim,
+    ) -> bool
+        requires { 1 ≤ request.width }
+    {
+        let End::Granted { pa, .. } = claim.end else {
+            return false;
+        };
+        let (unit, extensions) = (&self.recorded.unit, self.profile.extensions);
+        match seek_refusal(unit, extensions, request, pa) {
+            Some(told) => telling.put_refused(out, &told),
+            None => false,
+        }
+    }
+
+    /// Appends what PTEs that the hart may read or hold say against what a client tells; returns whether one says something.
+    fn put_held(
+        &self,
+        out: &mut Text,
+        telling: &Telling<'_>,
+        request: access_history::Request,
+        claim: Claim,
+    ) -> bool
+        requires { 1 ≤ request.width }
+    {
+        if telling.put_present(out, claim) {
+            return true;
+        }
+        if claim.by.is_some() {
+            return self.put_by(out, telling, request, claim);
+        }
+        self.put_difference(out, telling, claim) || self.put_refused(out, telling, request, claim)
     }
 
     /// Appends why an outcome is not permitted.
-    fn put_reason(
-        &self,
-        out: &mut String,
-        request: access_history::Request,
-        claim: Claim,
-    ) -> Result<(), AllocError>
+    fn put_reason(&self, out: &mut Text, request: access_history::Request, claim: Claim)
         requires { 1 ≤ request.width }
     {
         let telling = self.telling(request, &[]);
-        match telling.by_address() {
-            Some(By::Misaligned) => return out.push_str("the address is misaligned"),
-            Some(By::NotCanonical) => return out.push_str("the address is not canonical"),
-            _ => {}
+        if let Some(text) = by_address(&telling) {
+            return out.push_str(text);
         }
-        let (is_told, mut older) = (telling.put_present(out, claim)?, String::new(self.alloc));
+        let is_told = self.put_held(out, &telling, request, claim);
         let extensions = self.profile.extensions;
-        if !self
-            .witness
-            .put_reason(&mut older, extensions, request, claim)?
-        {
-            return if is_told {
-                Ok(())
-            } else {
-                self.put_mismatch(out, request, claim)
-            };
+        let older = self.witness.older(extensions, request, claim);
+        if older.is_nothing() {
+            if !is_told && !self.put_other_pte(out, &telling, claim) {
+                telling.put_walk(out, claim);
+            }
+            return;
         }
         if is_told {
-            out.push_str("; or ")?;
+            out.push_str("; or ");
         }
-        out.push_str(older.as_str())
+        self.witness.put_older(out, extensions, request.va, &older)
     }
 
     /// The outcomes of an access, as they are shown.
@@ -321,8 +351,9 @@ impl MmuPlayer {
         ensures { IfOk result (IsJudged (state_of self.old) request claim (state_of self.new)) }
     {
         let permitted = self.listed(request)?;
-        let mut reason = String::new(self.alloc);
-        self.put_reason(&mut reason, request, claim)?;
+        let mut text = Text::new(self.alloc);
+        self.put_reason(&mut text, request, claim);
+        let reason = text.finish()?;
         Ok(Answer::NotPermitted { reason, permitted })
     }
 
@@ -351,7 +382,8 @@ impl MmuPlayer {
         ensures { IfNone result (claim.by ≡ None → ⊥) }
     {
         let exact = with_type(claim, outcome);
-        let told = seek(&self.recorded.unit, self.profile.extensions, request, exact);
+        let (unit, extensions) = (&self.recorded.unit, self.profile.extensions);
+        let told = seek(unit, extensions, request, exact);
         match (told, claim.by) {
             (Some(told), _) => Some(told.way),
             (None, None) => Some(NO_WAY),

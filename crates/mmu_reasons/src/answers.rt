@@ -4,7 +4,7 @@ ghost use Rattle.mmu_reasons.specs.Answers.{IsError};
 
 use crate::outcomes::{OutcomeLine, put_outcome};
 use line_fields::Mistake;
-use std::alloc::AllocError;
+use text_builder::Text;
 use walk_lines::Hex;
 
 /// What a write of a PMP entry leaves as it was (RISC-V Privileged Architecture 20211203, 3.7.1).
@@ -64,21 +64,20 @@ impl Answer {
 }
 
 /// Appends outcomes, with `; ` between them.
-fn put_list(out: &mut String, lines: &[OutcomeLine]) -> Result<(), AllocError> {
+fn put_list(out: &mut Text, lines: &[OutcomeLine]) {
     if lines.is_empty() {
         return out.push_str("none");
     }
     'lines: for (n, line) in lines.iter().enumerate() {
         if n > 0 {
-            out.push_str("; ")?;
+            out.push_str("; ");
         }
-        put_outcome(out, line)?;
+        put_outcome(out, line);
     }
-    Ok(())
 }
 
 /// Appends why an outcome is permitted.
-fn put_permitted(out: &mut String, line: &OutcomeLine) -> Result<(), AllocError> {
+fn put_permitted(out: &mut Text, line: &OutcomeLine) {
     let (text, now) = match &line.as_of {
         Some(as_of) => (as_of.as_str(), ""),
         None => (line.by.text(), line.by.now()),
@@ -87,22 +86,22 @@ fn put_permitted(out: &mut String, line: &OutcomeLine) -> Result<(), AllocError>
 }
 
 /// Appends why an outcome is not permitted, and those that are.
-fn put_denied(out: &mut String, reason: &str, permitted: &[OutcomeLine]) -> Result<(), AllocError> {
-    write!(out, "NOT permitted: {reason}. Permitted: ")?;
+fn put_denied(out: &mut Text, reason: &str, permitted: &[OutcomeLine]) {
+    write!(out, "NOT permitted: {reason}. Permitted: ");
     put_list(out, permitted)
 }
 
-fn put_error(out: &mut String, column: &Option<usize>, text: &str) -> Result<(), AllocError> {
-    out.push_str("error")?;
+fn put_error(out: &mut Text, column: &Option<usize>, text: &str) {
+    out.push_str("error");
     if let Some(column) = column {
-        write!(out, " column {column}")?;
+        write!(out, " column {column}");
     }
-    out.push_str(": ")?;
+    out.push_str(": ");
     out.push_str(text)
 }
 
 /// Appends an answer as text.
-fn put_text(out: &mut String, answer: &Answer) -> Result<(), AllocError> {
+fn put_text(out: &mut Text, answer: &Answer) {
     match answer {
         Answer::Ok | Answer::Locked(Lock::Nothing) => out.push_str("ok"),
         Answer::Version => out.push_str("mmu protocol 2"),
@@ -120,10 +119,7 @@ fn put_text(out: &mut String, answer: &Answer) -> Result<(), AllocError> {
 }
 
 /// Appends an answer as a line of text.
-///
-/// # Errors
-/// `AllocError`: the host is out of memory.
-pub fn put_answer(out: &mut String, answer: &Answer) -> Result<(), AllocError> {
-    put_text(out, answer)?;
-    out.push('\n')
+pub fn put_answer(out: &mut Text, answer: &Answer) {
+    put_text(out, answer);
+    out.push_str("\n")
 }

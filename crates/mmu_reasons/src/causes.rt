@@ -1,12 +1,12 @@
 // Why an access is refused, in words: methods of `Telling`.
 
-use crate::reasons::why_fault;
+use crate::reasons::{Why, why_fault};
 use crate::telling::Telling;
 use crate::ways::{Stop, end_of, last_step, place_at, put_pte, stop_of};
 use access_history::Outcome;
 use access_judge::{Log, Step, Told, Way};
-use std::alloc::AllocError;
 use sv39_entry::Access;
+use text_builder::Text;
 use walk_lines::Hex;
 use walk_rules::{has_ad, leads_to};
 
@@ -27,128 +27,146 @@ impl Telling<'_> {
         !self.has_byte(pa) || unit.may_fail(unit.now(), self.privilege(), kind, pa, width)
     }
 
-    /// Why the access is refused at a physical address.
-    pub(crate) fn fault_at(&self, pa: u64) -> Result<String, AllocError> {
+    /// Appends why the access is refused at a physical address.
+    pub(crate) fn put_fault_at(&self, out: &mut Text, pa: u64) {
         let (hex, access) = (Hex(pa), access_text(self.request.kind));
         if self.has_byte(pa) {
-            format!(in self.alloc; "PMP refuses the {access} at {hex}")
+            write!(out, "PMP refuses the {access} at {hex}")
         } else {
-            format!(in self.alloc; "{hex} is outside the memory")
+            write!(out, "{hex} is outside the memory")
         }
     }
 
-    /// Why the access is an access fault by a leaf, in which the hart has set A and D or not.
-    fn fault_by(&self, step: &Step, is_set: bool) -> Result<String, AllocError> {
+    /// Appends why the access is an access fault by a leaf, in which the hart has set A and D or not.
+    fn put_fault_by(&self, out: &mut Text, step: &Step, is_set: bool) {
         if step.level > 4 {
-            return self.fault_at(0);
+            return;
         }
         let pa = leads_to(step.entry, step.level, self.request.va);
-        if is_set || has_ad(self.request.kind, step.entry) {
-            return self.fault_at(pa);
-        }
-        if self.may_set(step) && self.may_fail(pa) {
-            return self.fault_at(pa);
+        if is_set
+            || has_ad(self.request.kind, step.entry)
+            || (self.may_set(step) && self.may_fail(pa))
+        {
+            return self.put_fault_at(out, pa);
         }
         let (hex, level) = (Hex(place_at(step.ppn, self.index(step.level))), step.level);
-        format!(in self.alloc; "step 7: PMP refuses the store to the PTE at {hex}, level {level}")
+        write!(
+            out,
+            "step 7: PMP refuses the store to the PTE at {hex}, level {level}"
+        )
     }
 
-    /// Why a table's PTE is not read.
-    pub(crate) fn fault_below(&self, level: u32, table: u64) -> Result<String, AllocError> {
+    /// Appends why a table's PTE is not read.
+    pub(crate) fn put_fault_below(&self, out: &mut Text, level: u32, table: u64) {
         let index = self.index(level);
         let hex = Hex(place_at(table, index));
         if self.recorded.unit.word(table, index).is_some() {
-            format!(in self.alloc; "step 2: PMP refuses to read the PTE at {hex}, level {level}")
+            write!(
+                out,
+                "step 2: PMP refuses to read the PTE at {hex}, level {level}"
+            )
         } else {
-            format!(in self.alloc; "step 2: the PTE at {hex}, level {level}, is outside the memory")
+            write!(
+                out,
+                "step 2: the PTE at {hex}, level {level}, is outside the memory"
+            )
         }
     }
 
-    /// Why an access fault is one.
-    fn access_fault_text(&self, way: &Way, is_set: bool) -> Result<String, AllocError> {
+    /// Appends why an access fault is one.
+    fn put_access_fault(&self, out: &mut Text, way: &Way, is_set: bool) {
         match stop_of(self.extensions, way) {
-            Some(Stop::At(step)) => self.fault_by(&step, is_set),
-            Some(Stop::Unread { level, table }) => self.fault_below(level, table),
-            None => self.fault_at(self.request.va.0),
+            Some(Stop::At(step)) => self.put_fault_by(out, &step, is_set),
+            Some(Stop::Unread { level, table }) => self.put_fault_below(out, level, table),
+            None => self.put_fault_at(out, self.request.va.0),
         }
     }
 
     /// The step of the walk (the standard, 4.3.2) at which a PTE is a page fault, and what is wrong there.
-    pub(crate) fn wrong_in(&self, step: &Step) -> Option<(u32, &'static str)> {
+    pub(crate) fn wrong_in(&self, step: &Step) -> Option<Why> {
         let request = &self.request;
-        let why = why_fault(
+        why_fault(
             self.extensions,
             request.status,
             self.mode()?,
             request.kind,
             step.entry,
             step.level,
-        )?;
-        Some((why.step, why.text))
+        )
     }
 
-    /// Why a page fault is one.
-    fn page_fault_text(&self, way: &Way) -> Result<Option<String>, AllocError> {
+    /// Appends why a page fault is one.
+    fn put_page_fault(&self, out: &mut Text, way: &Way) {
         let Some(step) = last_step(way) else {
-            return Ok(None);
+            return;
         };
-        let Some((number, text)) = self.wrong_in(&step) else {
-            return Ok(None);
+        let Some(Why { step: number, text }) = self.wrong_in(&step) else {
+            return;
         };
         let level = step.level;
         let (word, place) = (
             Hex(step.entry.to_word()),
-            Hex(place_at(step.ppn, self.index(step.level))),
+            Hex(place_at(step.ppn, self.index(level))),
         );
-        Ok(Some(format!(in self.alloc;
+        write!(
+            out,
             "step {number}: PTE {word} at {place}, level {level}: {text}"
-        )?))
+        )
     }
 
-    /// Returns why an outcome is a refusal; `None` if it is none.
-    pub(crate) fn reason(
-        &self,
-        way: &Way,
-        outcome: &Outcome,
-    ) -> Result<Option<String>, AllocError> {
+    /// Appends why an outcome is a refusal; nothing if it is none.
+    pub(crate) fn put_refusal(&self, out: &mut Text, way: &Way, outcome: &Outcome) {
         match outcome {
-            Outcome::Granted { .. } => Ok(None),
+            Outcome::Granted { .. } => {}
             Outcome::Refused { cause, update }
                 if *cause == self.request.kind.access_fault_cause() => {
-                let text = self.access_fault_text(way, update.is_some())?;
-                Ok(Some(text))
+                self.put_access_fault(out, way, update.is_some())
             }
-            Outcome::Refused { .. } => self.page_fault_text(way),
+            Outcome::Refused { .. } => self.put_page_fault(out, way),
         }
     }
 
-    /// What a leaf by which an access is refused lacks.
-    fn lack(&self, told: &Told, step: &Step) -> Result<String, AllocError> {
-        match self.wrong_in(step) {
-            Some((_, text)) => format!(in self.alloc; "{text}"),
-            None => self.access_fault_text(&told.way, true),
-        }
-    }
-
-    /// A PTE in words, with the line before which it was there if it is there no more.
-    fn named(&self, step: &Step) -> Result<String, AllocError> {
-        let mut out = String::new(self.alloc);
-        if self.recorded.is_old(self.request.va, step) {
-            self.recorded.put_step(&mut out, self.extensions, step)?;
-            return Ok(out);
-        }
-        put_pte(&mut out, self.extensions, step)?;
-        Ok(out)
-    }
-
-    /// Returns that a leaf leads to the physical address that a client tells, and why the access is refused all the same; `None` if the way
-    /// ends at no leaf.
-    pub fn refused_text(&self, told: &Told) -> Result<Option<String>, AllocError> {
-        let Some(step) = end_of(self.extensions, &told.way) else {
-            return Ok(None);
+    /// Appends what a leaf lacks by which the access is refused: a right, or that memory has its word where the hart would set A or D.
+    fn put_lack_of(&self, out: &mut Text, way: &Way, step: &Step) {
+        let Some(why) = self.wrong_in(step) else {
+            return self.put_access_fault(out, way, true);
         };
-        let (leaf, lack) = (self.named(&step)?, self.lack(told, &step)?);
-        let (leaf, lack) = (leaf.as_str(), lack.as_str());
-        Ok(Some(format!(in self.alloc; "{leaf} leads there, but {lack}")?))
+        if why.step != 7 || !self.extensions.ad.may_update() {
+            return out.push_str(why.text);
+        }
+        let index = self.index(step.level);
+        let Some(now) = self.recorded.unit.word(step.ppn, index) else {
+            return out.push_str(why.text);
+        };
+        let (now, word) = (Hex(now), Hex(step.entry.to_word()));
+        let place = Hex(place_at(step.ppn, index));
+        if now == word {
+            return out.push_str(why.text);
+        }
+        write!(
+            out,
+            "memory has {now} at {place}, not {word}: the hart may not set A or D there"
+        )
+    }
+
+    /// Appends a PTE in words, with the line before which it was there if it is there no more.
+    fn put_named(&self, out: &mut Text, step: &Step) {
+        if self.recorded.is_old(self.request.va, step) {
+            self.recorded.put_step(out, self.extensions, step)
+        } else {
+            put_pte(out, self.extensions, step)
+        }
+    }
+
+    /// Appends that a leaf leads to the physical address that a client tells, and why the access is refused all the same; returns whether the
+    /// way ends at one.
+    pub fn put_refused(&self, out: &mut Text, told: &Told) -> bool {
+        let Some(step) = end_of(self.extensions, &told.way) else {
+            return false;
+        };
+        self.put_named(out, &step);
+        out.push_str(" leads there, but ");
+        self.put_lack_of(out, &told.way, &step);
+        true
     }
 }

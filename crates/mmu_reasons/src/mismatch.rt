@@ -3,14 +3,14 @@
 ghost use Rattle.std.specs.Prelude.{◌≤◌};
 
 use crate::causes::access_text;
-use crate::reasons::why_fault;
+use crate::reasons::{Why, why_fault};
 use crate::telling::Telling;
 use crate::ways::{Stop, end_of, put_pte, stop_of};
 use access_history::Outcome;
-use access_judge::{Log, Step, Way};
+use access_judge::{Log, Step, Told, Way};
 use mmu_requests::{Claim, End};
-use std::alloc::AllocError;
 use sv39_entry::{Kind, Mode};
+use text_builder::Text;
 use walk_lines::Hex;
 use walk_rules::{Extensions, MemoryType, Status, has_ad, leads_to, reach};
 
@@ -129,90 +129,146 @@ impl Telling<'_> {
         self.by_extension(step, mode)
     }
 
-    /// The leaf by which the walk grants the access, and what a hart overlooks that has a page fault.
-    fn granted_by(&self) -> Option<(Step, &'static str)> {
-        let way = self.walk()?;
+    /// The leaf at the end of a way by which the access is granted.
+    fn granted_by(&self, way: &Way) -> Option<Step> {
         let step = end_of(self.extensions, way)?;
-        if !self.is_granted(way, &step) {
-            return None;
+        if self.is_granted(way, &step) {
+            Some(step)
+        } else {
+            None
         }
-        Some((step, self.overlooked(&step)?))
     }
 
-    /// Appends by what the walk grants an access that a client tells to be a page fault, if that is a bit of mstatus or an extension; returns
+    /// Appends by what a leaf grants an access that a client tells to be a page fault, if that is a bit of mstatus or an extension; returns
     /// whether it is.
-    fn put_overlooked(&self, out: &mut String, claim: Claim) -> Result<bool, AllocError> {
-        let Some((step, text)) = self.granted_by() else {
-            return Ok(false);
+    fn put_overlooked(&self, out: &mut Text, step: &Step) -> bool {
+        let Some(text) = self.overlooked(step) else {
+            return false;
         };
-        if !claim.is_by(Some(step.entry.to_word())) {
-            return Ok(false);
-        }
-        put_pte(out, self.extensions, &step)?;
+        put_pte(out, self.extensions, step);
         let access = access_text(self.request.kind);
-        write!(out, " grants the {access}: {text}")?;
-        Ok(true)
+        write!(out, " grants the {access}: {text}");
+        true
+    }
+
+    /// Appends that a walk grants an access that a client tells to be a page fault, and by what, if that is a bit of mstatus or an extension;
+    /// returns whether it is.
+    fn put_granted(&self, out: &mut Text, claim: Claim) -> bool {
+        let Some(way) = self.walk() else {
+            return false;
+        };
+        match self.granted_by(way) {
+            Some(step) if claim.is_by(Some(step.entry.to_word())) => {
+                self.put_overlooked(out, &step)
+            }
+            _ => false,
+        }
     }
 
     /// The PTE at which the walk ends with a page fault, and why it does; `None` for a leaf that lacks A or D alone where the hart sets them.
-    fn faulting(&self) -> Option<(Step, &'static str)> {
+    fn faulting(&self) -> Option<(Step, Why)> {
         let step = end_of(self.extensions, self.walk()?)?;
-        let (number, text) = self.wrong_in(&step)?;
-        if number == 7 && self.extensions.ad.may_update() {
+        let why = self.wrong_in(&step)?;
+        if why.step == 7 && self.extensions.ad.may_update() {
             return None;
         }
-        Some((step, text))
+        Some((step, why))
     }
 
     /// Appends why the walk has a page fault for an access that a client tells to be granted, if the PTE at which it ends leads there; returns
     /// whether it does.
-    fn put_lack(&self, out: &mut String, claim: Claim, pa: u64) -> Result<bool, AllocError> {
-        let Some((step, text)) = self.faulting() else {
-            return Ok(false);
+    fn put_lack(&self, out: &mut Text, claim: Claim, pa: u64) -> bool {
+        let Some((step, why)) = self.faulting() else {
+            return false;
         };
         let there = leads_to(step.entry, step.level.min(4), self.request.va);
         if there != pa || !claim.is_by(Some(step.entry.to_word())) {
-            return Ok(false);
+            return false;
         }
-        put_pte(out, self.extensions, &step)?;
-        write!(out, " leads there, but {text}")?;
-        Ok(true)
+        put_pte(out, self.extensions, &step);
+        let text = why.text;
+        write!(out, " leads there, but {text}");
+        true
     }
 
-    /// Appends that the access is translated, if a client tells the virtual address as the physical one; returns whether it does.
-    ///
-    /// # Errors
-    /// `AllocError`: the host is out of memory.
-    pub fn put_translated(&self, out: &mut String, pa: u64) -> Result<bool, AllocError> {
-        if self.walk().is_none() || pa != self.request.va.0 {
-            return Ok(false);
+    /// Appends that the access is translated, if a client tells the virtual address as the physical one, by no PTE; returns whether it does.
+    fn put_translated(&self, out: &mut Text, claim: Claim, pa: u64) -> bool {
+        if self.walk().is_none()
+            || pa != self.request.va.0
+            || claim.by.is_some()
+            || claim.update.is_some()
+        {
+            return false;
         }
         let satp = Hex(self.recorded.unit.satp().to_word());
-        write!(out, "the access is translated: satp is {satp}")?;
-        Ok(true)
+        write!(out, "the access is translated: satp is {satp}");
+        true
     }
 
     /// Appends what the walk over all as it is says against what a client tells, if one bit or check decides; returns whether one does.
-    pub fn put_present(&self, out: &mut String, claim: Claim) -> Result<bool, AllocError> {
+    pub fn put_present(&self, out: &mut Text, claim: Claim) -> bool {
         match claim.end {
             End::Granted { pa, .. } => self.put_lack(out, claim, pa),
             End::Refused(cause) => {
-                if cause == self.request.kind.page_fault_cause() {
-                    self.put_overlooked(out, claim)
-                } else {
-                    Ok(false)
-                }
+                cause == self.request.kind.page_fault_cause() && self.put_granted(out, claim)
             }
         }
     }
 
+    /// Appends to what an access comes by the PTE that a client tells, if that is not what the client tells; returns whether it is told. `told`: an
+    /// outcome by that PTE, also one by A or D alone.
+    pub fn put_by(&self, out: &mut Text, claim: Claim, told: &Told) -> bool {
+        let Some(step) = end_of(self.extensions, &told.way) else {
+            return false;
+        };
+        match (claim.end, told.outcome) {
+            (End::Granted { pa, .. }, Outcome::Refused { .. }) => {
+                self.put_not_granted(out, told, &step, pa)
+            }
+            (End::Granted { pa, .. }, Outcome::Granted { pa: there, .. }) if pa != there => {
+                self.put_leads(out, &step, Some(pa));
+                true
+            }
+            (End::Refused(cause), Outcome::Granted { .. })
+                if cause == self.request.kind.page_fault_cause() => {
+                self.put_grants(out, &step);
+                true
+            }
+            _ => false,
+        }
+    }
+
+    /// Appends why an access is refused by a PTE by which a client tells it to be granted; returns whether it is told.
+    fn put_not_granted(&self, out: &mut Text, told: &Told, step: &Step, pa: u64) -> bool {
+        let level = step.level.min(4);
+        if self.extensions.kind(step.entry, level) != Kind::Leaf {
+            self.put_refusal(out, &told.way, &told.outcome);
+            return true;
+        }
+        if leads_to(step.entry, level, self.request.va) == pa {
+            return self.put_refused(out, told);
+        }
+        self.put_leads(out, step, Some(pa));
+        true
+    }
+
+    /// Appends that a leaf grants the access, by a bit of mstatus or an extension if it is by one.
+    fn put_grants(&self, out: &mut Text, step: &Step) {
+        if self.put_overlooked(out, step) {
+            return;
+        }
+        put_pte(out, self.extensions, step);
+        let access = access_text(self.request.kind);
+        write!(out, " grants the {access}")
+    }
+
     /// Appends where a leaf leads; `pa`: where a client tells that it does, if it tells so.
-    fn put_leads(&self, out: &mut String, step: &Step, pa: Option<u64>) -> Result<(), AllocError> {
+    fn put_leads(&self, out: &mut Text, step: &Step, pa: Option<u64>) {
         let level = step.level.min(4);
         let there = leads_to(step.entry, level, self.request.va);
         let hex = Hex(there);
-        put_pte(out, self.extensions, step)?;
-        write!(out, " leads to {hex}")?;
+        put_pte(out, self.extensions, step);
+        write!(out, " leads to {hex}");
         let bits = reach(step.entry, level);
         match pa {
             Some(pa) if pa >> bits == there >> bits => {
@@ -222,78 +278,80 @@ impl Telling<'_> {
                     ": the offset in its page of {size} is bits {last} to 0 of the address"
                 )
             }
-            _ => Ok(()),
+            _ => {}
         }
     }
 
     /// Appends at which PTE the walk ends. `pa`: where a client tells that the access is granted, if it tells so.
-    fn put_stop(&self, out: &mut String, step: &Step, pa: Option<u64>) -> Result<(), AllocError> {
-        if let (None, Some((_, text))) = (pa, self.wrong_in(step)) {
-            out.push_str("the walk ends with a page fault: ")?;
-            put_pte(out, self.extensions, step)?;
+    fn put_stop(&self, out: &mut Text, step: &Step, pa: Option<u64>) {
+        if let (None, Some(why)) = (pa, self.wrong_in(step)) {
+            out.push_str("the walk ends with a page fault: ");
+            put_pte(out, self.extensions, step);
+            let text = why.text;
             return write!(out, ": {text}");
         }
         let level = step.level;
         if level > 4 {
-            return Ok(());
+            return;
         }
         if self.extensions.kind(step.entry, level) == Kind::Leaf {
             return self.put_leads(out, step, pa);
         }
-        out.push_str("the walk ends at ")?;
+        out.push_str("the walk ends at ");
         put_pte(out, self.extensions, step)
     }
 
     /// Appends at what the walk ends. `pa`: where a client tells that the access is granted, if it tells so.
-    fn put_end(&self, out: &mut String, way: &Way, pa: Option<u64>) -> Result<(), AllocError> {
+    fn put_end(&self, out: &mut Text, way: &Way, pa: Option<u64>) {
         match stop_of(self.extensions, way) {
             Some(Stop::At(step)) => self.put_stop(out, &step, pa),
-            Some(Stop::Unread { level, table }) => {
-                let text = self.fault_below(level, table)?;
-                out.push_str(text.as_str())
-            }
-            None => Ok(()),
+            Some(Stop::Unread { level, table }) => self.put_fault_below(out, level, table),
+            None => {}
         }
     }
 
     /// Appends that a fault which a client tells is none that its access may have; returns whether it is so.
-    fn put_other_cause(&self, out: &mut String, cause: u64) -> Result<bool, AllocError> {
+    fn put_other_cause(&self, out: &mut Text, cause: u64) -> bool {
         let kind = self.request.kind;
         let (page, other) = (kind.page_fault_cause(), kind.access_fault_cause());
         if cause == page || cause == other {
-            return Ok(false);
+            return false;
         }
         let access = access_text(kind);
         write!(
             out,
             "a {access} has page fault {page} and access fault {other}"
-        )?;
-        Ok(true)
+        );
+        true
     }
 
     /// Appends what an access that isn't translated comes to. `pa`: where a client tells that it is granted, if it tells so.
-    fn put_bare(&self, out: &mut String, pa: Option<u64>) -> Result<(), AllocError> {
+    fn put_bare(&self, out: &mut Text, pa: Option<u64>) {
         if pa == Some(self.request.va.0) {
-            let text = self.fault_at(self.request.va.0)?;
-            return out.push_str(text.as_str());
+            return self.put_fault_at(out, self.request.va.0);
         }
         out.push_str("the access isn't translated")
     }
 
     /// Appends what the walk comes to in place of what a client tells.
-    pub fn put_walk(&self, out: &mut String, claim: Claim) -> Result<(), AllocError> {
+    pub fn put_walk(&self, out: &mut Text, claim: Claim) {
         let pa = match claim.end {
-            End::Granted { pa, .. } => Some(pa),
+            End::Granted { pa, .. } => {
+                if self.put_translated(out, claim, pa) {
+                    return;
+                }
+                Some(pa)
+            }
             End::Refused(cause) => {
-                if self.put_other_cause(out, cause)? {
-                    return Ok(());
+                if self.put_other_cause(out, cause) {
+                    return;
                 }
                 None
             }
         };
-        let Some(way) = self.walk() else {
-            return self.put_bare(out, pa);
-        };
-        self.put_end(out, way, pa)
+        match self.walk() {
+            Some(way) => self.put_end(out, way, pa),
+            None => self.put_bare(out, pa),
+        }
     }
 }

@@ -1,8 +1,7 @@
 // `OutcomeLine`: an outcome of an access with what it is by, as text; `By`: an enum, what it is by.
 
 use access_history::{Outcome, Update};
-use std::alloc::AllocError;
-use std::fmt;
+use text_builder::Text;
 use walk_lines::Hex;
 use walk_rules::MemoryType;
 
@@ -76,16 +75,16 @@ pub(crate) fn place_of(update: &Update) -> Hex {
     )
 }
 
-fn put_update(out: &mut String, update: &Option<Update>) -> Result<(), AllocError> {
+fn put_update(out: &mut Text, update: &Option<Update>) {
     let Some(update) = update else {
-        return Ok(());
+        return;
     };
     let (place, word) = (place_of(update), Hex(update.word));
     write!(out, " set {place} {word}")
 }
 
 /// Appends what came of an access, for example `pa 0x80010008 level 0` or `fault 13`.
-fn put_end(out: &mut String, line: &OutcomeLine) -> Result<(), AllocError> {
+fn put_end(out: &mut Text, line: &OutcomeLine) {
     match &line.outcome {
         Outcome::Granted {
             pa,
@@ -93,30 +92,30 @@ fn put_end(out: &mut String, line: &OutcomeLine) -> Result<(), AllocError> {
             update,
         } => {
             let pa = Hex(*pa);
-            write!(out, "pa {pa}")?;
+            write!(out, "pa {pa}");
             if let Some(level) = line.level {
-                write!(out, " level {level}")?;
+                write!(out, " level {level}");
             }
             if let Some(text) = type_text(*memory_type) {
-                write!(out, " {text}")?;
+                write!(out, " {text}");
             }
             put_update(out, update)
         }
         Outcome::Refused { cause, update } => {
-            write!(out, "fault {cause}")?;
+            write!(out, "fault {cause}");
             put_update(out, update)
         }
     }
 }
 
 /// Appends an outcome and what it is by, for example `held fault 15 (leaf PTE 0x200040d7 at level 0 as before line 12: step 5: ..)`.
-pub(crate) fn put_outcome(out: &mut String, line: &OutcomeLine) -> Result<(), AllocError> {
-    out.push_str(line.by.text())?;
-    out.push_str(" ")?;
-    put_end(out, line)?;
+pub(crate) fn put_outcome(out: &mut Text, line: &OutcomeLine) {
+    out.push_str(line.by.text());
+    out.push_str(" ");
+    put_end(out, line);
     match (&line.as_of, &line.reason) {
         (Some(as_of), Some(reason)) => write!(out, " ({as_of}: {reason})"),
         (Some(text), None) | (None, Some(text)) => write!(out, " ({text})"),
-        (None, None) => Ok(()),
+        (None, None) => {}
     }
 }

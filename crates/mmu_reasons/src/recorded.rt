@@ -10,7 +10,11 @@ use access_judge::{Log, Step, Told};
 use mmu::Mmu;
 use std::alloc::{AllocError, Global};
 use sv39_entry::{Satp, Va};
+use text_builder::Text;
 use walk_rules::{Extensions, PmpEntry, top_level};
+
+/// The bits of a leaf that a hart may set.
+const A_AND_D: u64 = 0xc0;
 
 /// A write of satp.
 #[derive(Clone, Copy)]
@@ -166,14 +170,26 @@ impl Recorded {
         }
     }
 
+    /// Whether a PTE of a walk was there up to a moment, if need be without A or D that the hart set since.
+    pub(crate) fn was_there(&self, extensions: Extensions, step: &Step, moment: usize) -> bool {
+        if step.last <= moment {
+            return true;
+        }
+        if step.index >= 512 || moment > self.unit.now() {
+            return false;
+        }
+        match self.unit.word_at(step.ppn, step.index, moment) {
+            Some(past) if extensions.ad.may_update() => {
+                past.word | A_AND_D == step.entry.to_word() | A_AND_D
+            }
+            Some(past) => past.word == step.entry.to_word(),
+            None => false,
+        }
+    }
+
     /// Appends which PTE a walk went by that is not in memory now.
-    pub(crate) fn put_step(
-        &self,
-        out: &mut String,
-        extensions: Extensions,
-        step: &Step,
-    ) -> Result<(), AllocError> {
-        put_pte(out, extensions, step)?;
+    pub(crate) fn put_step(&self, out: &mut Text, extensions: Extensions, step: &Step) {
+        put_pte(out, extensions, step);
         match self.unit.next_change(step.ppn, step.index, step.last) {
             Some(event) => {
                 let line = self.line_of(event);
@@ -184,17 +200,12 @@ impl Recorded {
     }
 
     /// Appends that a walk went by a word that satp had, if it has another one now. `lead` comes first.
-    pub(crate) fn put_root(
-        &self,
-        out: &mut String,
-        told: &Told,
-        lead: &str,
-    ) -> Result<(), AllocError> {
+    pub(crate) fn put_root(&self, out: &mut Text, told: &Told, lead: &str) {
         let Some(root) = told.way.root else {
-            return Ok(());
+            return;
         };
         if root.satp == self.unit.satp() {
-            return Ok(());
+            return;
         }
         'writings: for writing in self.writings.as_slice() {
             if writing.event > root.last {
@@ -202,30 +213,23 @@ impl Recorded {
                 return write!(out, "{lead}satp as before line {line}");
             }
         }
-        Ok(())
     }
 
     /// Appends which PTEs and which satp a walk went by that are not there now.
-    pub(crate) fn put_whence(
-        &self,
-        out: &mut String,
-        extensions: Extensions,
-        va: Va,
-        told: &Told,
-    ) -> Result<(), AllocError> {
+    pub(crate) fn put_whence(&self, out: &mut Text, extensions: Extensions, va: Va, told: &Told) {
         let mut lead = "";
         if let Some(step) = last_step(&told.way) {
             if step.global && step.asid != self.unit.satp().asid() {
                 let asid = step.asid;
-                write!(out, "global, read under ASID {asid}")?;
+                write!(out, "global, read under ASID {asid}");
                 lead = ", ";
             }
         }
         'levels: for level in 0..LEVELS {
             if let Some(step) = step_at(&told.way, level) {
                 if self.is_old(va, &step) {
-                    out.push_str(lead)?;
-                    self.put_step(out, extensions, &step)?;
+                    out.push_str(lead);
+                    self.put_step(out, extensions, &step);
                     lead = ", ";
                 }
             }

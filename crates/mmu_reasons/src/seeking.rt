@@ -1,4 +1,4 @@
-// Looks for a way to the outcome that a client tells (`seek`), or by which it is refused (`seek_refusal`).
+// Looks for a way to the outcome that a client tells (`seek`; all: `ways_to`), by which it is refused (`seek_refusal`), or by a PTE (`seek_by`).
 
 ghost use Rattle.std.specs.Prelude.{◌≤◌};
 
@@ -16,7 +16,12 @@ enum Aim {
     Claimed(Claim),
     /// A refusal by a leaf that gives a physical address to a virtual one.
     RefusedAt { va: Va, pa: u64 },
+    /// Any outcome by a PTE, by its word.
+    By(u64),
 }
+
+/// The most ways that are gathered.
+pub(crate) const MOST_WAYS: usize = 32;
 
 /// Looks for the way, to what is looked for, on which the oldest is newest.
 #[derive(Drop)]
@@ -27,6 +32,21 @@ struct Seeking {
     found: Option<Told>,
     /// The moment of what is oldest on the way to it.
     moment: usize,
+    /// The first ways, from the front on.
+    ways: [Option<Told>; MOST_WAYS],
+    /// How many these are.
+    count: usize,
+}
+
+impl Seeking {
+    /// Keeps the present way to an outcome, if it is one of the first.
+    fn keep(&mut self, outcome: Outcome) {
+        let (way, count) = (self.way, self.count);
+        if count < MOST_WAYS {
+            self.ways[count] = Some(Told { outcome, way });
+            self.count = count + 1;
+        }
+    }
 }
 
 impl Sink for Seeking {
@@ -68,9 +88,10 @@ impl Sink for Seeking {
         if !is_sought(self.extensions, &self.aim, outcome, &end) {
             return;
         }
-        let moment = oldest(&self.way);
+        self.keep(outcome);
+        let way = self.way;
+        let moment = oldest(&way);
         if self.found.is_none() || moment > self.moment {
-            let way = self.way;
             self.found = Some(Told { outcome, way });
             self.moment = moment;
         }
@@ -94,12 +115,13 @@ fn is_sought(extensions: Extensions, aim: &Aim, outcome: Outcome, end: &Option<S
         (Aim::RefusedAt { va, pa }, Some(step)) => {
             matches!(outcome, Outcome::Refused { .. }) && is_leaf_to(extensions, step, *va, *pa)
         }
-        (Aim::RefusedAt { .. }, None) => false,
+        (Aim::By(word), Some(step)) => step.entry.to_word() == *word,
+        (Aim::RefusedAt { .. } | Aim::By(_), None) => false,
     }
 }
 
 /// Returns the moment of what is oldest on a way.
-fn oldest(way: &Way) -> usize {
+pub(crate) fn oldest(way: &Way) -> usize {
     let mut moment = match &way.root {
         Some(root) => root.last,
         None => usize::MAX,
@@ -113,7 +135,7 @@ fn oldest(way: &Way) -> usize {
 }
 
 /// Looks through the outcomes of an access.
-fn seek_aim<L: Log>(log: &L, extensions: Extensions, request: Request, aim: Aim) -> Option<Told>
+fn seek_aim<L: Log>(log: &L, extensions: Extensions, request: Request, aim: Aim) -> Seeking
     requires { 1 ≤ request.width }
 {
     let mut seeking = Seeking {
@@ -125,16 +147,30 @@ fn seek_aim<L: Log>(log: &L, extensions: Extensions, request: Request, aim: Aim)
         },
         found: None,
         moment: 0,
+        ways: [None; MOST_WAYS],
+        count: 0,
     };
     tell_outcomes(log, extensions, &request, &mut seeking);
-    seeking.found
+    seeking
+}
+
+/// Returns the ways to the outcome that a client tells; of very many the first that the search comes by.
+pub(crate) fn ways_to<L: Log>(
+    log: &L,
+    extensions: Extensions,
+    request: Request,
+    claim: Claim,
+) -> [Option<Told>; MOST_WAYS]
+    requires { 1 ≤ request.width }
+{
+    seek_aim(log, extensions, request, Aim::Claimed(claim)).ways
 }
 
 /// Returns the outcome that a client tells with the way on which the oldest is newest; `None` if the search comes by none.
 pub fn seek<L: Log>(log: &L, extensions: Extensions, request: Request, claim: Claim) -> Option<Told>
     requires { 1 ≤ request.width }
 {
-    seek_aim(log, extensions, request, Aim::Claimed(claim))
+    seek_aim(log, extensions, request, Aim::Claimed(claim)).found
 }
 
 /// Returns a refusal by a leaf that leads to a physical address, also one by A or D alone; `None` if there is none.
@@ -148,5 +184,13 @@ pub fn seek_refusal<L: Log>(
 {
     let (ad, va) = (AdScheme::Either, request.va);
     let aim = Aim::RefusedAt { va, pa };
-    seek_aim(log, Extensions { ad, ..extensions }, request, aim)
+    seek_aim(log, Extensions { ad, ..extensions }, request, aim).found
+}
+
+/// Returns an outcome by a PTE, by its word, also one by A or D alone; `None` if there is none.
+pub fn seek_by<L: Log>(log: &L, extensions: Extensions, request: Request, word: u64) -> Option<Told>
+    requires { 1 ≤ request.width }
+{
+    let ad = AdScheme::Either;
+    seek_aim(log, Extensions { ad, ..extensions }, request, Aim::By(word)).found
 }

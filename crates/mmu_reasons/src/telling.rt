@@ -10,6 +10,7 @@ use access_history::{Outcome, Request};
 use access_judge::{Log, Told, Way};
 use std::alloc::{AllocError, Global};
 use sv39_entry::Mode;
+use text_builder::Text;
 use walk_lines::Hex;
 use walk_rules::{Extensions, MemoryType, is_canonical, top_level};
 
@@ -87,7 +88,7 @@ impl Telling<'_> {
     }
 
     /// The word of the PTE at which a walk ends.
-    fn word_of(&self, way: &Way) -> Option<u64> {
+    pub fn word_of(&self, way: &Way) -> Option<u64> {
         match end_of(self.extensions, way) {
             Some(step) => Some(step.entry.to_word()),
             None => None,
@@ -111,18 +112,29 @@ impl Telling<'_> {
 
     /// What is older on the way to an outcome.
     fn as_of(&self, told: &Told) -> Result<String, AllocError> {
-        let mut out = String::new(self.alloc);
+        let mut out = Text::new(self.alloc);
         self.recorded
-            .put_whence(&mut out, self.extensions, self.request.va, told)?;
+            .put_whence(&mut out, self.extensions, self.request.va, told);
         if !self.comes_to(&told.way, told.outcome) || !self.may_read(&told.way) {
             let line = self.recorded.pmp_line();
             let lead = if out.is_empty() { "" } else { ", " };
-            write!(&mut out, "{lead}PMP as before line {line}")?;
+            write!(&mut out, "{lead}PMP as before line {line}");
         }
         if out.is_empty() {
-            out.push_str("as before")?;
+            out.push_str("as before");
         }
-        Ok(out)
+        out.finish()
+    }
+
+    /// Why an outcome is a refusal; `None` if it is none.
+    fn reason(&self, way: &Way, outcome: &Outcome) -> Result<Option<String>, AllocError> {
+        let mut out = Text::new(self.alloc);
+        self.put_refusal(&mut out, way, outcome);
+        if out.is_empty() {
+            return Ok(None);
+        }
+        let text = out.finish()?;
+        Ok(Some(text))
     }
 
     /// Returns an outcome by a way.

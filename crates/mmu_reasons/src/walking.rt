@@ -7,8 +7,8 @@ use crate::recorded::Recorded;
 use crate::ways::{LEVELS, end_of, kind_text, place_at, step_at};
 use access_judge::{Log, PastSatp, Step, Told, Way};
 use bitflags::Flags;
-use std::alloc::AllocError;
 use sv39_entry::{Entry, EntryFlags, Kind, Va};
+use text_builder::Text;
 use walk_lines::Hex;
 use walk_rules::{Extensions, leads_to, pmp_permits_read, reach, top_level};
 
@@ -67,19 +67,14 @@ fn walk_now(recorded: &Recorded, extensions: Extensions, va: Va) -> Option<Way> 
 }
 
 /// Appends a PTE of a walk with where it is read, and to what it leads.
-fn put_read(
-    out: &mut String,
-    extensions: Extensions,
-    va: Va,
-    step: &Step,
-) -> Result<(), AllocError> {
+fn put_read(out: &mut Text, extensions: Extensions, va: Va, step: &Step) {
     let level = step.level.min(4);
     let (table, index) = (Hex(place_at(step.ppn, 0)), step.index);
     let (kind, word) = (kind_text(extensions, step), Hex(step.entry.to_word()));
     write!(
         out,
         "level {level}: at {table} + 8 x {index}, {kind} {word}"
-    )?;
+    );
     let (number, to) = (Hex(step.entry.ppn()), Hex(place_at(step.entry.ppn(), 0)));
     match extensions.kind(step.entry, level) {
         Kind::Pointer => write!(out, ": PPN {number}, so the table at {to}"),
@@ -93,31 +88,22 @@ fn put_read(
                 ": PPN {number}, and with bits {last} to 0 of the address {pa}"
             )
         }
-        Kind::Invalid => Ok(()),
+        Kind::Invalid => {}
     }
 }
 
 /// Appends the walk for an address over memory, satp and PMP as they are, a line for each PTE that it reads, after eight blanks.
-///
-/// # Errors
-/// `AllocError`: the host is out of memory.
-pub fn put_walk_steps(
-    out: &mut String,
-    recorded: &Recorded,
-    extensions: Extensions,
-    va: Va,
-) -> Result<(), AllocError> {
+pub fn put_walk_steps(out: &mut Text, recorded: &Recorded, extensions: Extensions, va: Va) {
     let Some(way) = walk_now(recorded, extensions, va) else {
-        return Ok(());
+        return;
     };
     'levels: for n in 0..LEVELS {
         if let Some(step) = step_at(&way, LEVELS - 1 - n) {
-            out.push_str("        ")?;
-            put_read(out, extensions, va, &step)?;
-            out.push_str("\n")?;
+            out.push_str("        ");
+            put_read(out, extensions, va, &step);
+            out.push_str("\n");
         }
     }
-    Ok(())
 }
 
 /// Whether a PTE is the one that the walk for an address reads in its table.

@@ -4,8 +4,8 @@
 ghost use Rattle.std.specs.Prelude.{◌≤◌};
 
 use access_judge::{Step, Way};
-use std::alloc::AllocError;
 use sv39_entry::Kind;
+use text_builder::Text;
 use walk_lines::Hex;
 use walk_rules::{Extensions, top_level};
 
@@ -112,11 +112,7 @@ pub(crate) fn kind_text(extensions: Extensions, step: &Step) -> &'static str {
 }
 
 /// Appends a PTE in words, as `leaf PTE 0x202000c9 at level 1`.
-pub(crate) fn put_pte(
-    out: &mut String,
-    extensions: Extensions,
-    step: &Step,
-) -> Result<(), AllocError> {
+pub(crate) fn put_pte(out: &mut Text, extensions: Extensions, step: &Step) {
     let (kind, word, level) = (
         kind_text(extensions, step),
         Hex(step.entry.to_word()),

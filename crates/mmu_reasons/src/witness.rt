@@ -3,34 +3,18 @@
 
 ghost use Rattle.std.specs.Prelude.{◌≤◌};
 
+use crate::fences::{Excluded, Fence, Fences, MOST_EVENTS};
 use crate::recorded::Recorded;
-use crate::seeking::seek;
+use crate::seeking::{oldest, ways_to};
 use crate::telling::Telling;
 use crate::ways::{LEVELS, ends_at_leaf, put_pte, step_at};
 use access_history::Request;
-use access_judge::{Log, PastSatp, Step, Told};
+use access_judge::{Log, Step, Told};
 use mmu_requests::Claim;
 use std::alloc::{AllocError, Global};
-use sv39_entry::{Entry, Kind, Satp, Va};
-use walk_lines::Hex;
-use walk_rules::{Extensions, PmpEntry, reach};
-
-/// After so many events the history begins anew.
-const MOST_EVENTS: usize = 65536;
-
-/// A fence that was executed.
-#[derive(Clone, Copy)]
-struct Fence {
-    line: u64,
-    /// How many events there were before it.
-    moment: usize,
-    va: Option<Va>,
-    asid: Option<u16>,
-    /// The ASID as the client wrote it: with bits that the hart has not.
-    written: Option<u16>,
-    /// The line of the last write of a PMP entry before it. 0: there was none.
-    pmp_line: u64,
-}
+use sv39_entry::{Satp, Va};
+use text_builder::Text;
+use walk_rules::{Extensions, PmpEntry};
 
 /// A history without fences.
 #[derive(Drop)]
@@ -46,35 +30,35 @@ fn without_asid(satp: Satp) -> Satp {
     Satp::from_word(((satp.to_word() >> 60) << 60) + satp.ppn())
 }
 
-/// Appends a fence as the client writes it, for example `the fence of line 7 (sfence 0x4000 3)`.
-fn put_fence_line(out: &mut String, fence: &Fence) -> Result<(), AllocError> {
-    let line = fence.line;
-    write!(out, "the fence of line {line} (sfence")?;
-    match (fence.va, fence.written) {
-        (None, None) => {}
-        (None, Some(_)) => out.push_str(" -")?,
-        (Some(va), _) => {
-            let va = Hex(va.0);
-            write!(out, " {va}")?;
-        }
-    }
-    if let Some(asid) = fence.written {
-        write!(out, " {asid}")?;
-    }
-    out.push_str(")")
+/// A fence that excludes a way that was possible before it.
+#[derive(Clone, Copy)]
+struct Exclusion {
+    /// How many fences there were before it.
+    number: usize,
+    fence: Fence,
+    told: Told,
+    what: Excluded,
 }
 
-/// Whether rs2 of a fence is x0 or an ASID.
-fn is_for(fence: &Fence, asid: u16) -> bool {
-    match fence.asid {
-        None => true,
-        Some(space) => space == asid,
-    }
+/// A PTE of another ASID.
+#[derive(Clone, Copy)]
+struct Foreign {
+    step: Step,
+    asid: u16,
 }
 
-/// Whether no walk may begin by a word of satp after a fence.
-fn ends_root(fence: &Fence, root: &PastSatp) -> bool {
-    fence.va.is_none() && fence.moment > root.last && is_for(fence, root.satp.asid())
+/// Why an outcome is not permitted that was possible before a fence, or is by a PTE of another ASID.
+#[derive(Clone, Copy)]
+pub struct Older {
+    foreign: Option<Foreign>,
+    exclusion: Option<Exclusion>,
+}
+
+impl Older {
+    /// Whether neither a fence nor an ASID is the reason.
+    pub fn is_nothing(&self) -> bool {
+        self.foreign.is_none() && self.exclusion.is_none()
+    }
 }
 
 impl Witness {
@@ -153,230 +137,65 @@ impl Witness {
         )
     }
 
-    /// Whether a leaf was stored in the place of a PTE after it and up to a fence.
-    fn became_leaf(&self, extensions: Extensions, step: &Step, fence: &Fence) -> bool {
-        let mut moment = step.last;
-        'changes: for _ in 0..MOST_EVENTS {
-            let Some(event) = self.unfenced.unit.next_change(step.ppn, step.index, moment) else {
-                return false;
+    /// Whether what a fence excludes is no PTE that was there only before addresses were translated.
+    fn was_walked(&self, what: &Excluded) -> bool {
+        match what {
+            Excluded::Pte(step) => self.unfenced.was_walked(step),
+            Excluded::Root | Excluded::Pmp => true,
+        }
+    }
+
+    /// Which fence excludes a way, if one does.
+    fn exclusion_of(&self, telling: &Telling<'_>, told: &Told) -> Option<Exclusion> {
+        let fences = Fences {
+            list: self.fences.as_slice(),
+        };
+        let (number, what) = fences.first_excluding(telling, told)?;
+        if !self.was_walked(&what) {
+            return None;
+        }
+        let (fence, told) = (*self.fences.get(number)?, *told);
+        Some(Exclusion {
+            number,
+            fence,
+            told,
+            what,
+        })
+    }
+
+    /// Of the ways to an outcome the one that the latest fence excludes, of several the one on which the oldest is newest; `None` if no fence
+    /// excludes one.
+    fn last_exclusion(
+        &self,
+        extensions: Extensions,
+        request: Request,
+        ways: &[Option<Told>],
+    ) -> Option<Exclusion> {
+        let telling = Telling::new(self.alloc, &self.unfenced, extensions, request, &[]);
+        let mut found = None;
+        let mut rank = (0, 0);
+        'ways: for way in ways {
+            let Some(told) = way else {
+                return found;
             };
-            if event > fence.moment || event > self.unfenced.unit.now() || step.index >= 512 {
-                return false;
-            }
-            if let Some(past) = self.unfenced.unit.word_at(step.ppn, step.index, event) {
-                if extensions.kind(Entry::from_word(past.word), step.level) == Kind::Leaf {
-                    return true;
+            if let Some(exclusion) = self.exclusion_of(&telling, told) {
+                let (number, moment) = (exclusion.number, oldest(&told.way));
+                let (last, newest) = rank;
+                if found.is_none() || number > last || (number == last && moment > newest) {
+                    found = Some(exclusion);
+                    rank = (number, moment);
                 }
-            }
-            moment = event;
-        }
-        false
-    }
-
-    /// Whether a fence covers a PTE that a walk read before it (RISC-V Privileged Architecture 20211203, 4.2.1).
-    fn covers(&self, extensions: Extensions, va: Va, step: &Step, fence: &Fence) -> bool {
-        if step.level > 4 {
-            return false;
-        }
-        if let Some(asid) = fence.asid {
-            if step.global || asid != step.asid {
-                return false;
-            }
-        }
-        let Some(address) = fence.va else {
-            return true;
-        };
-        let kind = extensions.kind(step.entry, step.level);
-        let bits = if kind == Kind::Leaf {
-            reach(step.entry, step.level)
-        } else {
-            12 + 9 * step.level
-        };
-        if address.0 >> bits != va.0 >> bits {
-            return false;
-        }
-        match kind {
-            Kind::Leaf => true,
-            Kind::Pointer => false,
-            Kind::Invalid => self.became_leaf(extensions, step, fence),
-        }
-    }
-
-    /// How many fences there were up to a moment.
-    fn count_until(&self, moment: usize) -> usize {
-        let mut count = 0usize;
-        'fences: for fence in self.fences.as_slice() {
-            if fence.moment > moment {
-                break;
-            }
-            count = count.saturating_add(1);
-        }
-        count
-    }
-
-    /// The number of the first fence, from one on, that covers a PTE which a walk read before; how many there are, if none does.
-    fn covering(&self, extensions: Extensions, va: Va, step: &Step, from: usize) -> usize {
-        'fences: for (number, fence) in self.fences.iter().enumerate().skip(from) {
-            if self.covers(extensions, va, step, fence) {
-                return number;
-            }
-        }
-        self.fences.len()
-    }
-
-    /// The number of the first fence after which a walk may not begin by the satp of a way; how many there are, if there is none.
-    fn ending(&self, root: &PastSatp) -> usize {
-        if root.satp == self.unfenced.unit.satp() {
-            return self.fences.len();
-        }
-        'fences: for (number, fence) in self.fences.iter().enumerate() {
-            if ends_root(fence, root) {
-                return number;
-            }
-        }
-        self.fences.len()
-    }
-
-    /// The fence that excludes the last PTE of a way, if one does: each PTE on the way is read as late as can be, before a fence excludes what
-    /// led to it.
-    fn excluding(&self, extensions: Extensions, va: Va, told: &Told) -> Option<(Fence, Step)> {
-        let root = told.way.root?;
-        let (mut number, mut last) = (self.ending(&root), None);
-        'levels: for n in 0..LEVELS {
-            if let Some(step) = step_at(&told.way, LEVELS - 1 - n) {
-                let from = number.min(self.count_until(step.last));
-                number = self.covering(extensions, va, &step, from);
-                last = Some(step);
-            }
-        }
-        Some((*self.fences.get(number)?, last?))
-    }
-
-    /// Appends a PTE that a fence excludes, as before a line if memory has it no more, else by what older it was read, if by something.
-    fn put_read_by(
-        &self,
-        out: &mut String,
-        extensions: Extensions,
-        va: Va,
-        told: &Told,
-        step: &Step,
-    ) -> Result<(), AllocError> {
-        if self.unfenced.is_old(va, step) {
-            return self.unfenced.put_step(out, extensions, step);
-        }
-        put_pte(out, extensions, step)?;
-        'levels: for level in step.level..LEVELS {
-            if let Some(above) = step_at(&told.way, level) {
-                if self.unfenced.is_old(va, &above) {
-                    out.push_str(", read by ")?;
-                    return self.unfenced.put_step(out, extensions, &above);
-                }
-            }
-        }
-        self.unfenced.put_root(out, told, ", read by ")
-    }
-
-    /// Appends which fence excludes the word of satp by which a walk began that read no PTE, if one does.
-    fn put_excluded_root(&self, out: &mut String, told: &Told) -> Result<bool, AllocError> {
-        let Some(root) = told.way.root else {
-            return Ok(false);
-        };
-        match self.fences.get(self.ending(&root)) {
-            Some(fence) => {
-                put_fence_line(out, fence)?;
-                out.push_str(" excludes ")?;
-                self.unfenced.put_root(out, told, "")?;
-                Ok(true)
-            }
-            None => Ok(false),
-        }
-    }
-
-    /// Appends which fence excludes the last PTE of a way that was there when addresses were translated, if one does.
-    fn put_excluded(
-        &self,
-        out: &mut String,
-        extensions: Extensions,
-        va: Va,
-        told: &Told,
-    ) -> Result<bool, AllocError> {
-        let Some((fence, step)) = self.excluding(extensions, va, told) else {
-            return self.put_excluded_root(out, told);
-        };
-        if !self.unfenced.was_walked(&step) {
-            return Ok(false);
-        }
-        put_fence_line(out, &fence)?;
-        out.push_str(" excludes ")?;
-        self.put_read_by(out, extensions, va, told, &step)?;
-        Ok(true)
-    }
-
-    /// The last fence of everything between which and the one before it a PMP entry was written.
-    fn fence_of_pmp(&self) -> Option<Fence> {
-        let (mut found, mut line) = (None, 0);
-        'fences: for fence in self.fences.as_slice() {
-            if fence.va.is_none() && fence.asid.is_none() && fence.pmp_line != line {
-                found = Some(*fence);
-                line = fence.pmp_line;
             }
         }
         found
     }
 
-    /// Appends which fence excludes PMP as it was on a way, if one does.
-    fn put_excluded_pmp(
-        &self,
-        out: &mut String,
-        telling: &Telling,
-        told: &Told,
-    ) -> Result<bool, AllocError> {
-        if telling.comes_to(&told.way, told.outcome) && telling.may_read(&told.way) {
-            return Ok(false);
-        }
-        let Some(fence) = self.fence_of_pmp() else {
-            return Ok(false);
-        };
-        put_fence_line(out, &fence)?;
-        out.push_str(" excludes older PMP entries")?;
-        Ok(true)
-    }
-
-    /// Appends which fence excludes a way that was possible before it, if one does.
-    fn put_fence(
-        &self,
-        out: &mut String,
-        extensions: Extensions,
-        request: Request,
-        told: &Told,
-    ) -> Result<bool, AllocError> {
-        if self.put_excluded(out, extensions, request.va, told)? {
-            return Ok(true);
-        }
-        let telling = Telling::new(self.alloc, &self.unfenced, extensions, request, &[]);
-        self.put_excluded_pmp(out, &telling, told)
-    }
-
-    /// Whether a PTE of a way was there up to a moment.
-    fn was_there(&self, step: &Step, moment: usize) -> bool {
-        if step.last <= moment {
-            return true;
-        }
-        if step.index >= 512 || moment > self.unspaced.unit.now() {
-            return false;
-        }
-        match self.unspaced.unit.word_at(step.ppn, step.index, moment) {
-            Some(past) => past.word == step.entry.to_word(),
-            None => false,
-        }
-    }
-
     /// The last PTE on a way of those that a walk may have read up to a moment and that are not global.
-    fn last_of_space(&self, told: &Told, moment: usize) -> Option<Step> {
+    fn last_of_space(&self, extensions: Extensions, told: &Told, moment: usize) -> Option<Step> {
         let mut found = None;
         'levels: for n in 0..LEVELS {
             if let Some(step) = step_at(&told.way, LEVELS - 1 - n) {
-                if !self.was_there(&step, moment) {
+                if !self.unspaced.was_there(extensions, &step, moment) {
                     return found;
                 }
                 if !step.global {
@@ -387,67 +206,130 @@ impl Witness {
         found
     }
 
-    /// Appends which PTE of a way that would be possible if all ASIDs were one is of another ASID, if one is.
-    fn put_of_space(
-        &self,
-        out: &mut String,
-        extensions: Extensions,
-        told: &Told,
-    ) -> Result<bool, AllocError> {
-        let Some(root) = &told.way.root else {
-            return Ok(false);
-        };
+    /// Which PTE of a way that would be possible if all ASIDs were one is of another ASID, if one is.
+    fn foreign_on(&self, extensions: Extensions, told: &Told) -> Option<Foreign> {
+        let root = told.way.root?;
         let (asid, moment) = self.unspaced.space_at(root.last);
-        let Some(step) = self.last_of_space(told, moment) else {
-            return Ok(false);
-        };
         if asid == self.unfenced.unit.satp().asid() {
-            return Ok(false);
+            return None;
         }
-        put_pte(out, extensions, &step)?;
-        write!(
-            out,
-            " is of another ASID and not global: read under ASID {asid}"
-        )?;
-        Ok(true)
+        let step = self.last_of_space(extensions, told, moment)?;
+        Some(Foreign { step, asid })
     }
 
-    /// Appends that the outcome that a client tells is by a PTE of another ASID, if it is; `by_leaf`: only if it is by a leaf.
-    fn put_space(
+    /// Whether a fence excludes a way.
+    fn is_excluded(&self, telling: &Telling<'_>, told: &Told) -> bool {
+        let fences = Fences {
+            list: self.fences.as_slice(),
+        };
+        fences.first_excluding(telling, told).is_some()
+    }
+
+    /// Which PTE of another ASID one of some ways is by: a leaf, if only leaves count, and if only held ones count, one that no fence excludes.
+    fn foreign_among(
         &self,
-        out: &mut String,
+        extensions: Extensions,
+        request: Request,
+        ways: &[Option<Told>],
+        only_leaves: bool,
+        only_held: bool,
+    ) -> Option<Foreign> {
+        let telling = Telling::new(self.alloc, &self.unspaced, extensions, request, &[]);
+        let (mut found, mut newest) = (None, 0);
+        'ways: for way in ways {
+            let Some(told) = way else {
+                return found;
+            };
+            let is_left = only_leaves && !ends_at_leaf(extensions, &told.way);
+            if is_left || (only_held && self.is_excluded(&telling, told)) {
+                continue;
+            }
+            let (foreign, moment) = (self.foreign_on(extensions, told), oldest(&told.way));
+            if foreign.is_some() && (found.is_none() || moment > newest) {
+                found = foreign;
+                newest = moment;
+            }
+        }
+        found
+    }
+
+    /// Which PTE of another ASID the outcome that a client tells is by, if it is by one. Where a fence is a reason too (`is_excluded`), it must be held
+    /// still; where there was a way without fences (`has_way`), it must be a leaf.
+    fn foreign(
+        &self,
         extensions: Extensions,
         request: Request,
         claim: Claim,
-        by_leaf: bool,
-    ) -> Result<bool, AllocError>
+        has_way: bool,
+        is_excluded: bool,
+    ) -> Option<Foreign>
         requires { 1 ≤ request.width }
     {
-        let Some(told) = seek(&self.unspaced.unit, extensions, request, claim) else {
-            return Ok(false);
-        };
-        if by_leaf && !ends_at_leaf(extensions, &told.way) {
-            return Ok(false);
-        }
-        self.put_of_space(out, extensions, &told)
+        let ways = ways_to(&self.unspaced.unit, extensions, request, claim);
+        self.foreign_among(extensions, request, ways.as_slice(), has_way, is_excluded)
     }
 
-    /// Appends why the outcome that a client tells is not permitted, if a fence or an ASID is the reason.
-    pub fn put_reason(
-        &self,
-        out: &mut String,
-        extensions: Extensions,
-        request: Request,
-        claim: Claim,
-    ) -> Result<bool, AllocError>
+    /// Returns why the outcome that a client tells is not permitted, if a fence or an ASID is the reason.
+    pub fn older(&self, extensions: Extensions, request: Request, claim: Claim) -> Older
         requires { 1 ≤ request.width }
     {
-        let Some(told) = seek(&self.unfenced.unit, extensions, request, claim) else {
-            return self.put_space(out, extensions, request, claim, false);
-        };
-        if self.put_fence(out, extensions, request, &told)? {
-            return Ok(true);
+        let ways = ways_to(&self.unfenced.unit, extensions, request, claim);
+        let exclusion = self.last_exclusion(extensions, request, ways.as_slice());
+        let (has_way, is_excluded) = (ways[0].is_some(), exclusion.is_some());
+        let foreign = self.foreign(extensions, request, claim, has_way, is_excluded);
+        Older { foreign, exclusion }
+    }
+
+    /// Appends a PTE that a fence excludes, as before a line if memory has it no more, else by what older it was read, if by something.
+    fn put_read_by(
+        &self,
+        out: &mut Text,
+        extensions: Extensions,
+        va: Va,
+        told: &Told,
+        step: &Step,
+    ) {
+        if self.unfenced.is_old(va, step) {
+            return self.unfenced.put_step(out, extensions, step);
         }
-        self.put_space(out, extensions, request, claim, true)
+        put_pte(out, extensions, step);
+        'levels: for level in step.level..LEVELS {
+            if let Some(above) = step_at(&told.way, level) {
+                if self.unfenced.is_old(va, &above) {
+                    out.push_str(", read by ");
+                    return self.unfenced.put_step(out, extensions, &above);
+                }
+            }
+        }
+        self.unfenced.put_root(out, told, ", read by ")
+    }
+
+    /// Appends what a fence excludes.
+    fn put_exclusion(&self, out: &mut Text, extensions: Extensions, va: Va, exclusion: &Exclusion) {
+        exclusion.fence.put(out);
+        out.push_str(" excludes ");
+        let told = &exclusion.told;
+        match &exclusion.what {
+            Excluded::Root => self.unfenced.put_root(out, told, ""),
+            Excluded::Pte(step) => self.put_read_by(out, extensions, va, told, step),
+            Excluded::Pmp => out.push_str("older PMP entries"),
+        }
+    }
+
+    /// Appends why an outcome is not permitted.
+    pub fn put_older(&self, out: &mut Text, extensions: Extensions, va: Va, older: &Older) {
+        if let Some(Foreign { step, asid }) = older.foreign {
+            put_pte(out, extensions, &step);
+            write!(
+                out,
+                " is of another ASID and not global: read under ASID {asid}"
+            );
+            if older.exclusion.is_some() {
+                out.push_str("; or ");
+            }
+        }
+        if let Some(exclusion) = &older.exclusion {
+            self.put_exclusion(out, extensions, va, exclusion);
+        }
     }
 }

@@ -1,7 +1,7 @@
-// Cells of a picture: rectangles with two lines of text (`put_cell`) in rows (`Grid`), or with one line across the picture (`put_row`);
-// and bare text (`put_text`).
+// Cells of a picture: rectangles with two lines of text in rows (`Grid`), or with one line across the picture; and two lines of text
+// beside a row of cells. Each is put piece by piece, and who puts it appends its key and its texts between the pieces.
 
-use std::alloc::AllocError;
+use text_builder::Text;
 
 /// The width of a picture, in the units of its view box.
 pub const WIDTH: u64 = 940;
@@ -60,57 +60,70 @@ impl Grid {
     }
 }
 
-/// Puts a text with its base line at a height.
-fn put_text(out: &mut String, x: u64, y: u64, class: &str, text: &str) -> Result<(), AllocError> {
-    writeln!(
-        out,
-        "<text x=\"{x}\" y=\"{y}\" class=\"{class}\">{text}</text>"
-    )
+/// Puts what stands before the first of two lines of text, at the right of `x` and below `y`.
+fn begin_first(out: &mut Text, x: u64, y: u64) {
+    let y = y.saturating_add(14);
+    write!(out, "<text x=\"{x}\" y=\"{y}\" class=\"first\">");
 }
 
-/// Puts a cell with two lines of text, and returns where the next goes. `key` tells it from all others of the picture.
-pub fn put_cell(
-    out: &mut String,
-    grid: Grid,
-    class: &str,
-    key: &str,
-    first: &str,
-    second: &str,
-) -> Result<Grid, AllocError> {
+/// Puts what stands between the first and the second line of text.
+fn begin_second(out: &mut Text, x: u64, y: u64) {
+    let y = y.saturating_add(28);
+    write!(out, "</text>\n<text x=\"{x}\" y=\"{y}\" class=\"second\">");
+}
+
+/// Puts what stands before the first line of text beside a row of cells.
+pub fn begin_label(out: &mut Text, y: u64) {
+    begin_first(out, 8, y);
+}
+
+/// Puts what stands between the lines of text beside a row of cells.
+pub fn next_in_label(out: &mut Text, y: u64) {
+    begin_second(out, 8, y);
+}
+
+/// Puts what stands after the second line of text beside a row of cells.
+pub fn end_label(out: &mut Text) {
+    out.push_str("</text>\n");
+}
+
+/// Puts what stands before the key of a cell or of a row; the key tells it from all others of the picture.
+pub fn begin_key(out: &mut Text, class: &str) {
+    write!(out, "<g class=\"cell {class}\" data-key=\"");
+}
+
+/// Puts what stands between the key of a cell and its first line of text.
+pub fn begin_cell(out: &mut Text, grid: Grid) {
     let (x, y) = (grid.x, grid.y);
-    writeln!(out, "<g class=\"cell {class}\" data-key=\"{key}\">")?;
-    writeln!(
+    write!(
         out,
-        "<rect x=\"{x}\" y=\"{y}\" width=\"{CELL_WIDTH}\" height=\"{CELL_HEIGHT}\"/>"
-    )?;
-    let left = x.saturating_add(6);
-    put_text(out, left, y.saturating_add(14), "first", first)?;
-    put_text(out, left, y.saturating_add(28), "second", second)?;
-    writeln!(out, "</g>")?;
-    Ok(grid.next())
+        "\">\n<rect x=\"{x}\" y=\"{y}\" width=\"{CELL_WIDTH}\" height=\"{CELL_HEIGHT}\"/>\n"
+    );
+    begin_first(out, x.saturating_add(6), y);
 }
 
-/// Puts two lines of text beside a row of cells.
-pub fn put_label(out: &mut String, y: u64, first: &str, second: &str) -> Result<(), AllocError> {
-    put_text(out, 8, y.saturating_add(14), "first", first)?;
-    put_text(out, 8, y.saturating_add(28), "second", second)
+/// Puts what stands between the lines of text of a cell.
+pub fn next_in_cell(out: &mut Text, grid: Grid) {
+    begin_second(out, grid.x.saturating_add(6), grid.y);
 }
 
-/// Puts a rectangle across the picture with a line of text, and returns the height below it. `key` tells it from all others of the
-/// picture.
-pub fn put_row(
-    out: &mut String,
-    y: u64,
-    class: &str,
-    key: &str,
-    text: &str,
-) -> Result<u64, AllocError> {
-    writeln!(out, "<g class=\"cell {class}\" data-key=\"{key}\">")?;
-    writeln!(
+/// Puts what stands after the second line of text of a cell, and returns where the next cell goes.
+pub fn end_cell(out: &mut Text, grid: Grid) -> Grid {
+    out.push_str("</text>\n</g>\n");
+    grid.next()
+}
+
+/// Puts a rectangle across the picture, from its key on to its line of text.
+pub fn begin_row(out: &mut Text, y: u64) {
+    let base = y.saturating_add(15);
+    write!(
         out,
-        "<rect x=\"1\" y=\"{y}\" width=\"{ROW_WIDTH}\" height=\"{ROW_HEIGHT}\"/>"
-    )?;
-    put_text(out, 8, y.saturating_add(15), "first", text)?;
-    writeln!(out, "</g>")?;
-    Ok(y.saturating_add(ROW_HEIGHT).saturating_add(GAP))
+        "\">\n<rect x=\"1\" y=\"{y}\" width=\"{ROW_WIDTH}\" height=\"{ROW_HEIGHT}\"/>\n<text x=\"8\" y=\"{base}\" class=\"first\">"
+    );
+}
+
+/// Puts what stands after the line of text of a row, and returns the height below it.
+pub fn end_row(out: &mut Text, y: u64) -> u64 {
+    out.push_str("</text>\n</g>\n");
+    y.saturating_add(ROW_HEIGHT).saturating_add(GAP)
 }

@@ -1,15 +1,11 @@
-// `entries_of`: the valid entries of the page tables of a process; and `EntryView`, one of them as it is shown.
+// `EntryView`: a valid entry of a page table, as it is shown.
 
 ghost use Rattle.std.specs.Prelude.{◌≡◌};
-ghost use Rattle.hart_machine.specs.BufferEntries.{IsInWorld};
-ghost use Rattle.process_model.specs.World.{World};
 ghost use Rattle.pictures.specs.Entries.{entry_view};
 
-use hart_machine::Machine;
 use serde::Serialize;
-use std::alloc::{AllocError, Global};
 use sv39_entry::{Entry, Scheme};
-use walk_lines::{Flags, Hex, TableEntry, table_entries};
+use walk_lines::{Flags, Hex, TableEntry};
 
 /// An entry of a page table, as it is shown.
 #[derive(Clone, Copy, Serialize)]
@@ -39,26 +35,5 @@ impl EntryView {
             flags: Flags(entry.word),
             ppn: Hex(Entry::from_word(entry.word).ppn()),
         }
-    }
-}
-
-/// Returns the valid entries of the page tables of the process in a slot, in the order of their addresses; none if the slot has no
-/// process.
-///
-/// # Errors
-/// `AllocError`: the host is out of memory.
-pub fn entries_of(
-    alloc: Global,
-    machine: &Machine,
-    slot: usize,
-) -> Result<Vec<TableEntry>, AllocError>
-    requires world { (w : World) × IsInWorld machine.now w }
-{
-    match machine.root(slot) {
-        Some(root) => {
-            let mut words = machine.words();
-            table_entries(alloc, &mut words, machine.scheme(), root.ppn())
-        }
-        None => Ok(Vec::new(alloc)),
     }
 }

@@ -3,12 +3,15 @@
 ghost use Rattle.hart_machine.specs.BufferEntries.{IsInWorld};
 ghost use Rattle.process_model.specs.World.{World};
 
-use crate::cells::{Grid, SPACE, put_cell, put_row};
+use crate::cells::{
+    Grid, SPACE, begin_cell, begin_key, begin_row, end_cell, end_row, next_in_cell,
+};
 use crate::uses::{FrameUse, Holds, frame_uses};
 use hart_machine::Machine;
 use line_traces::frame_page;
+use process_model::Report;
 use std::alloc::AllocError;
-use std::fmt;
+use text_builder::Text;
 use walk_lines::Hex;
 
 /// Up to this many frames, each has a cell; above it, frames in a row have one together if they are free, or pages of one process.
@@ -27,6 +30,18 @@ enum Class {
     Table,
     /// A page of the process in this slot.
     Page(usize),
+}
+
+impl Class {
+    fn name(self) -> &'static str {
+        match self {
+            Class::Free => "free",
+            Class::Shared => "shared",
+            Class::Kernel => "kernel",
+            Class::Table => "table",
+            Class::Page(_) => "page",
+        }
+    }
 }
 
 /// A frame, by what is known of it.
@@ -68,159 +83,131 @@ impl Frame {
     }
 }
 
-/// What a frame holds, as text.
-impl fmt::Display for Frame {
-    fn fmt<W: fmt::Write>(&self, f: &mut fmt::Formatter<W>) -> fmt::Result {
-        if self.count == 0 {
-            return write!(f, "free");
-        }
-        if self.number == 0 {
-            return write!(f, "trampoline");
-        }
-        let Some(it) = self.of_process else {
-            return write!(f, "kernel");
-        };
-        let slot = it.slot;
-        match it.holds {
-            Holds::Root => write!(f, "{slot}: root"),
-            Holds::Table(level) => write!(f, "{slot}: table {level}"),
-            Holds::Page(address) => {
-                let address = Hex(address);
-                write!(f, "{slot}: {address}")
-            }
-        }
-    }
-}
-
 /// Returns how many frames from this one on have one cell together.
 fn run_of(machine: &Machine, uses: &[Option<FrameUse>], frame: Frame) -> usize {
-    let class = frame.class();
-    if !matches!(class, Class::Free | Class::Page(_)) {
+    let (class, frames) = (frame.class(), machine.counts().len());
+    if frames <= MOST_UNFOLDED || !matches!(class, Class::Free | Class::Page(_)) {
         return 1;
     }
-    let mut run = 0usize;
-    for number in frame.number..machine.counts().len() {
+    let mut run = 1usize;
+    for number in frame.number.saturating_add(1)..frames {
         match Frame::at(machine, uses, number) {
             Some(other) if other.class() == class => run = run.saturating_add(1),
-            _ => break,
+            _ => return run,
         }
     }
     run
 }
 
-/// Puts the cell of one frame.
-fn put_frame(out: &mut String, grid: Grid, frame: Frame) -> Result<Grid, AllocError> {
-    let alloc = *out.allocator();
-    let name = match frame.class() {
-        Class::Free => "free",
-        Class::Shared => "shared",
-        Class::Kernel => "kernel",
-        Class::Table => "table",
-        Class::Page(_) => "page",
-    };
-    let (page, count) = (frame.page, frame.count);
-    let key = format!(in alloc; "f{page}")?;
-    let first = if count > 1 {
-        format!(in alloc; "{page} ×{count}")?
-    } else {
-        format!(in alloc; "{page}")?
-    };
-    let second = format!(in alloc; "{frame}")?;
-    put_cell(
-        out,
-        grid,
-        name,
-        key.as_str(),
-        first.as_str(),
-        second.as_str(),
-    )
-}
-
-/// Puts the cell of two or more frames in a row that look alike.
-fn put_run(out: &mut String, grid: Grid, frame: Frame, run: usize) -> Result<Grid, AllocError> {
-    let alloc = *out.allocator();
-    let page = frame.page;
-    let key = format!(in alloc; "f{page}")?;
-    let first = format!(in alloc; "{page} ..")?;
-    match frame.class() {
-        Class::Page(slot) => {
-            let second = format!(in alloc; "{slot}: {run} pages")?;
-            put_cell(
-                out,
-                grid,
-                "page",
-                key.as_str(),
-                first.as_str(),
-                second.as_str(),
-            )
-        }
-        _ => {
-            let second = format!(in alloc; "{run} free frames")?;
-            put_cell(
-                out,
-                grid,
-                "free",
-                key.as_str(),
-                first.as_str(),
-                second.as_str(),
-            )
+/// Puts what the process that has a frame has in it.
+fn put_use(out: &mut Text, it: FrameUse) {
+    let slot = it.slot;
+    write!(out, "{slot}: ");
+    match it.holds {
+        Holds::Root => out.push_str("root"),
+        Holds::Table(level) => write!(out, "table {level}"),
+        Holds::Page(address) => {
+            let address = Hex(address);
+            write!(out, "{address}")
         }
     }
 }
 
+/// Puts what a frame holds.
+fn put_contents(out: &mut Text, frame: Frame) {
+    match frame.of_process {
+        _ if frame.count == 0 => out.push_str("free"),
+        _ if frame.number == 0 => out.push_str("trampoline"),
+        None => out.push_str("kernel"),
+        Some(it) => put_use(out, it),
+    }
+}
+
+/// Puts what two or more frames in a row hold, which look alike.
+fn put_run(out: &mut Text, class: Class, run: usize) {
+    match class {
+        Class::Page(slot) => write!(out, "{slot}: {run} pages"),
+        _ => write!(out, "{run} free frames"),
+    }
+}
+
+/// Puts the cell of a frame, or that of frames in a row that look alike, and returns where the next goes.
+fn put_frame(out: &mut Text, grid: Grid, frame: Frame, run: usize) -> Grid {
+    let (class, page, count) = (frame.class(), frame.page, frame.count);
+    begin_key(out, class.name());
+    write!(out, "f{page}");
+    begin_cell(out, grid);
+    write!(out, "{page}");
+    if run > 1 {
+        out.push_str(" ..");
+        next_in_cell(out, grid);
+        put_run(out, class, run);
+    } else {
+        if count > 1 {
+            write!(out, " ×{count}");
+        }
+        next_in_cell(out, grid);
+        put_contents(out, frame);
+    }
+    end_cell(out, grid)
+}
+
+/// Puts how many frames there are that have no cell, if any, and returns the height below all cells.
+fn put_more(out: &mut Text, grid: Grid, more: usize) -> u64 {
+    if more == 0 {
+        return grid.end();
+    }
+    begin_key(out, "folded");
+    begin_cell(out, grid);
+    write!(out, "{more} more");
+    next_in_cell(out, grid);
+    out.push_str("frames");
+    end_cell(out, grid).end()
+}
+
 /// Puts cells of frames, at most `MOST_CELLS`, and how many frames more there are. Returns the height below them.
-fn put_cells(
-    out: &mut String,
-    machine: &Machine,
-    uses: &[Option<FrameUse>],
-    y: u64,
-) -> Result<u64, AllocError> {
-    let alloc = *out.allocator();
-    let frames = machine.counts().len();
+fn put_cells(out: &mut Text, machine: &Machine, uses: &[Option<FrameUse>], y: u64) -> u64 {
     let mut grid = Grid::at(8, y);
     let mut number = 0usize;
     for _ in 0..MOST_CELLS {
         let Some(frame) = Frame::at(machine, uses, number) else {
-            return Ok(grid.end());
+            return grid.end();
         };
-        let run = if frames > MOST_UNFOLDED {
-            run_of(machine, uses, frame)
-        } else {
-            1
-        };
-        if run > 1 {
-            grid = put_run(out, grid, frame, run)?;
-            number = number.saturating_add(run);
-        } else {
-            grid = put_frame(out, grid, frame)?;
-            number = number.saturating_add(1);
-        }
+        let run = run_of(machine, uses, frame);
+        grid = put_frame(out, grid, frame, run);
+        number = number.saturating_add(run);
     }
-    match frames.saturating_sub(number) {
-        0 => Ok(grid.end()),
-        more => {
-            let text = format!(in alloc; "{more} more")?;
-            Ok(put_cell(out, grid, "folded", "", text.as_str(), "frames")?.end())
-        }
-    }
+    put_more(out, grid, machine.counts().len().saturating_sub(number))
 }
 
-/// Puts the accounts and all frames, and returns the height below them.
-pub fn put_frames(out: &mut String, machine: &Machine, y: u64) -> Result<u64, AllocError>
-    requires world { (w : World) × IsInWorld machine.now w }
-{
-    let alloc = *out.allocator();
-    let report = machine.report();
+/// Puts the accounts of the frames, and returns the height below them.
+fn put_accounts(out: &mut Text, report: Report, y: u64) -> u64 {
     let (free, held, shared, references) = (
         report.free,
         report.held,
         report.shared,
         report.references,
     );
-    let title = format!(in alloc;
+    begin_key(out, "head");
+    out.push_str("frames");
+    begin_row(out, y);
+    write!(
+        out,
         "Frames: {free} free, {held} held, {shared} of them shared; {references} references"
-    )?;
-    let y = put_row(out, y, "head", "frames", title.as_str())?;
-    let uses = frame_uses(alloc, machine)?;
-    Ok(put_cells(out, machine, uses.as_slice(), y)?.saturating_add(SPACE))
+    );
+    end_row(out, y)
+}
+
+/// Puts the accounts and all frames, and returns the height below them.
+pub fn put_frames(out: &mut Text, machine: &Machine, y: u64) -> u64
+    requires world { (w : World) × IsInWorld machine.now w }
+{
+    let y = put_accounts(out, machine.report(), y);
+    match frame_uses(out.allocator(), machine) {
+        Ok(uses) => put_cells(out, machine, uses.as_slice(), y).saturating_add(SPACE),
+        Err(_) => {
+            out.note(Err(AllocError));
+            y
+        }
+    }
 }

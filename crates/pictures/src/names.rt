@@ -7,8 +7,8 @@ ghost use Rattle.hart_machine.specs.BufferEntries.{IsInWorld};
 ghost use Rattle.process_model.specs.World.{World};
 ghost use Rattle.pictures.specs.Names.{leaf_name, name_in};
 
-use crate::entries::entries_of;
 use hart_machine::Machine;
+use line_traces::entries_of;
 use serde::Serialize;
 use std::alloc::{AllocError, Global};
 use sv39_entry::{Entry, Kind, Scheme};

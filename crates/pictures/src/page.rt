@@ -4,14 +4,15 @@ ghost use Rattle.std.specs.Prelude.{IfSome};
 ghost use Rattle.hart_machine.specs.BufferEntries.{IsInWorld};
 ghost use Rattle.process_model.specs.World.{World};
 
-use crate::escape::{put_escaped, put_script_text};
+use crate::escape::put_escaped;
 use crate::page_body::BODY;
 use crate::page_script::SCRIPT;
 use crate::page_style::STYLE;
-use crate::views::{ShownParts, json_of};
+use crate::views::{ShownParts, put_json};
 use hart_machine::Machine;
 use line_traces::{LineTrace, put_trace};
 use std::alloc::{AllocError, Global};
+use text_builder::Text;
 
 /// What stands before the title.
 const BEFORE_TITLE: &str = r#"<!doctype html>
@@ -48,27 +49,24 @@ impl Page {
     }
 
     /// Puts the beginning of a page.
-    ///
-    /// # Errors
-    /// `AllocError`: the host is out of memory.
-    pub fn put_start(out: &mut String, head: PageHead<'_>) -> Result<(), AllocError> {
-        out.push_str(BEFORE_TITLE)?;
-        put_escaped(out, head.title)?;
-        out.push_str("</title>\n")?;
-        out.push_str(STYLE)?;
-        out.push_str("</head>\n<body")?;
+    pub fn put_start(out: &mut Text, head: PageHead<'_>) {
+        out.push_str(BEFORE_TITLE);
+        put_escaped(out, head.title);
+        out.push_str("</title>\n");
+        out.push_str(STYLE);
+        out.push_str("</head>\n<body");
         if let Some(number) = head.line {
-            write!(out, " data-line=\"{number}\"")?;
+            write!(out, " data-line=\"{number}\"");
         }
         if head.quiz {
-            out.push_str(" data-quiz")?;
+            out.push_str(" data-quiz");
         }
-        out.push_str(">\n")?;
-        out.push_str(BODY)
+        out.push_str(">\n");
+        out.push_str(BODY);
     }
 
     /// Puts what a line changed of a machine as JSON; `null` if there is no machine.
-    fn put_machine(&mut self, out: &mut String, machine: Option<&Machine>) -> Result<(), AllocError>
+    fn put_machine(&mut self, out: &mut Text, machine: Option<&Machine>)
         requires world { IfSome machine (λ m. (w : World) × IsInWorld m.now w) }
     {
         match machine {
@@ -78,38 +76,26 @@ impl Page {
     }
 
     /// Puts a line of a script, what happened on it and what it changed of the machine, as JSON in an element of its own.
-    ///
-    /// # Errors
-    /// `AllocError`: the host is out of memory.
-    pub fn put_step(
-        &mut self,
-        out: &mut String,
-        trace: &LineTrace,
-        machine: Option<&Machine>,
-    ) -> Result<(), AllocError>
+    pub fn put_step(&mut self, out: &mut Text, trace: &LineTrace, machine: Option<&Machine>)
         requires world { IfSome machine (λ m. (w : World) × IsInWorld m.now w) }
     {
-        let alloc = self.alloc;
         self.shown.touch(trace.touched);
-        let mut told = String::new(alloc);
-        put_trace(&mut told, trace)?;
-        let (facts, told) = (json_of(alloc, trace)?, json_of(alloc, &told)?);
-        let (facts, told) = (facts.as_str(), told.as_str());
-        let mut text = String::new(alloc);
-        text.push('{')?;
-        write!(text, "\"trace\":{facts},\"told\":{told},\"machine\":")?;
-        self.put_machine(&mut text, machine)?;
-        text.push('}')?;
-        out.push_str("<script type=\"application/json\" class=\"step\">")?;
-        put_script_text(out, text.as_str())?;
-        out.push_str("</script>\n")
+        let mut told = Text::new(self.alloc);
+        put_trace(&mut told, trace);
+        out.push_str("<script type=\"application/json\" class=\"step\">{\"trace\":");
+        put_json(out, trace);
+        out.push_str(",\"told\":");
+        match told.finish() {
+            Ok(told) => put_json(out, &told),
+            Err(_) => out.note(Err(AllocError)),
+        }
+        out.push_str(",\"machine\":");
+        self.put_machine(out, machine);
+        out.push_str("}</script>\n");
     }
 
     /// Puts the end of a page.
-    ///
-    /// # Errors
-    /// `AllocError`: the host is out of memory.
-    pub fn put_end(out: &mut String) -> Result<(), AllocError> {
-        out.push_str(SCRIPT)
+    pub fn put_end(out: &mut Text) {
+        out.push_str(SCRIPT);
     }
 }

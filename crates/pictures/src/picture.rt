@@ -10,6 +10,7 @@ use crate::legend::put_legend;
 use crate::processes::put_process;
 use hart_machine::Machine;
 use std::alloc::AllocError;
+use text_builder::Text;
 
 /// How the parts of a picture look. Shared, guard, free and folded cells differ by the stroke too, for readers without colour.
 const STYLE: &str = "<style>
@@ -28,36 +29,36 @@ text { font: 12px ui-monospace, Menlo, Consolas, monospace; fill: #111 }
 </style>
 ";
 
-/// Puts the parts of a picture from a height on, and returns the height below them.
-fn put_parts(out: &mut String, machine: &Machine, y: u64) -> Result<u64, AllocError>
+/// Puts the parts of a picture, and returns the height below them.
+fn put_parts(out: &mut Text, machine: &Machine) -> u64
     requires world { (w : World) × IsInWorld machine.now w }
 {
-    let mut y = y;
+    let mut y = 0;
     for hart in 0..machine.hart_count() {
-        y = put_hart(out, machine, hart, y)?;
+        y = put_hart(out, machine, hart, y);
     }
     for slot in 0..machine.slot_count() {
-        y = put_process(out, machine, slot, y)?;
+        y = put_process(out, machine, slot, y);
     }
-    y = put_frames(out, machine, y)?;
+    y = put_frames(out, machine, y);
     put_legend(out, y)
 }
 
 /// Puts a picture of a machine, as SVG 1.1.
-///
-/// # Errors
-/// `AllocError`: the host is out of memory.
-pub fn put_picture(out: &mut String, machine: &Machine) -> Result<(), AllocError>
+pub fn put_picture(out: &mut Text, machine: &Machine)
     requires world { (w : World) × IsInWorld machine.now w }
 {
-    let mut parts = String::new(*out.allocator());
-    let height = put_parts(&mut parts, machine, 0)?;
+    let mut parts = Text::new(out.allocator());
+    let height = put_parts(&mut parts, machine);
     writeln!(
         out,
         "<svg xmlns=\"http://www.w3.org/2000/svg\" viewBox=\"0 0 {WIDTH} {height}\" width=\"{WIDTH}\" height=\"{height}\">"
-    )?;
-    out.push_str(STYLE)?;
-    out.push_str("<rect width=\"100%\" height=\"100%\" fill=\"#fff\"/>\n")?;
-    out.push_str(parts.as_str())?;
-    out.push_str("</svg>\n")
+    );
+    out.push_str(STYLE);
+    out.push_str("<rect width=\"100%\" height=\"100%\" fill=\"#fff\"/>\n");
+    match parts.finish() {
+        Ok(parts) => out.push_str(parts.as_str()),
+        Err(_) => out.note(Err(AllocError)),
+    }
+    out.push_str("</svg>\n");
 }

@@ -1,7 +1,7 @@
 // A page of HTML that asks about lines of a script: `put_quiz_start`, for each question `put_question`, `put_quiz_end`.
 
 use crate::escape::put_escaped;
-use std::alloc::AllocError;
+use text_builder::Text;
 
 /// What stands before the title.
 const BEFORE_TITLE: &str = "<!doctype html>
@@ -196,55 +196,44 @@ pub struct QuizQuestion<'a> {
 }
 
 /// Puts the beginning of a page with a title.
-///
-/// # Errors
-/// `AllocError`: the host is out of memory.
-pub fn put_quiz_start(out: &mut String, title: &str) -> Result<(), AllocError> {
-    out.push_str(BEFORE_TITLE)?;
-    put_escaped(out, title)?;
-    out.push_str(AFTER_TITLE)
+pub fn put_quiz_start(out: &mut Text, title: &str) {
+    out.push_str(BEFORE_TITLE);
+    put_escaped(out, title);
+    out.push_str(AFTER_TITLE);
 }
 
 /// Puts a part of a question, with a class.
-fn put_text(out: &mut String, class: &str, text: &str) -> Result<(), AllocError> {
-    write!(out, "<pre class=\"{class}\">\n")?;
-    put_escaped(out, text)?;
-    out.push_str("</pre>\n")
+fn put_text(out: &mut Text, class: &str, text: &str) {
+    write!(out, "<pre class=\"{class}\">\n");
+    put_escaped(out, text);
+    out.push_str("</pre>\n");
 }
 
 /// Puts a picture of a question, with a class.
-fn put_drawing(out: &mut String, class: &str, picture: &str) -> Result<(), AllocError> {
-    write!(out, "<div class=\"{class}\">")?;
-    out.push_str(picture)?;
-    out.push_str("</div>\n")
+fn put_drawing(out: &mut Text, class: &str, picture: &str) {
+    write!(out, "<div class=\"{class}\">{picture}</div>\n");
 }
 
 /// Puts a question.
-///
-/// # Errors
-/// `AllocError`: the host is out of memory.
-pub fn put_question(out: &mut String, question: &QuizQuestion<'_>) -> Result<(), AllocError> {
+pub fn put_question(out: &mut Text, question: &QuizQuestion<'_>) {
     let number = question.number;
-    write!(out, "<template data-number=\"{number}\" data-line=\"")?;
-    put_escaped(out, question.line)?;
-    out.push_str("\" data-answer=\"")?;
-    put_escaped(out, question.answer)?;
-    out.push_str("\" data-form=\"")?;
-    put_escaped(out, question.form)?;
-    out.push_str("\" data-wanted=\"")?;
-    put_escaped(out, question.wanted)?;
-    out.push_str("\">\n")?;
-    put_text(out, "lines", question.lines)?;
-    put_text(out, "trace", question.trace)?;
-    put_drawing(out, "before", question.before)?;
-    put_drawing(out, "after", question.after)?;
-    out.push_str("</template>\n")
+    write!(out, "<template data-number=\"{number}\" data-line=\"");
+    put_escaped(out, question.line);
+    out.push_str("\" data-answer=\"");
+    put_escaped(out, question.answer);
+    out.push_str("\" data-form=\"");
+    put_escaped(out, question.form);
+    out.push_str("\" data-wanted=\"");
+    put_escaped(out, question.wanted);
+    out.push_str("\">\n");
+    put_text(out, "lines", question.lines);
+    put_text(out, "trace", question.trace);
+    put_drawing(out, "before", question.before);
+    put_drawing(out, "after", question.after);
+    out.push_str("</template>\n");
 }
 
 /// Puts the end of a page.
-///
-/// # Errors
-/// `AllocError`: the host is out of memory.
-pub fn put_quiz_end(out: &mut String) -> Result<(), AllocError> {
-    out.push_str(END)
+pub fn put_quiz_end(out: &mut Text) {
+    out.push_str(END);
 }

@@ -3,8 +3,8 @@
 ghost use Rattle.hart_machine.specs.BufferEntries.{IsInWorld};
 ghost use Rattle.process_model.specs.World.{World};
 
-use crate::entries::entries_of;
 use hart_machine::Machine;
+use line_traces::entries_of;
 use std::alloc::{AllocError, Global};
 use sv39_entry::{Entry, FrameNo, Kind, Scheme};
 use walk_lines::TableEntry;

@@ -9,4 +9,4 @@ mod harts;
 mod parts;
 mod slots;
 
-pub use parts::{ShownParts, json_of};
+pub use parts::{ShownParts, put_json};

@@ -172,15 +172,13 @@ pub fn choose(
     } else {
         0
     };
-    script.add(
-        alloc,
-        &mut chosen,
-        order.as_slice(),
-        count.saturating_sub(kept),
-        false,
-    )?;
-    script.add(alloc, &mut chosen, order.as_slice(), count, true)?;
-    script.add(alloc, &mut chosen, order.as_slice(), count, false)?;
+    'turns: for (count, plain) in [
+        (count.saturating_sub(kept), false),
+        (count, true),
+        (count, false),
+    ] {
+        script.add(alloc, &mut chosen, order.as_slice(), count, plain)?;
+    }
     chosen.sort()?;
     Ok(chosen)
 }

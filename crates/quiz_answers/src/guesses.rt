@@ -70,34 +70,40 @@ fn plain_part(alloc: Global, part: &[u8]) -> Result<Vec<u8>, AllocError> {
     Ok(out)
 }
 
+/// Whether a part is among others.
+fn has_part(parts: &[Vec<u8>], part: &[u8]) -> bool {
+    for one in parts {
+        if one.as_slice() == part {
+            return true;
+        }
+    }
+    false
+}
+
 /// Appends a part to others, if it is not among them.
 fn add_part(alloc: Global, parts: &mut Vec<Vec<u8>>, part: &[u8]) -> Result<(), AllocError> {
     let part = plain_part(alloc, part)?;
-    let known = parts
-        .as_slice()
-        .iter()
-        .any(|it| it.as_slice() == part.as_slice());
-    if known || part.is_empty() {
-        return Ok(());
+    if !part.is_empty() && !has_part(parts.as_slice(), part.as_slice()) {
+        parts.push(part)?;
     }
-    parts.push(part)?;
     Ok(())
 }
 
 /// Returns the outcomes of an answer as they stand there, with what is in parentheses.
-fn whole_parts(alloc: Global, answer: &[u8]) -> Result<Vec<Vec<u8>>, AllocError> {
-    let (mut parts, mut part) = (Vec::new(alloc), Vec::new(alloc));
-    let mut inside = false;
-    for byte in answer {
-        if *byte == b';' && !inside {
-            parts.push(Vec::from_slice(alloc, part.as_slice().trim_ascii())?)?;
-            part.clear();
-            continue;
+fn whole_parts(alloc: Global, answer: &[u8]) -> Result<Vec<&[u8]>, AllocError> {
+    let mut parts = Vec::new(alloc);
+    let (mut start, mut inside) = (0usize, false);
+    'bytes: for place in 0..=answer.len() {
+        match answer.get(place) {
+            Some(byte) if *byte != b';' || inside => {
+                inside = *byte == b'(' || (inside && *byte != b')');
+            }
+            _ => {
+                parts.push(answer.get(start..place).unwrap_or(b"").trim_ascii())?;
+                start = place.saturating_add(1);
+            }
         }
-        inside = *byte == b'(' || (inside && *byte != b')');
-        part.push(*byte)?;
     }
-    parts.push(Vec::from_slice(alloc, part.as_slice().trim_ascii())?)?;
     Ok(parts)
 }
 
@@ -126,7 +132,7 @@ pub fn plain_parts(alloc: Global, text: &[u8]) -> Result<Vec<Vec<u8>>, AllocErro
     let letters = text.to_ascii_lowercase(alloc)?;
     let mut parts = Vec::new(alloc);
     'parts: for part in whole_parts(alloc, letters.as_slice())? {
-        let bare = without_parentheses(alloc, part.as_slice())?;
+        let bare = without_parentheses(alloc, part)?;
         add_part(alloc, &mut parts, bare.as_slice())?;
     }
     Ok(parts)
@@ -135,7 +141,7 @@ pub fn plain_parts(alloc: Global, text: &[u8]) -> Result<Vec<Vec<u8>>, AllocErro
 /// Returns whether each part is among others.
 fn are_among(parts: &[Vec<u8>], others: &[Vec<u8>]) -> bool {
     for part in parts {
-        if !others.iter().any(|it| it.as_slice() == part.as_slice()) {
+        if !has_part(others, part.as_slice()) {
             return false;
         }
     }
@@ -154,9 +160,9 @@ pub fn missed_parts(
     let guessed = plain_parts(alloc, guess)?;
     let mut missed = Vec::new(alloc);
     'parts: for part in whole_parts(alloc, answer)? {
-        let plain = plain_parts(alloc, part.as_slice())?;
+        let plain = plain_parts(alloc, part)?;
         if !are_among(plain.as_slice(), guessed.as_slice()) {
-            missed.push(part)?;
+            missed.push(Vec::from_slice(alloc, part)?)?;
         }
     }
     Ok(missed)

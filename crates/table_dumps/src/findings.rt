@@ -5,7 +5,7 @@ use crate::listing::ValidEntry;
 use crate::reserved::Reserved;
 use crate::runs::{adjoins, last_address, size_name};
 use crate::space::Space;
-use std::alloc::AllocError;
+use std::alloc::{AllocError, Global};
 use std::fmt;
 use sv39_entry::{Entry, EntryFlags, PAGE_SIZE};
 
@@ -137,15 +137,53 @@ fn follows(first: Subject, next: Subject, pages: u64) -> bool {
     }
 }
 
-/// Appends a finding; if it goes on where the last one ends, it is counted there.
-pub fn add(found: &mut Vec<Finding>, next: Finding) -> Result<(), AllocError> {
-    match found.last_mut() {
-        Some(last) if last.goes_on(&next) => {
-            last.count = last.count.saturating_add(next.count);
-            last.pages = last.pages.saturating_add(next.pages);
-            Ok(())
+/// What was found so far.
+#[derive(Drop)]
+pub struct Findings {
+    list: Vec<Finding>,
+    /// Whether the host had memory for all of it.
+    is_whole: bool,
+}
+
+impl Findings {
+    /// Returns a list of nothing.
+    pub fn new(alloc: Global) -> Findings {
+        Findings {
+            list: Vec::new(alloc),
+            is_whole: true,
         }
-        _ => Ok(found.push(next)?),
+    }
+
+    /// Adds a finding; if it goes on where the last one ends, it is counted there.
+    pub(crate) fn add(&mut self, next: Finding) {
+        match self.list.last_mut() {
+            Some(last) if last.goes_on(&next) => {
+                last.count = last.count.saturating_add(next.count);
+                last.pages = last.pages.saturating_add(next.pages);
+            }
+            _ => {
+                if self.list.push(next).is_err() {
+                    self.is_whole = false;
+                }
+            }
+        }
+    }
+
+    /// Notes that the host was out of memory for a part.
+    pub(crate) fn lose(&mut self) {
+        self.is_whole = false;
+    }
+
+    /// Returns the findings.
+    ///
+    /// # Errors
+    /// `AllocError`: the host was out of memory for a part of them.
+    pub fn finish(self) -> Result<Vec<Finding>, AllocError> {
+        if self.is_whole {
+            Ok(self.list)
+        } else {
+            Err(AllocError)
+        }
     }
 }
 

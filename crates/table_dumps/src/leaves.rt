@@ -1,11 +1,10 @@
 // `leaf_findings`: what is suspicious about each leaf of an address space by itself.
 
 use crate::dump::Dump;
-use crate::findings::{Finding, Reason, Subject, add};
+use crate::findings::{Finding, Findings, Reason, Subject};
 use crate::frames::frame_of;
 use crate::listing::ValidEntry;
 use crate::space::Space;
-use std::alloc::AllocError;
 use sv39_entry::{Entry, EntryFlags};
 
 /// Which leaves are looked for.
@@ -66,15 +65,23 @@ fn of_reason(
     subject: Subject,
     space: &Space,
     reason: Reason,
-    found: &mut Vec<Finding>,
-) -> Result<(), AllocError> {
+    found: &mut Findings,
+) {
     for mapping in &space.mappings {
         if holds(reason, dump, *mapping, space.top) {
-            add(found, Finding::of(reason, subject.at(*mapping)))?;
+            found.add(Finding::of(reason, subject.at(*mapping)));
         }
     }
-    Ok(())
 }
+
+/// The reasons for which leaves are looked for; the last only if asked for.
+static REASONS: [Reason; 5] = [
+    Reason::WritableExecutable,
+    Reason::AboveTrapframe,
+    Reason::Misaligned,
+    Reason::LeafOutside,
+    Reason::NeedsUpdate,
+];
 
 /// Appends what is suspicious about each leaf by itself: user pages that can be written and executed, user pages at or above TRAPFRAME, misaligned
 /// superpages, leaves that lead outside the memory; and, if asked for, those with A or D clear.
@@ -83,19 +90,12 @@ pub fn leaf_findings(
     number: usize,
     space: &Space,
     leaves: Leaves,
-    found: &mut Vec<Finding>,
-) -> Result<(), AllocError> {
+    found: &mut Findings,
+) {
     let subject = Subject::root(number, space);
-    for reason in [
-        Reason::WritableExecutable,
-        Reason::AboveTrapframe,
-        Reason::Misaligned,
-        Reason::LeafOutside,
-    ] {
-        of_reason(dump, subject, space, reason, found)?;
+    for reason in REASONS.as_slice() {
+        if leaves.needing_update || !matches!(reason, Reason::NeedsUpdate) {
+            of_reason(dump, subject, space, *reason, found);
+        }
     }
-    if leaves.needing_update {
-        of_reason(dump, subject, space, Reason::NeedsUpdate, found)?;
-    }
-    Ok(())
 }

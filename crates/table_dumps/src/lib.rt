@@ -19,7 +19,7 @@ mod space;
 mod tables;
 
 pub use dump::Dump;
-pub use findings::{Finding, FindingLine, Reason, Subject};
+pub use findings::{Finding, FindingLine, Findings, Reason, Subject};
 pub use laws::one_listing;
 pub use leaves::{Leaves, leaf_findings};
 pub use lines::{EntryLine, SpaceLine, TablesLine};

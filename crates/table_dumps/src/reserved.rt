@@ -1,10 +1,10 @@
 // `Reserved`: why a page table entry (PTE) with V is invalid to a walk; and `reserved_findings`, which looks at each word of each table.
 
 use crate::dump::Dump;
-use crate::findings::{Finding, Reason, Subject, add};
+use crate::findings::{Finding, Findings, Reason};
 use crate::listing::ValidEntry;
 use crate::space::Space;
-use std::alloc::AllocError;
+use crate::tables::Table;
 use std::fmt;
 use sv39_entry::{Entry, EntryFlags, Kind};
 use walk_rules::Extensions;
@@ -59,11 +59,11 @@ fn reserved_of(extensions: Extensions, entry: Entry, level: u32) -> Reserved {
     }
 }
 
-/// Returns the finding about the word at an index of a table, if it has V and is invalid. `first` is the table's first page.
+/// Returns the finding about the word at a place of a table, if it has V and is invalid.
 fn reserved_at(
     dump: &Dump<'_>,
     extensions: Extensions,
-    subject: Subject,
+    table: &Table,
     at: ValidEntry,
 ) -> Option<Finding> {
     let word = dump.word(at.table, at.index.min(511))?;
@@ -73,26 +73,25 @@ fn reserved_at(
     }
     let found = ValidEntry { word, ..at };
     let reason = Reason::Reserved(reserved_of(extensions, entry, at.level));
-    Some(Finding::of(reason, subject.at(found)))
+    Some(Finding::of(reason, table.subject.at(found)))
 }
 
 /// Appends findings about the words of a table that have V and are invalid.
-fn of_table(
-    dump: &Dump<'_>,
-    extensions: Extensions,
-    subject: Subject,
-    first: ValidEntry,
-    found: &mut Vec<Finding>,
-) -> Result<(), AllocError> {
-    let mut at = first;
+fn of_table(dump: &Dump<'_>, extensions: Extensions, table: &Table, found: &mut Findings) {
+    let mut at = ValidEntry {
+        level: table.level,
+        table: table.number,
+        index: 0,
+        page: table.page,
+        word: 0,
+    };
     for index in 0..512 {
         at.index = index;
-        if let Some(finding) = reserved_at(dump, extensions, subject, at) {
-            add(found, finding)?;
+        if let Some(finding) = reserved_at(dump, extensions, table, at) {
+            found.add(finding);
         }
         at.page = at.page.wrapping_add(at.pages());
     }
-    Ok(())
 }
 
 /// Appends findings about each PTE of a space's tables that has V and is invalid to a walk.
@@ -101,28 +100,13 @@ pub fn reserved_findings(
     extensions: Extensions,
     number: usize,
     space: &Space,
-    found: &mut Vec<Finding>,
-) -> Result<(), AllocError> {
-    let subject = Subject::root(number, space);
-    let root = ValidEntry {
-        level: space.top,
-        table: space.satp.ppn(),
-        index: 0,
-        page: 0,
-        word: 0,
-    };
-    of_table(dump, extensions, subject, root, found)?;
+    found: &mut Findings,
+) {
+    let root = Table::root(number, space);
+    of_table(dump, extensions, &root, found);
     for entry in &space.entries {
-        let pte = Entry::from_word(entry.word);
-        if extensions.kind(pte, entry.level) != Kind::Pointer {
-            continue;
+        if let Some(table) = root.below(extensions, *entry) {
+            of_table(dump, extensions, &table, found);
         }
-        let first = ValidEntry {
-            level: entry.level.saturating_sub(1),
-            table: pte.ppn(),
-            ..*entry
-        };
-        of_table(dump, extensions, subject, first, found)?;
     }
-    Ok(())
 }

@@ -1,6 +1,6 @@
 // `shared_findings`: frames that two address spaces map for user mode, one of which may write them without copy-on-write.
 
-use crate::findings::{Finding, Reason, Subject, add};
+use crate::findings::{Finding, Findings, Reason, Subject};
 use crate::frames::frame_of;
 use crate::listing::ValidEntry;
 use crate::space::Space;
@@ -158,30 +158,28 @@ fn upper_pairs(held: &[Holding], pairs: &mut Vec<Pair>) -> Result<(), AllocError
     Ok(())
 }
 
-/// Appends a finding for each mapping that user mode may write, with RSW bit 8 clear, if a mapping for user mode of another space has a frame
-/// of it; it names one such mapping.
-pub fn shared_findings(
-    alloc: Global,
-    spaces: &[Space],
-    found: &mut Vec<Finding>,
-) -> Result<(), AllocError> {
+/// Returns the pairs of mappings of which one is to be named, in ascending order of spaces and pages.
+fn all_pairs(alloc: Global, spaces: &[Space]) -> Result<Vec<Pair>, AllocError> {
     let held = held_frames(alloc, spaces, false)?;
     let mut pairs = Vec::new(alloc);
     lower_pairs(held.as_slice(), &mut pairs)?;
     upper_pairs(held.as_slice(), &mut pairs)?;
     pairs.sort_by_key(|pair| (pair.one.subject.space, pair.one.mapping.page))?;
+    Ok(pairs)
+}
+
+/// Appends a finding for each mapping that user mode may write, with RSW bit 8 clear, if a mapping for user mode of another space has a frame
+/// of it; it names one such mapping.
+pub fn shared_findings(alloc: Global, spaces: &[Space], found: &mut Findings) {
+    let Ok(pairs) = all_pairs(alloc, spaces) else {
+        return found.lose();
+    };
     let mut last: Option<(usize, u64)> = None;
     for pair in &pairs {
         let key = (pair.one.subject.space, pair.one.mapping.page);
         if last != Some(key) {
-            let finding = Finding::with(
-                Reason::SharedWritable,
-                pair.one.subject,
-                pair.other.subject,
-            );
-            add(found, finding)?;
+            found.add(Finding::with(Reason::SharedWritable, pair.one.subject, pair.other.subject));
         }
         last = Some(key);
     }
-    Ok(())
 }

@@ -2,7 +2,8 @@
 // user mode may write.
 
 use crate::dump::Dump;
-use crate::findings::{Finding, Reason, Subject, add};
+use crate::findings::{Finding, Findings, Reason, Subject};
+use crate::listing::ValidEntry;
 use crate::sharing::{Holding, held_frames};
 use crate::space::Space;
 use std::alloc::{AllocError, Global};
@@ -11,14 +12,40 @@ use walk_rules::Extensions;
 
 /// A table, with the pointer that leads to it, or as a root.
 #[derive(Clone, Copy)]
-struct Table {
+pub(crate) struct Table {
     /// Its physical page number.
-    number: u64,
+    pub number: u64,
     /// The level of its PTEs.
-    level: u32,
+    pub level: u32,
     /// The number of its first page.
-    page: u64,
-    subject: Subject,
+    pub page: u64,
+    pub subject: Subject,
+}
+
+impl Table {
+    /// Returns the root of a space.
+    pub fn root(number: usize, space: &Space) -> Table {
+        Table {
+            number: space.satp.ppn(),
+            level: space.top,
+            page: 0,
+            subject: Subject::root(number, space),
+        }
+    }
+
+    /// Returns the table to which a PTE of the space of this table leads, if it is a pointer.
+    pub fn below(&self, extensions: Extensions, entry: ValidEntry) -> Option<Table> {
+        let pte = Entry::from_word(entry.word);
+        if extensions.kind(pte, entry.level) != Kind::Pointer {
+            return None;
+        }
+        Some(Table {
+            number: pte.ppn(),
+            level: entry.level.saturating_sub(1),
+            page: entry.page,
+            subject: self.subject.at(entry),
+        })
+    }
 }
 
 /// Appends the tables of a space: the root, then those of its pointers.
@@ -28,23 +55,10 @@ fn hold_tables(
     number: usize,
     space: &Space,
 ) -> Result<(), AllocError> {
-    let subject = Subject::root(number, space);
-    let root = Table {
-        number: space.satp.ppn(),
-        level: space.top,
-        page: 0,
-        subject,
-    };
+    let root = Table::root(number, space);
     tables.push(root)?;
     for entry in &space.entries {
-        let pte = Entry::from_word(entry.word);
-        if extensions.kind(pte, entry.level) == Kind::Pointer {
-            let table = Table {
-                number: pte.ppn(),
-                level: entry.level.saturating_sub(1),
-                page: entry.page,
-                subject: subject.at(*entry),
-            };
+        if let Some(table) = root.below(extensions, *entry) {
             tables.push(table)?;
         }
     }
@@ -65,23 +79,28 @@ fn all_tables(
     Ok(tables)
 }
 
+/// Appends a finding for a table that is outside the memory.
+fn add_outside(dump: &Dump<'_>, table: &Table, found: &mut Findings) {
+    if !dump.has_pages(table.number, 1) {
+        found.add(Finding::of(Reason::TableOutside, table.subject));
+    }
+}
+
 /// Appends a finding for the root and each pointer of a space whose table is outside the memory.
 pub fn outside_findings(
-    alloc: Global,
     dump: &Dump<'_>,
     extensions: Extensions,
     number: usize,
     space: &Space,
-    found: &mut Vec<Finding>,
-) -> Result<(), AllocError> {
-    let mut tables = Vec::new(alloc);
-    hold_tables(&mut tables, extensions, number, space)?;
-    for table in &tables {
-        if !dump.has_pages(table.number, 1) {
-            add(found, Finding::of(Reason::TableOutside, table.subject))?;
+    found: &mut Findings,
+) {
+    let root = Table::root(number, space);
+    add_outside(dump, &root, found);
+    for entry in &space.entries {
+        if let Some(table) = root.below(extensions, *entry) {
+            add_outside(dump, &table, found);
         }
     }
-    Ok(())
 }
 
 /// Whether a table has a leaf for user mode itself.
@@ -112,21 +131,19 @@ fn overlap_findings(
     dump: &Dump<'_>,
     extensions: Extensions,
     tables: &[Table],
-    found: &mut Vec<Finding>,
-) -> Result<(), AllocError> {
+    found: &mut Findings,
+) {
     let mut first: Option<Table> = None;
     for table in tables {
         match first {
             Some(one) if one.number == table.number => {
                 if is_overlap(dump, extensions, table, &one) {
-                    let finding = Finding::with(Reason::TwoPlaces, table.subject, one.subject);
-                    add(found, finding)?;
+                    found.add(Finding::with(Reason::TwoPlaces, table.subject, one.subject));
                 }
             }
             _ => first = Some(*table),
         }
     }
-    Ok(())
 }
 
 /// Returns the wider of the holding so far and of those from a place on that begin at a page or before it, and the place after these.
@@ -152,23 +169,17 @@ fn widest_up_to(
 
 /// Appends a finding for each table that a mapping of user mode may write: of the mapping whose frames end last among those that begin at
 /// the table or before it.
-fn writable_findings(
-    tables: &[Table],
-    held: &[Holding],
-    found: &mut Vec<Finding>,
-) -> Result<(), AllocError> {
+fn writable_findings(tables: &[Table], held: &[Holding], found: &mut Findings) {
     let (mut place, mut widest) = (0, None);
     for table in tables {
         (place, widest) = widest_up_to(held, place, table.number, widest);
         match widest {
             Some(holding) if holding.end > table.number => {
-                let finding = Finding::with(Reason::TableWritable, holding.subject, table.subject);
-                add(found, finding)?;
+                found.add(Finding::with(Reason::TableWritable, holding.subject, table.subject));
             }
             _ => {}
         }
     }
-    Ok(())
 }
 
 /// Appends findings for pages that are tables of two places, and for those that user mode may write.
@@ -177,10 +188,14 @@ pub fn table_findings(
     dump: &Dump<'_>,
     extensions: Extensions,
     spaces: &[Space],
-    found: &mut Vec<Finding>,
-) -> Result<(), AllocError> {
-    let tables = all_tables(alloc, extensions, spaces)?;
-    overlap_findings(dump, extensions, tables.as_slice(), found)?;
-    let held = held_frames(alloc, spaces, true)?;
-    writable_findings(tables.as_slice(), held.as_slice(), found)
+    found: &mut Findings,
+) {
+    let (Ok(tables), Ok(held)) = (
+        all_tables(alloc, extensions, spaces),
+        held_frames(alloc, spaces, true),
+    ) else {
+        return found.lose();
+    };
+    overlap_findings(dump, extensions, tables.as_slice(), found);
+    writable_findings(tables.as_slice(), held.as_slice(), found);
 }

@@ -5,6 +5,7 @@ use handouts::{Asked, Mark, grade_lines, lines_of, student_lines};
 use lab_variants::{Lab, seed_of};
 use std::alloc::{AllocError, Global};
 use std::test::Fail;
+use text_builder::Text;
 
 /// A handout of nine lines, two of which are alike, with four blanks.
 const HANDOUT: &str =
@@ -198,9 +199,9 @@ fn reason(alloc: Global, asked: &[Asked], text: &str) -> Result<Option<String>, 
     let (Some(reason), Some(asked)) = (reason, asked.get(blank.place)) else {
         return Ok(None);
     };
-    let mut words = String::new(alloc);
-    put_reason(&mut words, word_of(asked.line.bare.as_slice()), &reason)?;
-    Ok(Some(words))
+    let mut words = Text::new(alloc);
+    put_reason(&mut words, word_of(asked.line.bare.as_slice()), &reason);
+    Ok(Some(words.finish()?))
 }
 
 #[test]

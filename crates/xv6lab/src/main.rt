@@ -5,7 +5,8 @@
 mod stored_runs;
 
 use crate::stored_runs::try_runs;
-use lab::{Fault, Host, Screen, do_words};
+use lab::{Failures, Fault, Host, Screen, do_words};
+use std::fmt::Display;
 use std::io::Write;
 use std::process::ExitCode;
 use std::{env, io};
@@ -14,33 +15,44 @@ use std::{env, io};
 #[derive(Drop)]
 struct Console<'a> {
     rt: &'a HostRuntime,
+    failures: Failures,
 }
 
 impl Screen for Console<'_> {
-    ghost use Rattle.std.specs.Prelude.{⊤};
+    ghost use Rattle.std.specs.Prelude.{◌≡◌, true};
 
-    // what the system prints is its own
-    ghost whole = { λ console. ⊤ };
+    // what the system prints is its own; that it said so is noted
+    ghost whole = { λ console. console.failures.is_none ≡ true };
 
-    fn out(&mut self, text: &str) -> Result<(), Fault> {
-        match print!(self.rt; "{text}") {
-            Ok(()) => Ok(()),
-            Err(error) => Err(Fault::Io(error)),
+    fn out<D: Display + Drop>(&mut self, text: D) {
+        if self.failures.is_open() {
+            self.failures.note_printing(print!(self.rt; "{text}"));
         }
     }
 
-    fn out_bytes(&mut self, bytes: &[u8]) -> Result<(), Fault> {
-        match io::writer(self.rt).write_all(bytes) {
-            Ok(()) => Ok(()),
-            Err(error) => Err(Fault::Io(error)),
+    fn out_bytes(&mut self, bytes: &[u8]) {
+        if self.failures.is_open() {
+            self.failures
+                .note_printing(io::writer(self.rt).write_all(bytes));
         }
     }
 
-    fn err(&mut self, text: &str) -> Result<(), Fault> {
-        match eprint!(self.rt; "{text}") {
-            Ok(()) => Ok(()),
-            Err(error) => Err(Fault::Io(error)),
+    fn err<D: Display + Drop>(&mut self, text: D) {
+        if self.failures.is_open() {
+            self.failures.note_printing(eprint!(self.rt; "{text}"));
         }
+    }
+
+    fn fail(&mut self, fault: Fault) {
+        self.failures.note(fault);
+    }
+
+    fn take_failure(&mut self) -> Option<Fault> {
+        self.failures.take()
+    }
+
+    fn is_whole(&self) -> bool {
+        self.failures.is_none
     }
 }
 
@@ -64,7 +76,10 @@ fn done(rt: &HostRuntime, words: &[String]) -> ExitCode {
         alloc: rt.alloc(),
         input: Some(rt.reader()),
     };
-    let mut console = Console { rt };
+    let mut console = Console {
+        rt,
+        failures: Failures::none(),
+    };
     ExitCode::from(do_words(host, &mut console, words))
 }
 

@@ -5,37 +5,55 @@
 // these are the one line `repeat N TEXT`, that is N times the text, without a line feed. What it must print on standard output and on
 // standard error, one after the other, and its exit status, as a last line `status N`, is in `NAME.expect`.
 
-use lab::{Fault, Host, Screen, do_words};
+use lab::{Failures, Fault, Host, Screen, do_words};
 use std::alloc::{AllocError, Global};
+use std::fmt::Display;
 use std::{fs, io};
+use text_builder::Text;
 
 /// What a run printed.
 #[derive(Drop)]
 struct Record {
-    out: String,
-    err: String,
+    out: Text,
+    err: Text,
+    failures: Failures,
 }
 
 impl Screen for Record {
-    ghost use Rattle.std.specs.Prelude.{⊤};
+    ghost use Rattle.std.specs.Prelude.{◌≡◌, true};
 
-    ghost whole = { λ screen. ⊤ };
+    ghost whole = { λ screen. screen.failures.is_none ≡ true };
 
-    fn out(&mut self, text: &str) -> Result<(), Fault> {
-        self.out.push_str(text)?;
-        Ok(())
+    fn out<D: Display + Drop>(&mut self, text: D) {
+        if self.failures.is_open() {
+            self.out.write_fmt(text);
+        }
     }
 
     /// Records what is no text as U+FFFD.
-    fn out_bytes(&mut self, bytes: &[u8]) -> Result<(), Fault> {
-        let text = String::from_utf8_lossy(*self.out.allocator(), bytes)?;
-        self.out.push_str(text.as_str())?;
-        Ok(())
+    fn out_bytes(&mut self, bytes: &[u8]) {
+        match String::from_utf8_lossy(self.out.allocator(), bytes) {
+            Ok(text) => self.out(text.as_str()),
+            Err(_) => self.fail(Fault::Memory),
+        }
     }
 
-    fn err(&mut self, text: &str) -> Result<(), Fault> {
-        self.err.push_str(text)?;
-        Ok(())
+    fn err<D: Display + Drop>(&mut self, text: D) {
+        if self.failures.is_open() {
+            self.err.write_fmt(text);
+        }
+    }
+
+    fn fail(&mut self, fault: Fault) {
+        self.failures.note(fault);
+    }
+
+    fn take_failure(&mut self) -> Option<Fault> {
+        self.failures.take()
+    }
+
+    fn is_whole(&self) -> bool {
+        self.failures.is_none
     }
 }
 
@@ -111,14 +129,14 @@ fn printed(rt: &HostRuntime, run: &[u8]) -> Result<String, AllocError> {
         input: Some(input.as_slice()),
     };
     let mut record = Record {
-        out: String::new(alloc),
-        err: String::new(alloc),
+        out: Text::new(alloc),
+        err: Text::new(alloc),
+        failures: Failures::none(),
     };
     let status = do_words(host, &mut record, words.as_slice());
-    let mut text = record.out;
-    text.push_str(record.err.as_str())?;
-    writeln!(&mut text, "status {status}")?;
-    Ok(text)
+    let (mut text, err) = (record.out, record.err.finish()?);
+    write!(&mut text, "{err}status {status}\n");
+    text.finish()
 }
 
 /// Returns the number of the first line in which two texts differ, counted from 1.

@@ -5,15 +5,14 @@
 ghost use Rattle.hart_machine.specs.BufferEntries.{IsInWorld};
 ghost use Rattle.process_model.specs.World.{World};
 
-use crate::entries::entries_of;
 use crate::names::{LeafName, PageName, names_in, names_of};
 use crate::views::cells::CellRow;
 use hart_machine::Machine;
-use line_traces::frame_page;
+use line_traces::{entries_of, frame_page};
 use serde::Serialize;
 use std::alloc::{AllocError, Global};
 use sv39_entry::{Entry, FrameNo, Kind};
-use walk_lines::Hex;
+use walk_lines::{Hex, TableEntry};
 
 /// How many frames are listed, unless more are kept.
 const LISTED_FRAMES: usize = 256;
@@ -54,82 +53,99 @@ pub struct FramesView {
     pub kernel: usize,
 }
 
-/// Returns of each frame whether it is among those with some physical page numbers.
-fn flagged(alloc: Global, frames: usize, pages: &[u64]) -> Result<Vec<bool>, AllocError> {
-    let mut flags = Vec::new(alloc);
-    flags.resize(frames, false)?;
-    for ppn in pages {
-        if let Some(frame) = FrameNo::from_ppn(*ppn) {
-            if let Some(place) = flags.get_mut(frame.0 as usize) {
-                *place = true;
-            }
-        }
-    }
-    Ok(flags)
-}
-
-/// Returns of each frame whether there is a page in it.
-fn paged_frames(
-    alloc: Global,
-    frames: usize,
-    leaves: &[LeafName],
-) -> Result<Vec<bool>, AllocError> {
-    let mut pages = Vec::new(alloc);
-    for leaf in leaves {
-        pages.push(leaf.ppn)?;
-    }
-    flagged(alloc, frames, pages.as_slice())
-}
-
-/// Returns of each frame whether bytes of it are shown.
-fn touched_frames(alloc: Global, frames: usize, rows: &[CellRow]) -> Result<Vec<bool>, AllocError> {
-    let mut pages = Vec::new(alloc);
-    for row in rows {
-        pages.push(row.ppn.0)?;
-    }
-    flagged(alloc, frames, pages.as_slice())
-}
-
-/// Returns whether the flag in a place is set.
-fn is_set(flags: &[bool], place: usize) -> bool {
-    flags.get(place).copied().unwrap_or(false)
+/// What is known of a frame.
+#[derive(Clone, Copy)]
+struct Mark {
+    /// Whether there is a page in it.
+    paged: bool,
+    /// Whether it is listed however many there are.
+    kept: bool,
 }
 
 /// Which frames are listed.
 #[derive(Drop)]
 struct Choice {
-    /// Of each frame, whether there is a page in it, and whether it is listed however many there are.
-    paged: Vec<bool>,
-    kept: Vec<bool>,
-    /// How many others may still be listed.
+    /// Of each frame.
+    marks: Vec<Mark>,
+    /// How many frames have pages.
+    paged: usize,
+    /// How many others than those that are kept may still be listed.
     spare: usize,
 }
 
-impl Choice {
-    /// Returns the choice among frames with pages. Those with a flag in `touched` are kept, and of those with a flag in `shown` the ones
-    /// with two or more references.
-    fn of(
-        alloc: Global,
-        counts: &[u16],
-        paged: Vec<bool>,
-        touched: &[bool],
-        shown: &[bool],
-    ) -> Result<Choice, AllocError> {
-        let mut kept = Vec::new(alloc);
-        for (number, count) in counts.iter().enumerate() {
-            kept.push(is_set(touched, number) || *count > 1 && is_set(shown, number))?;
+/// Which frames are kept: those of which bytes are shown, and those of listed pages, by their physical page numbers.
+#[derive(Clone, Copy)]
+pub struct KeptFrames<'a> {
+    pub rows: &'a [CellRow],
+    pub pages: &'a [u64],
+}
+
+/// Marks a frame, by its physical page number, with what is set in `with`.
+fn set_mark(marks: &mut [Mark], ppn: u64, with: Mark) {
+    let Some(frame) = FrameNo::from_ppn(ppn) else {
+        return;
+    };
+    if let Some(place) = marks.get_mut(frame.0 as usize) {
+        place.paged = place.paged || with.paged;
+        place.kept = place.kept || with.kept;
+    }
+}
+
+/// Returns whether a frame, by its physical page number, has two or more references.
+fn is_shared(counts: &[u16], ppn: u64) -> bool {
+    let Some(frame) = FrameNo::from_ppn(ppn) else {
+        return false;
+    };
+    match counts.get(frame.0 as usize) {
+        Some(count) => *count > 1,
+        None => false,
+    }
+}
+
+/// Marks the frames that are kept. Of the frames of listed pages these are the ones with two or more references.
+fn mark_kept(marks: &mut [Mark], counts: &[u16], kept: KeptFrames<'_>) {
+    let with = Mark {
+        paged: false,
+        kept: true,
+    };
+    for row in kept.rows {
+        set_mark(marks, row.ppn.0, with);
+    }
+    for ppn in kept.pages {
+        if is_shared(counts, *ppn) {
+            set_mark(marks, *ppn, with);
         }
-        let spare = LISTED_FRAMES.saturating_sub(count_set(kept.as_slice()));
-        Ok(Choice { paged, kept, spare })
+    }
+}
+
+impl Choice {
+    /// Returns the choice of frames with these marks.
+    fn of(marks: Vec<Mark>) -> Choice {
+        let (mut paged, mut kept) = (0usize, 0usize);
+        for it in marks.as_slice() {
+            if it.paged {
+                paged = paged.saturating_add(1);
+            }
+            if it.kept {
+                kept = kept.saturating_add(1);
+            }
+        }
+        Choice {
+            marks,
+            paged,
+            spare: LISTED_FRAMES.saturating_sub(kept),
+        }
     }
 
     /// Returns whether a frame is listed, and counts it.
     fn takes(&mut self, number: usize) -> bool {
-        if !is_set(self.paged.as_slice(), number) {
-            return false;
-        }
-        if is_set(self.kept.as_slice(), number) {
-            return true;
+        match self.marks.get(number) {
+            Some(it) if it.paged => {
+                if it.kept {
+                    return true;
+                }
+            }
+            _ => return false,
         }
         let is_room = self.spare > 0;
         self.spare = self.spare.saturating_sub(1);
@@ -137,24 +153,28 @@ impl Choice {
     }
 }
 
-/// Returns how many page tables each process has.
-fn tables_of(alloc: Global, machine: &Machine) -> Result<Vec<TablesView>, AllocError>
-    requires world { (w : World) × IsInWorld machine.now w }
-{
-    let mut tables = Vec::new(alloc);
-    for slot in 0..machine.slot_count() {
-        if machine.root(slot).is_some() {
-            let mut count = 1usize;
-            let entries = entries_of(alloc, machine, slot)?;
-            for entry in entries.as_slice() {
-                if Entry::from_word(entry.word).kind() == Kind::Pointer {
-                    count = count.saturating_add(1);
-                }
-            }
-            tables.push(TablesView { slot, count })?;
-        }
+/// Returns the choice among the frames in which there are pages.
+fn choice_of(
+    alloc: Global,
+    counts: &[u16],
+    leaves: &[LeafName],
+    kept: KeptFrames<'_>,
+) -> Result<Choice, AllocError> {
+    let mut marks = Vec::new(alloc);
+    let unmarked = Mark {
+        paged: false,
+        kept: false,
+    };
+    marks.resize(counts.len(), unmarked)?;
+    for leaf in leaves {
+        let with = Mark {
+            paged: true,
+            kept: false,
+        };
+        set_mark(marks.as_mut_slice(), leaf.ppn, with);
     }
-    Ok(tables)
+    mark_kept(marks.as_mut_slice(), counts, kept);
+    Ok(Choice::of(marks))
 }
 
 /// Appends the frames that are chosen and have two or more references, or those that have one.
@@ -166,30 +186,55 @@ fn put_frames(
     leaves: &[LeafName],
     shared: bool,
 ) -> Result<(), AllocError> {
-    for (number, count) in counts.iter().enumerate() {
-        if (*count > 1) == shared && choice.takes(number) {
+    for number in 0..counts.len() {
+        let count = counts[number];
+        if (count > 1) == shared && choice.takes(number) {
             if let Some(ppn) = frame_page(number) {
                 let names = names_of(alloc, leaves, ppn.0)?;
-                frames.push(FrameView {
-                    ppn,
-                    count: *count,
-                    names,
-                })?;
+                frames.push(FrameView { ppn, count, names })?;
             }
         }
     }
     Ok(())
 }
 
-/// Returns how many flags are set.
-fn count_set(flags: &[bool]) -> usize {
+/// Returns the frames that are chosen, those with two or more references first.
+fn listed(
+    alloc: Global,
+    counts: &[u16],
+    leaves: &[LeafName],
+    choice: &mut Choice,
+) -> Result<Vec<FrameView>, AllocError> {
+    let mut frames = Vec::new(alloc);
+    put_frames(alloc, &mut frames, counts, choice, leaves, true)?;
+    put_frames(alloc, &mut frames, counts, choice, leaves, false)?;
+    Ok(frames)
+}
+
+/// Returns how many pointers are among some entries.
+fn count_pointers(entries: &[TableEntry]) -> usize {
     let mut count = 0usize;
-    for flag in flags {
-        if *flag {
+    for entry in entries {
+        if Entry::from_word(entry.word).kind() == Kind::Pointer {
             count = count.saturating_add(1);
         }
     }
     count
+}
+
+/// Returns how many page tables each process has.
+fn tables_of(alloc: Global, machine: &Machine) -> Result<Vec<TablesView>, AllocError>
+    requires world { (w : World) × IsInWorld machine.now w }
+{
+    let mut tables = Vec::new(alloc);
+    for slot in 0..machine.slot_count() {
+        if machine.root(slot).is_some() {
+            let entries = entries_of(alloc, machine, slot)?;
+            let count = count_pointers(entries.as_slice()).saturating_add(1);
+            tables.push(TablesView { slot, count })?;
+        }
+    }
+    Ok(tables)
 }
 
 /// Returns how many page tables all processes have.
@@ -199,32 +244,6 @@ fn count_tables(tables: &[TablesView]) -> usize {
         count = count.saturating_add(it.count);
     }
     count
-}
-
-/// Which frames are kept: those of which bytes are shown, and those of listed pages, by their physical page numbers.
-#[derive(Clone, Copy)]
-pub struct KeptFrames<'a> {
-    pub rows: &'a [CellRow],
-    pub pages: &'a [u64],
-}
-
-/// Returns the frames that are listed, those with two or more references first; and how many have pages.
-fn listed(
-    alloc: Global,
-    counts: &[u16],
-    leaves: &[LeafName],
-    kept: KeptFrames<'_>,
-) -> Result<(Vec<FrameView>, usize), AllocError> {
-    let all = counts.len();
-    let paged = paged_frames(alloc, all, leaves)?;
-    let many = count_set(paged.as_slice());
-    let touched = touched_frames(alloc, all, kept.rows)?;
-    let shown = flagged(alloc, all, kept.pages)?;
-    let mut choice = Choice::of(alloc, counts, paged, touched.as_slice(), shown.as_slice())?;
-    let mut frames = Vec::new(alloc);
-    put_frames(alloc, &mut frames, counts, &mut choice, leaves, true)?;
-    put_frames(alloc, &mut frames, counts, &mut choice, leaves, false)?;
-    Ok((frames, many))
 }
 
 impl FramesView {
@@ -240,8 +259,10 @@ impl FramesView {
         requires world { (w : World) × IsInWorld machine.now w }
     {
         let report = machine.report();
-        let leaves = names_in(alloc, machine)?;
-        let (frames, paged) = listed(alloc, machine.counts(), leaves.as_slice(), kept)?;
+        let (leaves, counts) = (names_in(alloc, machine)?, machine.counts());
+        let leaves = leaves.as_slice();
+        let mut choice = choice_of(alloc, counts, leaves, kept)?;
+        let frames = listed(alloc, counts, leaves, &mut choice)?;
         let tables = tables_of(alloc, machine)?;
         let with_tables = count_tables(tables.as_slice());
         Ok(FramesView {
@@ -249,12 +270,12 @@ impl FramesView {
             held: report.held,
             shared: report.shared,
             references: report.references,
-            more: paged.saturating_sub(frames.len()),
+            more: choice.paged.saturating_sub(frames.len()),
             frames,
             tables,
             kernel: report
                 .held
-                .saturating_sub(paged)
+                .saturating_sub(choice.paged)
                 .saturating_sub(with_tables),
         })
     }

@@ -4,11 +4,11 @@
 ghost use Rattle.hart_machine.specs.BufferEntries.{IsInWorld};
 ghost use Rattle.process_model.specs.World.{World};
 
-use crate::entries::{EntryView, entries_of};
+use crate::entries::EntryView;
 use crate::views::cells::{CellRow, shows_page};
 use address_space::Region;
 use hart_machine::Machine;
-use line_traces::RegionLine;
+use line_traces::{RegionLine, entries_of};
 use serde::Serialize;
 use std::alloc::{AllocError, Global};
 use sv39_entry::{Entry, Kind, Scheme};

@@ -2,9 +2,6 @@ use Rattle.line_player.specs.Answers.{HasPlayed}
 use Rattle.line_player.specs.PlayedLines.{Played}
 use Rattle.lab.proofs.play.each_line.Given as goal
 
--- the player has played some lines, and all was printed so far
+-- the player has played some lines
 abbrev pub invariant-lines : goal.invariant-lines
-invariant-lines g l = record {
-  played : (s : Played) × HasPlayed l.player s;
-  whole : g.S.Screen.whole l.fn.screen → g.S.Screen.whole l.screen;
-}
+invariant-lines g l = (s : Played) × HasPlayed l.player s

@@ -1,0 +1,231 @@
+// `Fence`: a fence that was executed; `Fences`: those since the history began, which say what each excludes.
+
+ghost use Rattle.std.specs.Prelude.{◌≤◌};
+
+use crate::telling::Telling;
+use crate::ways::{LEVELS, step_at};
+use access_judge::{Log, PastSatp, Step, Told, Way};
+use sv39_entry::{Entry, Kind, Va};
+use text_builder::Text;
+use walk_lines::Hex;
+use walk_rules::reach;
+
+/// After so many events the history begins anew.
+pub(crate) const MOST_EVENTS: usize = 65536;
+
+/// A fence that was executed.
+#[derive(Clone, Copy)]
+pub(crate) struct Fence {
+    pub line: u64,
+    /// How many events there were before it.
+    pub moment: usize,
+    pub va: Option<Va>,
+    pub asid: Option<u16>,
+    /// The ASID as the client wrote it: with bits that the hart has not.
+    pub written: Option<u16>,
+    /// The line of the last write of a PMP entry before it. 0: there was none.
+    pub pmp_line: u64,
+}
+
+impl Fence {
+    /// Whether rs2 is x0 or an ASID.
+    fn is_for(&self, asid: u16) -> bool {
+        match self.asid {
+            None => true,
+            Some(space) => space == asid,
+        }
+    }
+
+    /// Appends the fence as the client writes it, for example `the fence of line 7 (sfence 0x4000 3)`.
+    pub fn put(&self, out: &mut Text) {
+        let line = self.line;
+        write!(out, "the fence of line {line} (sfence");
+        match (self.va, self.written) {
+            (None, None) => {}
+            (None, Some(_)) => out.push_str(" -"),
+            (Some(va), _) => {
+                let va = Hex(va.0);
+                write!(out, " {va}")
+            }
+        }
+        if let Some(asid) = self.written {
+            write!(out, " {asid}");
+        }
+        out.push_str(")")
+    }
+}
+
+/// What a fence excludes on a way.
+#[derive(Clone, Copy)]
+pub(crate) enum Excluded {
+    /// The word of satp by which the walk begins.
+    Root,
+    /// A PTE, so that what comes after it on the way cannot be read.
+    Pte(Step),
+    /// PMP entries as they were.
+    Pmp,
+}
+
+/// The fences that were executed. `telling` is an access with the history without them.
+#[derive(Clone, Copy)]
+pub(crate) struct Fences<'a> {
+    pub list: &'a [Fence],
+}
+
+impl Fences<'_> {
+    /// Whether a leaf was stored in the place of a PTE after it and up to a fence.
+    fn became_leaf(&self, telling: &Telling<'_>, step: &Step, fence: &Fence) -> bool {
+        let (unit, mut moment) = (&telling.recorded.unit, step.last);
+        'changes: for _ in 0..MOST_EVENTS {
+            let Some(event) = unit.next_change(step.ppn, step.index, moment) else {
+                return false;
+            };
+            if event > fence.moment || event > unit.now() || step.index >= 512 {
+                return false;
+            }
+            if let Some(past) = unit.word_at(step.ppn, step.index, event) {
+                let entry = Entry::from_word(past.word);
+                if telling.extensions.kind(entry, step.level) == Kind::Leaf {
+                    return true;
+                }
+            }
+            moment = event;
+        }
+        false
+    }
+
+    /// Whether a fence covers a PTE that a walk under an ASID read before it (RISC-V Privileged Architecture 20211203, 4.2.1).
+    fn covers(&self, telling: &Telling<'_>, asid: u16, step: &Step, fence: &Fence) -> bool {
+        if step.level > 4 {
+            return false;
+        }
+        if fence.asid.is_some() && (step.global || !fence.is_for(asid)) {
+            return false;
+        }
+        let Some(address) = fence.va else {
+            return true;
+        };
+        let kind = telling.extensions.kind(step.entry, step.level);
+        let bits = if kind == Kind::Leaf {
+            reach(step.entry, step.level)
+        } else {
+            12 + 9 * step.level
+        };
+        if address.0 >> bits != telling.request.va.0 >> bits {
+            return false;
+        }
+        match kind {
+            Kind::Leaf => true,
+            Kind::Pointer => false,
+            Kind::Invalid => self.became_leaf(telling, step, fence),
+        }
+    }
+
+    /// How many fences there were up to a moment.
+    fn count_until(&self, moment: usize) -> usize {
+        let (mut low, mut high) = (0usize, self.list.len());
+        'halves: for _ in 0..64 {
+            if low >= high {
+                break;
+            }
+            let middle = low + (high - low) / 2;
+            match self.list.get(middle) {
+                Some(fence) if fence.moment <= moment => low = middle.saturating_add(1),
+                _ => high = middle,
+            }
+        }
+        low
+    }
+
+    /// The number of the first fence, from one on, that covers a PTE which a walk read before; how many there are, if none does.
+    fn covering(&self, telling: &Telling<'_>, asid: u16, step: &Step, from: usize) -> usize {
+        let count = self.list.len();
+        'fences: for number in from..count {
+            if let Some(fence) = self.list.get(number) {
+                if self.covers(telling, asid, step, fence) {
+                    return number;
+                }
+            }
+        }
+        count
+    }
+
+    /// The number of the first fence after which a walk may not begin by the satp of a way; how many there are, if there is none.
+    fn ending(&self, telling: &Telling<'_>, asid: u16, root: &PastSatp) -> usize {
+        let count = self.list.len();
+        if root.satp == telling.recorded.unit.satp() {
+            return count;
+        }
+        'fences: for number in self.count_until(root.last)..count {
+            if let Some(fence) = self.list.get(number) {
+                if fence.va.is_none() && fence.moment > root.last && fence.is_for(asid) {
+                    return number;
+                }
+            }
+        }
+        count
+    }
+
+    /// Whether a PTE of a way was there before a fence, or earlier.
+    fn was_before(&self, telling: &Telling<'_>, step: &Step, number: usize) -> bool {
+        match self.list.get(number) {
+            Some(fence) => {
+                telling
+                    .recorded
+                    .was_there(telling.extensions, step, fence.moment)
+            }
+            None => true,
+        }
+    }
+
+    /// The first fence that excludes a PTE of a way, or its root, so that the last PTE is not held: each PTE on the way is read as late as can be,
+    /// before a fence excludes what led to it. How many fences there are, if none does.
+    fn excluding(&self, telling: &Telling<'_>, way: &Way, root: &PastSatp) -> (usize, Excluded) {
+        let (asid, _) = telling.recorded.space_at(root.last);
+        let (mut number, mut what) = (self.ending(telling, asid, root), Excluded::Root);
+        'levels: for n in 0..LEVELS {
+            if let Some(step) = step_at(way, LEVELS - 1 - n) {
+                if !self.was_before(telling, &step, number) {
+                    return (number, what);
+                }
+                let from = number.min(self.count_until(step.last));
+                number = self.covering(telling, asid, &step, from);
+                what = Excluded::Pte(step);
+            }
+        }
+        (number, what)
+    }
+
+    /// The last fence of everything between which and the one before it a PMP entry was written; how many fences there are, if there is none.
+    fn ending_pmp(&self) -> usize {
+        let (mut found, mut line) = (self.list.len(), 0);
+        'fences: for number in 0..self.list.len() {
+            if let Some(fence) = self.list.get(number) {
+                if fence.va.is_none() && fence.asid.is_none() && fence.pmp_line != line {
+                    found = number;
+                    line = fence.pmp_line;
+                }
+            }
+        }
+        found
+    }
+
+    /// The first fence that excludes a way to an outcome, by its number, and what it excludes; `None` if none does.
+    pub fn first_excluding(&self, telling: &Telling<'_>, told: &Told) -> Option<(usize, Excluded)> {
+        let (number, what) = match &told.way.root {
+            Some(root) => self.excluding(telling, &told.way, root),
+            None => (self.list.len(), Excluded::Root),
+        };
+        if !telling.comes_to(&told.way, told.outcome) || !telling.may_read(&told.way) {
+            let ending = self.ending_pmp();
+            if ending <= number && ending < self.list.len() {
+                return Some((ending, Excluded::Pmp));
+            }
+        }
+        if number < self.list.len() {
+            Some((number, what))
+        } else {
+            None
+        }
+    }
+}
