@@ -12,7 +12,7 @@ the leaf so. A fence removes what its tags tell it to. Numbers are sections of t
 import collections
 
 from rules import ACCESS_FAULT, MISALIGNED, PAGE_FAULT, TYPES, Status, aged, allows, asid_of, effective, index_of, is_canonical, is_global
-from rules import is_locked, is_napot, kind_of, leads_to, pmp_permits, ppn_of, reach_of, root_of, top_of, updates
+from rules import is_locked, is_napot, kind_of, leads_to, pmp_permits, ppn_of, root_of, top_of, updates
 from rules import with_entry
 
 # A word with its tags. place: where the walk looks for it. leafed: since it was read, a leaf was stored there
@@ -94,8 +94,7 @@ class Hart:
             return False
         if va is None:
             return True
-        bits = reach_of(self.profile, entry.word, entry.level)
-        if va >> bits != entry.page << 12 + 9 * entry.level >> bits:
+        if va >> 12 + 9 * entry.level != entry.page:
             return False
         kind = kind_of(self.profile, entry.word, entry.level)
         return kind == "leaf" or (kind == "invalid" and (entry.leafed or self.profile.fence_invalid))

@@ -10,7 +10,7 @@ import re
 import sys
 
 from rules import ACCESS_FAULT, MISALIGNED, PAGE_FAULT, TYPES, Access, Profile, Status, aged, allows, asid_of, effective, index_of
-from rules import is_address_locked, is_canonical, is_global, is_locked, is_napot, kind_of, leads_to, of_parts, pmp_permits, ppn_of, reach_of
+from rules import is_address_locked, is_canonical, is_global, is_locked, is_napot, kind_of, leads_to, of_parts, pmp_permits, ppn_of
 from rules import root_of, top_of, updates, with_entry
 
 MODES = {"sv39": 8, "sv48": 9, "sv57": 10}
@@ -137,7 +137,7 @@ class Judge:
     def is_fenced(self, read, va):
         if not read.is_global and read.last < self.spaces[read.asid]:
             return True
-        kind, bits = kind_of(self.profile, read.word, read.level), reach_of(self.profile, read.word, read.level)
+        kind, bits = kind_of(self.profile, read.word, read.level), 12 + 9 * read.level
         for number, address, asid in self.addresses:
             if asid is not None and (read.is_global or asid != read.asid):
                 continue

@@ -81,19 +81,11 @@ ERRORS = [
     ("N is sound with each PPN", "rules.py", ("(level or ppn_of(word) & 15 != 8)", "level")),
     ("a NAPOT leaf serves for its own page alone", "judge.py", ("if self.profile.svnapot and stand.level == 0:", "if False:")),
     (
-        "a fence for an address removes a NAPOT leaf for its own page alone",
+        "a fence for an address removes a NAPOT leaf for all 16 pages",
         "judge.py",
         (
-            "kind, bits = kind_of(self.profile, read.word, read.level), reach_of(self.profile, read.word, read.level)",
-            "kind, bits = kind_of(self.profile, read.word, read.level), 12 + 9 * read.level",
-        ),
-    ),
-    (
-        "a PTE with V = 0 reaches over 64 KiB if it has N",
-        "judge.py",
-        (
-            "reach_of(self.profile, read.word, read.level)\n",
-            "16 if read.word >> 63 and read.level == 0 and ppn_of(read.word) & 15 == 8 else 12 + 9 * read.level\n",
+            "kind_of(self.profile, read.word, read.level), 12 + 9 * read.level\n",
+            "kind_of(self.profile, read.word, read.level), 16 if is_napot(self.profile, read.word, read.level) else 12 + 9 * read.level\n",
         ),
     ),
     ("PBMT 3 is granted", "rules.py", (" or pbmt == 3:", ":")),
@@ -256,10 +248,6 @@ PROGRAM = {
     "a NAPOT leaf serves for its own page alone": (
         "access_judge/src/search.rt",
         ("question.extensions.svnapot && table.level == 0", "question.extensions.svnapot && table.level == 5"),
-    ),
-    "a PTE with V = 0 reaches over 64 KiB if it has N": (
-        "access_judge/src/judge.rt",
-        ("Kind::Invalid | Kind::Pointer => 12 + 9 * step.level,", "Kind::Invalid | Kind::Pointer => reach(step.entry, step.level),"),
     ),
     "PBMT 3 is granted": ("walk_rules/src/extensions.rt", ("(pbmt != 0 && (!self.svpbmt || pbmt == 3))", "(pbmt != 0 && !self.svpbmt)")),
     "a fence of an ASID removes global PTEs": (

@@ -1,6 +1,5 @@
--- Lemmas of a word in which A, or A and D are set: it is a leaf as before, of the same reach, and as global as it was; and setting them twice is
--- setting them once.
-use Rattle.std.proofs.Common.{◌≡◌, ℕ, ◌+◌, ◌*◌, ◌/◌, ◌%◌, ◌^◌, ◌==◌, ◌&&◌, ◌||◌, Bool, true, false, not, bit_or, refl, sym, ◌∙◌, ap, ap₂, inl, inr, subst, arith, if◌then◌else◌}
+-- Lemmas of a word in which A, or A and D are set: it is a leaf as before, and as global as it was; and setting them twice is setting them once.
+use Rattle.std.proofs.Common.{◌≡◌, ℕ, ◌/◌, ◌%◌, ◌^◌, ◌==◌, ◌&&◌, ◌||◌, Bool, true, false, not, bit_or, refl, sym, ◌∙◌, ap, ap₂, inl, inr, subst, arith}
 use Rattle.std.proofs.lemmas.Bool.{cases_Bool, eq-eqb, eqb-true, or_cases, or_left, or_right}
 use Rattle.std.proofs.lemmas.Nat.{or_shr}
 use Rattle.std.proofs.lemmas.Nat.Bits.{bit_at_or, same_from_bits}
@@ -8,12 +7,11 @@ use Rattle.sv39_entry.specs.Address.{has}
 use Rattle.sv39_entry.specs.Word.{ppn}
 use Rattle.sv39_entry.specs.declared.access.Access.TheVariants as access
 use Rattle.sv39_entry.specs.declared.entry.Kind.TheVariants.{Leaf}
-use Rattle.walk_rules.specs.Addresses.{reach}
 use Rattle.walk_rules.specs.Kinds.{has_reserved, is_napot, kind_in, pbmt, pointer_kind, reserved_in_pointer}
 use Rattle.walk_rules.specs.Rights.{with_ad}
 use Rattle.walk_rules.specs.declared.extensions.Extensions.{Extensions}
 use Rattle.walk_rules.proofs.AdBits.{has_with_ad}
-use Rattle.access_history.specs.Held.{has_global, is_with_ad, reach_in}
+use Rattle.access_history.specs.Held.{has_global, is_with_ad}
 
 -- a word is another one, or that with A, or with A and D set
 data IsSetIn (w : ℕ) : ℕ → Type 0 where
@@ -140,9 +138,6 @@ module _ (w v : ℕ) (set : is_with_ad w v ≡ true) where
   pub global_still : has_global v ≡ has_global w
   global_still = ap₂ (λ (b c : Bool). b && c) bits.v0 bits.v5
 
-  pub reach_still : (level : ℕ) → reach level v ≡ reach level w
-  reach_still level = ap (λ (b : Bool). if b then 16 else 12 + 9 * level) (napot_still level)
-
   no_leaf_pointer : (level : ℕ) → pointer_kind level w ≡ Leaf → ⊥
   no_leaf_pointer level is = elim (cases_Bool (reserved_in_pointer w || level == 0)) [
     | inl reserved ↦ let bad = rw reserved at is in cc
@@ -160,7 +155,3 @@ module _ (w v : ℕ) (set : is_with_ad w v ≡ true) where
       | inl bad ↦ let is = rw bad at leaf in cc
       | inr good ↦ no_leaf_pointer level (rw (good, none) at leaf)
     ]
-
-  -- an address fence reaches it as before
-  pub reach_in_still : (x : Extensions) (level : ℕ) → kind_in x level w ≡ Leaf → reach_in x level v ≡ reach_in x level w
-  reach_in_still x level leaf = rw (leaf, leaf_still x level leaf) (reach_still level)

@@ -1,5 +1,5 @@
 -- Lemmas of a hart's update of A and D: memory has the word afterwards, so a walk may have read it then; and a fence covers the leaf as before.
-use Rattle.std.proofs.Common.{◌≡◌, ℕ, true, refl, sym, ◌∙◌, subst, inl, inr, List, ◌∷◌, Option, None, Some, ◌/◌, ◌^◌, ◌==◌, ◌&&◌}
+use Rattle.std.proofs.Common.{◌≡◌, ℕ, true, refl, sym, ◌∙◌, subst, inl, inr, List, ◌∷◌, Option, None, Some, ◌==◌, ◌&&◌}
 use Rattle.std.proofs.lemmas.Bool.{and_from, and_parts, eq-eqb}
 use Rattle.sv39_entry.specs.declared.entry.Kind.TheVariants.{Leaf}
 use Rattle.walk_rules.specs.Kinds.{kind_in}
@@ -8,7 +8,7 @@ use Rattle.access_history.specs.Held.{HadWord, IsCovered, IsInSpace, IsUpdate, R
 use Rattle.access_history.specs.History.{First, memory_at}
 use Rattle.access_history.specs.declared.event.Event.{Event}
 use Rattle.access_history.specs.declared.event.Event.TheVariants.{Store, WriteSatp, WritePmp, Fence}
-use Rattle.access_history.proofs.AdWords.{leaf_still, napot_still, reach_in_still, with_ad_again}
+use Rattle.access_history.proofs.AdWords.{leaf_still, napot_still, with_ad_again}
 
 module _ (x : Extensions) (f : First) (va : ℕ) (e : Event) (h : List Event) (r : Read) (w : ℕ) (is : IsUpdate x f va e h r w) where
   -- the word is that of the leaf, with A or D
@@ -50,14 +50,7 @@ module _ (x : Extensions) (f : First) (va : ℕ) (r : Read) (w : ℕ) (set : is_
   covered_still (WritePmp n v) k past since covered = covered
   covered_still (Fence None s) k past since covered = (space_still s covered.0, covered.1)
   covered_still (Fence (Some a) s) k past since covered =
-      let same = reach_in_still r.word w set x r.level leaf in (
-        space_still s covered.0,
-        (
-          covered.1.0,
-          subst (λ (n : ℕ). a.0 / 2 ^ n ≡ va / 2 ^ n) (sym same) covered.1.1,
-          inl (leaf_still r.word w set x r.level leaf),
-        ),
-      )
+      (space_still s covered.0, (covered.1.0, covered.1.1, inl (leaf_still r.word w set x r.level leaf)))
 
   pub covered_before : (d : Event) (k past since : List Event) → IsCovered x f va d k (with_word r w) since → IsCovered x f va d k r past
   covered_before (Store p i v) k past since covered = covered
@@ -65,5 +58,4 @@ module _ (x : Extensions) (f : First) (va : ℕ) (r : Read) (w : ℕ) (set : is_
   covered_before (WritePmp n v) k past since covered = covered
   covered_before (Fence None s) k past since covered = (space_before s covered.0, covered.1)
   covered_before (Fence (Some a) s) k past since covered =
-      let same = reach_in_still r.word w set x r.level leaf in
-      (space_before s covered.0, (covered.1.0, subst (λ (n : ℕ). a.0 / 2 ^ n ≡ va / 2 ^ n) same covered.1.1, inl leaf))
+      (space_before s covered.0, (covered.1.0, covered.1.1, inl leaf))

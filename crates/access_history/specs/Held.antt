@@ -8,9 +8,8 @@ use Rattle.sv39_entry.specs.Satp.{asid, root_ppn}
 use Rattle.sv39_entry.specs.Word.{ppn}
 use Rattle.sv39_entry.specs.declared.access.Access.TheVariants as access
 use Rattle.sv39_entry.specs.declared.address.Va.{Va}
-use Rattle.sv39_entry.specs.declared.entry.Kind.{Kind}
 use Rattle.sv39_entry.specs.declared.entry.Kind.TheVariants.{Invalid, Leaf, Pointer}
-use Rattle.walk_rules.specs.Addresses.{is_canonical, reach, top_of}
+use Rattle.walk_rules.specs.Addresses.{is_canonical, top_of}
 use Rattle.walk_rules.specs.Kinds.{is_napot, kind_in, may_update}
 use Rattle.walk_rules.specs.Pmp.{pmp_permits}
 use Rattle.walk_rules.specs.Rights.{with_ad}
@@ -50,22 +49,17 @@ BecameLeaf x f va h past r =
     (e : Event) × (k : List Event) × (w : ℕ) × IsPast h (e ∷ k) × IsPast k past
     × (memory_at f.memory (e ∷ k) r.table (vpn (page_of va) r.level) ≡ Some w) × (kind_in x r.level w ≡ Leaf)
 
--- how many low bits of an address a fence for it leaves alone: those of a page of the PTE's level, or 16 for a NAPOT leaf. An invalid PTE maps no
--- 64 KiB whatever its N and PPN are: if V = 0, all other bits are don't-cares (4.3.1)
-abbrev pub reach_of : Kind → ℕ → ℕ → ℕ
-reach_of Invalid level w = 12 + 9 * level
-reach_of Leaf level w = reach level w
-reach_of Pointer level w = 12 + 9 * level
+-- how many low bits of an address a fence for it leaves alone: those of a page or a superpage of the PTE's level. Of a NAPOT leaf too: each of its
+-- 16 pages may be cached alone, and has a PTE of its own, so only fences of all pages cover all (chapter 5)
+abbrev pub page_bits : ℕ → ℕ
+page_bits level = 12 + 9 * level
 
-abbrev pub reach_in : Extensions → ℕ → ℕ → ℕ
-reach_in x level w = reach_of (kind_in x level w) level w
-
--- rs1 = x0 covers PTEs of each address and level. With a valid address, a fence covers a leaf that maps it; and an invalid PTE for it, in whose
+-- rs1 = x0 covers PTEs of each address and level. With a valid address, a fence covers a leaf for its page or superpage; and an invalid PTE for it, in whose
 -- place a leaf was stored before the fence (own choice: 4.2.1 speaks of stores to leaf PTEs). It never covers a pointer
 abbrev pub IsInReach : Extensions → First → ℕ → Option Va → List Event → Read → List Event → Type 0
 IsInReach x f va None h r past = Unit {0}
 IsInReach x f va (Some a) h r past =
-    IsAddress (satp_at f.satp h) a.0 × (a.0 / 2 ^ reach_in x r.level r.word ≡ va / 2 ^ reach_in x r.level r.word)
+    IsAddress (satp_at f.satp h) a.0 × (a.0 / 2 ^ page_bits r.level ≡ va / 2 ^ page_bits r.level)
     × ((kind_in x r.level r.word ≡ Leaf) ⊎ ((kind_in x r.level r.word ≡ Invalid) × BecameLeaf x f va h past r))
 
 -- an event at a moment covers a read of a value of an earlier one: it orders that read before it and removes it from caches. Only fences do

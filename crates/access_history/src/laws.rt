@@ -3,10 +3,10 @@
 // cache keeps (`held_is_kept`). What a hart's update of A and D leaves as it was (`updates_keep_leaves`). Without extensions, kinds and rights are those of `sv39_entry` (`plain_kinds`, `plain_walks`). A worked
 // example (`stale_leaf_is_permitted`).
 
-ghost use Rattle.std.specs.Prelude.{◌&&◌, ◌*◌, ◌%◌, ◌^◌, ◌≡◌, ◌≢◌, ◌+◌, ◌-◌, ◌≤◌, false, ℕ, Bool, true, List, Option, None, Some, [], ◌∷◌};
+ghost use Rattle.std.specs.Prelude.{◌&&◌, ◌*◌, ◌/◌, ◌%◌, ◌^◌, ◌≡◌, ◌≢◌, ◌+◌, ◌-◌, ◌≤◌, false, ℕ, Bool, true, List, Option, None, Some, [], ◌∷◌};
 ghost use Rattle.access_history.specs.Examples.{example_fence, example_hart, example_load, example_past, example_store};
 ghost use Rattle.access_history.specs.Harts.{Kept, Runs, kept};
-ghost use Rattle.access_history.specs.Held.{IsCovered, IsHeld, MayPassRead, Read, has_global, is_with_ad, reach_in, read_of};
+ghost use Rattle.access_history.specs.Held.{IsCovered, IsHeld, MayPassRead, Read, has_global, is_with_ad, read_of};
 ghost use Rattle.access_history.specs.History.{First, memory_at, satp_at};
 ghost use Rattle.access_history.specs.Permits.{Permits};
 ghost use Rattle.access_history.specs.Walks.{IsWay, levels_above};
@@ -37,12 +37,14 @@ pub fn full_fence_forgets()
 {}
 
 /// What an event covers, a hart may hold right after it only if it was read anew (`forgets`). No fence with an address covers a pointer
-/// (`pointer`), and none with an ASID a global PTE (`global`).
+/// (`pointer`) or what serves another page or superpage, of a NAPOT leaf too (`page`), and none with an ASID a global PTE (`global`).
 pub fn fences_cover()
     ensures forgets { (x : Extensions) (f : First) (va : ℕ) (h past : List Event) (e : Event) (r : Read) → IsHeld x f va (e ∷ h) r past
         → IsCovered x f va e h r past → past ≡ e ∷ h }
     ensures pointer { (x : Extensions) (f : First) (va : ℕ) (h past : List Event) (a : Va) (s : Option ℕ) (r : Read)
         → IsCovered x f va (Fence (Some a) s) h r past → kind_in x r.level r.word ≢ Pointer }
+    ensures page { (x : Extensions) (f : First) (va : ℕ) (h past : List Event) (a : Va) (s : Option ℕ) (r : Read)
+        → IsCovered x f va (Fence (Some a) s) h r past → a.0 / 2 ^ (12 + 9 * r.level) ≡ va / 2 ^ (12 + 9 * r.level) }
     ensures global { (x : Extensions) (f : First) (va : ℕ) (h past : List Event) (a : Option Va) (s : ℕ) (r : Read)
         → IsCovered x f va (Fence a (Some s)) h r past → r.global ≡ false }
 {}
@@ -71,11 +73,9 @@ pub fn held_now_is_walk()
         → (global : Bool) × IsHeld x f va (Fence None None ∷ h) (read_of (top - k) table word (asid (satp_at f.satp h)) global) (Fence None None ∷ h) }
 {}
 
-/// With A, or with A and D set a leaf is one still (`leaf`), maps as much (`reach`), and is as global as it was (`global`): so a fence covers it as
-/// before.
+/// With A, or with A and D set a leaf is one still (`leaf`), and is as global as it was (`global`): so a fence covers it as before.
 pub fn updates_keep_leaves()
     ensures leaf { (x : Extensions) (level w v : ℕ) → is_with_ad w v ≡ true → kind_in x level w ≡ Leaf → kind_in x level v ≡ Leaf }
-    ensures reach { (x : Extensions) (level w v : ℕ) → is_with_ad w v ≡ true → kind_in x level w ≡ Leaf → reach_in x level v ≡ reach_in x level w }
     ensures global { (w v : ℕ) → is_with_ad w v ≡ true → has_global v ≡ has_global w }
 {}
 

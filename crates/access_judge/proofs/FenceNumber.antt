@@ -1,11 +1,10 @@
 -- How many bits fences leave alone, that the numbers of fences are moments, and that no fence covers a word that memory has now.
-use Rattle.std.proofs.Common.{◌≡◌, ◌≤◌, ℕ, suc, zero, List, [], ◌∷◌, Bool, true, false, Option, None, Some, ◌&&◌, ◌==◌, ◌+◌, ◌*◌, ◌^◌, ◌/◌, ◌||◌, length, nat_lt, not, refl, ap, ◌∙◌, if◌then◌else◌, inl, inr, arith}
-use Rattle.walk_rules.specs.Addresses.{reach, top_of}
-use Rattle.walk_rules.specs.Kinds.{is_napot, kind_in}
+use Rattle.std.proofs.Common.{◌≡◌, ◌≤◌, ℕ, suc, zero, List, [], ◌∷◌, Bool, true, false, Option, None, Some, ◌&&◌, ◌==◌, ◌^◌, ◌/◌, ◌||◌, length, nat_lt, not, refl, ap, ◌∙◌, if◌then◌else◌, inl, inr, arith}
+use Rattle.walk_rules.specs.Addresses.{top_of}
+use Rattle.walk_rules.specs.Kinds.{kind_in}
 use Rattle.walk_rules.specs.declared.extensions.Extensions.{Extensions}
-use Rattle.sv39_entry.specs.declared.entry.Kind.{Kind}
-use Rattle.sv39_entry.specs.declared.entry.Kind.TheVariants.{Invalid, Leaf, Pointer}
-use Rattle.access_history.specs.Held.{reach_in, reach_of}
+use Rattle.sv39_entry.specs.declared.entry.Kind.TheVariants.{Leaf}
+use Rattle.access_history.specs.Held.{page_bits}
 use Rattle.access_history.specs.History.{First, satp_at}
 use Rattle.access_history.specs.declared.event.Event.{Event}
 use Rattle.access_history.specs.declared.event.Event.TheVariants.{Store, WriteSatp, WritePmp, Fence}
@@ -14,28 +13,13 @@ use Rattle.access_judge.specs.Search.{Found, address_fence, became_leaf, is_addr
 use Rattle.access_judge.proofs.FenceNumbers.{space_fence_low}
 use Rattle.std.proofs.lemmas.Bool.Decides.{leb_tells}
 
-plain : (level : ℕ) → level ≤ 4 → IsReach (12 + 9 * level)
-plain zero low = inl refl
-plain (suc zero) low = inr (inr (inl refl))
-plain (suc (suc zero)) low = inr (inr (inr (inl refl)))
-plain (suc (suc (suc zero))) low = inr (inr (inr (inr (inl refl))))
-plain (suc (suc (suc (suc zero)))) low = inr (inr (inr (inr (inr refl))))
-plain (suc (suc (suc (suc (suc n))))) low = absurd (omega arith)
-
-either : (b : Bool) (m n : ℕ) → IsReach m → IsReach n → IsReach (if b then m else n)
-either true m n x y = x
-either false m n x y = y
-
-reaches_leaf : (level w : ℕ) → level ≤ 4 → IsReach (reach level w)
-reaches_leaf level w low = either (is_napot level w) 16 (12 + 9 * level) (inr (inl refl)) (plain level low)
-
-reaches_of : (k : Kind) (level w : ℕ) → level ≤ 4 → IsReach (reach_of k level w)
-reaches_of Invalid level w low = plain level low
-reaches_of Leaf level w low = reaches_leaf level w low
-reaches_of Pointer level w low = plain level low
-
-pub reaches : (x : Extensions) (level w : ℕ) → level ≤ 4 → IsReach (reach_in x level w)
-reaches x level w low = reaches_of (kind_in x level w) level w low
+pub reaches : (level : ℕ) → level ≤ 4 → IsReach (page_bits level)
+reaches zero low = inl refl
+reaches (suc zero) low = inr (inl refl)
+reaches (suc (suc zero)) low = inr (inr (inl refl))
+reaches (suc (suc (suc zero))) low = inr (inr (inr (inl refl)))
+reaches (suc (suc (suc (suc zero)))) low = inr (inr (inr (inr refl)))
+reaches (suc (suc (suc (suc (suc n))))) low = absurd (omega arith)
 
 most : (b : Bool) (m n k : ℕ) → m ≤ k → n ≤ k → (if b then m else n) ≤ k
 most true m n k x y = x
@@ -60,8 +44,8 @@ neither a b true p first second = ap (λ (t : Bool). (t && p) || b) first ∙ se
 
 pub not_fenced_now : (x : Extensions) (f : First) (h : List Event) (va : ℕ) (c : Found) → length h ≤ c.last → is_fenced x f h va c ≡ false
 not_fenced_now x f h va c now =
-    let number = address_fence f.satp h (reach_in x c.read.level c.read.word) va (space_of c.read) in
-    let address = fence_in_past f.satp h (reach_in x c.read.level c.read.word) va (space_of c.read) in
+    let number = address_fence f.satp h (page_bits c.read.level) va (space_of c.read) in
+    let address = fence_in_past f.satp h (page_bits c.read.level) va (space_of c.read) in
     let space = space_fence_low h c.read.asid in
     neither (nat_lt c.last number) (nat_lt c.last (space_fence h c.read.asid)) (not c.read.global)
     (is_kind (kind_in x c.read.level c.read.word) Leaf || became_leaf x f h va c number)

@@ -5,12 +5,11 @@ use Rattle.std.proofs.lemmas.Bool.{and_from, and_parts, lt-ltb}
 use Rattle.std.proofs.lemmas.Bool.Decides.{nat_tests}
 use Rattle.std.proofs.lemmas.List.{append-nil}
 use Rattle.sv39_entry.specs.Address.{page_of, vpn}
-use Rattle.sv39_entry.specs.declared.entry.Kind.{Kind}
-use Rattle.sv39_entry.specs.declared.entry.Kind.TheVariants.{Invalid, Leaf, Pointer}
+use Rattle.sv39_entry.specs.declared.entry.Kind.TheVariants.{Leaf, Pointer}
 use Rattle.walk_rules.specs.Addresses.{top_of}
-use Rattle.walk_rules.specs.Kinds.{is_napot, kind_in}
+use Rattle.walk_rules.specs.Kinds.{kind_in}
 use Rattle.walk_rules.specs.declared.extensions.Extensions.{Extensions}
-use Rattle.access_history.specs.Held.{reach_in, reach_of}
+use Rattle.access_history.specs.Held.{page_bits}
 use Rattle.access_history.specs.History.{First, satp_at}
 use Rattle.access_history.specs.Permits.{Past}
 use Rattle.access_history.specs.declared.event.Event.{Event}
@@ -66,26 +65,17 @@ fence_later satp (Fence (Some a) s ∷ h) bits va space wide =
     if_later _ _ (suc (length h)) (address_fence satp h 12 va None) (address_fence satp h bits va space)
     (covers (is_address_under (top_of (satp_at satp h)) a.0) a.0 bits va s space (wide a.0)) (fence_later satp h bits va space wide) (omega (arith, up))
 
--- ---- the reach of a PTE in a last table
+-- ---- a fence for a page of a last table
 
-wide_16 : (a va : ℕ) → a / 2 ^ 12 ≡ va / 2 ^ 12 → a / 2 ^ 16 ≡ va / 2 ^ 16
-wide_16 a va same = omega (arith, same)
-
-wide_if : (b : Bool) (va a : ℕ) → a / 2 ^ 12 ≡ va / 2 ^ 12 → a / 2 ^ (if b then 16 else 12) ≡ va / 2 ^ (if b then 16 else 12)
-wide_if true va a same = wide_16 a va same
-wide_if false va a same = same
-
-wide_of : (k : Kind) (level w va : ℕ) → level ≡ 0 → (a : ℕ) → a / 2 ^ 12 ≡ va / 2 ^ 12 → a / 2 ^ reach_of k level w ≡ va / 2 ^ reach_of k level w
-wide_of Invalid zero w va low a same = same
-wide_of Leaf zero w va low a same = wide_if (is_napot 0 w) va a same
-wide_of Pointer zero w va low a same = same
-wide_of k (suc level) w va low a same = absurd (omega (arith, low))
+at_page : (level va : ℕ) → level ≡ 0 → (a : ℕ) → a / 2 ^ 12 ≡ va / 2 ^ 12 → a / 2 ^ page_bits level ≡ va / 2 ^ page_bits level
+at_page zero va low a same = same
+at_page (suc level) va low a same = absurd (omega (arith, low))
 
 -- ---- an older word is fenced
 
 module _ (x : Extensions) (f : First) (h : List Event) (va : ℕ) where
   abbrev number_of : Found → ℕ
-  number_of c = address_fence f.satp h (reach_in x c.read.level c.read.word) va (space_of c.read)
+  number_of c = address_fence f.satp h (page_bits c.read.level) va (space_of c.read)
 
   became : (c : Found) (v : Version) (number : ℕ) → c.read.level ≡ 0 → v.last < number → number ≤ length h → c.last < v.last → v.last ≤ length h
       → Contains (versions f.memory (until h v.last) c.read.table (vpn (page_of va) 0)) v → is_kind (kind_in x 0 v.word) Leaf ≡ true
@@ -112,9 +102,9 @@ module _ (x : Extensions) (f : First) (h : List Event) (va : ℕ) where
       → Contains (versions f.memory (until h v.last) c.read.table (vpn (page_of va) 0)) v → is_kind (kind_in x 0 v.word) Leaf ≡ true
       → is_fenced x f h va c ≡ true
   older_fenced c v level late old has leaf =
-      let reach = reach_in x c.read.level c.read.word in
-      let up = fence_later f.satp h reach va (space_of c.read) (wide_of (kind_in x c.read.level c.read.word) c.read.level c.read.word va level) in
-      let high = fence_in_past f.satp h reach va (space_of c.read) in
+      let bits = page_bits c.read.level in
+      let up = fence_later f.satp h bits va (space_of c.read) (at_page c.read.level va level) in
+      let high = fence_in_past f.satp h bits va (space_of c.read) in
       let low : v.last < number_of c = omega (arith, late, up) in
       let is : (is_kind (kind_in x c.read.level c.read.word) Leaf ≡ true) ⊎ (became_leaf x f h va c (number_of c) ≡ true) =
       elim (leaf_or_invalid (kind_in x c.read.level c.read.word) (no_pointer_low x c.read.level c.read.word level)) [

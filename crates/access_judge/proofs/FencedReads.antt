@@ -1,12 +1,12 @@
 -- Lemmas of the test for fences: it passes a PTE that is no pointer exactly if no fence since the moment of its word covers it.
-use Rattle.std.proofs.Common.{◌≡◌, ◌≢◌, ◌⊎◌, ℕ, suc, ◌-◌, ◌/◌, ◌^◌, ◌<◌, ◌≤◌, ◌&&◌, ◌||◌, not, nat_lt, Bool, true, false, List, [], ◌∷◌, length, sym, ◌∙◌, ap, ap₂, subst, inl, inr, arith, Option, Some, None}
+use Rattle.std.proofs.Common.{◌≡◌, ◌≢◌, ◌⊎◌, ℕ, suc, ◌-◌, ◌/◌, ◌^◌, ◌<◌, ◌≤◌, ◌&&◌, ◌||◌, not, nat_lt, Bool, true, false, List, [], ◌∷◌, length, sym, ◌∙◌, ap, subst, inl, inr, arith, Option, Some, None}
 use Rattle.std.proofs.lemmas.Bool.{and_parts, and_from, and_cases, both_ways, false_from_ne_true, lt-ltb, ltb-true, not-true, or_cases, or_from, or_parts}
 use Rattle.sv39_entry.specs.Address.{page_of, vpn}
 use Rattle.sv39_entry.specs.declared.entry.Kind.TheVariants.{Invalid, Leaf, Pointer}
 use Rattle.walk_rules.specs.Addresses.{top_of}
 use Rattle.walk_rules.specs.Kinds.{kind_in}
 use Rattle.walk_rules.specs.declared.extensions.Extensions.{Extensions}
-use Rattle.access_history.specs.Held.{BecameLeaf, IsCovered, IsInSpace, IsKept, Read, reach_in}
+use Rattle.access_history.specs.Held.{BecameLeaf, IsCovered, IsInSpace, IsKept, Read, page_bits}
 use Rattle.access_history.specs.History.{First, IsPast, memory_at, now, older, satp_at}
 use Rattle.access_history.specs.declared.event.Event.{Event}
 use Rattle.access_history.specs.declared.event.Event.TheVariants.{Store, WriteSatp, WritePmp, Fence}
@@ -21,7 +21,7 @@ use Rattle.access_judge.proofs.WordVersions.{version_had, version_of}
 
 module _ (x : Extensions) (f : First) (h : List Event) (va : ℕ) (un : IsUnfenced h) where
   abbrev number_of : Found → ℕ
-  number_of c = address_fence f.satp h (reach_in x c.read.level c.read.word) va (space_of c.read)
+  number_of c = address_fence f.satp h (page_bits c.read.level) va (space_of c.read)
 
   abbrev leaf_after : Found → Version → Bool
   leaf_after c v = nat_lt c.last v.last && is_kind (kind_in x c.read.level v.word) Leaf
@@ -60,10 +60,10 @@ module _ (x : Extensions) (f : First) (h : List Event) (va : ℕ) (un : IsUnfenc
       both_ways _ parts.1 (and_from (not c.read.global) (nat_lt c.last (space_fence h c.read.asid)) (ap not covered.0.1) later)
   unfenced_uncovered c low passed (Fence (Some a) s) k at since covered =
       let parts = or_parts (is_fenced_by x f h va c (number_of c)) (not c.read.global && nat_lt c.last (space_fence h c.read.asid)) passed in
-      let reaches : Reaches f.satp k (reach_in x c.read.level c.read.word) va (space_of c.read) a s =
+      let reaches : Reaches f.satp k (page_bits c.read.level) va (space_of c.read) a s =
       (under_address (top_of (satp_at f.satp k)) a.0 covered.1.0, covered.1.1, space_in s c.read covered.0) in
-      let fence = address_fenced f.satp h k (reach_in x c.read.level c.read.word) va (space_of c.read) a s at reaches in
-      let high = address_fence_low f.satp h (reach_in x c.read.level c.read.word) va (space_of c.read) in
+      let fence = address_fenced f.satp h k (page_bits c.read.level) va (space_of c.read) a s at reaches in
+      let high = address_fence_low f.satp h (page_bits c.read.level) va (space_of c.read) in
       let long = past_length k (until h c.last) since in
       let number = until_length h c.last low in
       let later = lt-ltb c.last (number_of c) (omega (arith, fence, long, number)) in
@@ -108,7 +108,7 @@ module _ (x : Extensions) (f : First) (h : List Event) (va : ℕ) (un : IsUnfenc
   fenced_covered c r past alike late was kind fenced =
       let parts = and_parts (nat_lt c.last (number_of c)) (is_kind (kind_in x c.read.level c.read.word) Leaf || became_leaf x f h va c (number_of c)) fenced in
       let later = ltb-true c.last (number_of c) parts.0 in
-      let fence = address_fence_is f.satp h (reach_in x c.read.level c.read.word) va (space_of c.read) (omega (arith, later)) in
+      let fence = address_fence_is f.satp h (page_bits c.read.level) va (space_of c.read) (omega (arith, later)) in
       let a = fence.0 in
       let s = fence.1 in
       let k = fence.2 in
@@ -117,8 +117,8 @@ module _ (x : Extensions) (f : First) (h : List Event) (va : ℕ) (un : IsUnfenc
       let reaches = fence.5 in
       let earlier = past_trans h (Fence (Some a) s ∷ k) k at (older now) in
       let since = past_between h k past earlier was (omega (arith, later, number, late)) in
-      let reach_there : reach_in x c.read.level c.read.word ≡ reach_in x r.level r.word = ap₂ (reach_in x) alike.level alike.word in
-      let shift = subst (λ (n : ℕ). a.0 / 2 ^ n ≡ va / 2 ^ n) reach_there reaches.1 in (
+      let bits_there : page_bits c.read.level ≡ page_bits r.level = ap page_bits alike.level in
+      let shift = subst (λ (n : ℕ). a.0 / 2 ^ n ≡ va / 2 ^ n) bits_there reaches.1 in (
         Fence (Some a) s,
         k,
         at,

@@ -24,4 +24,4 @@ IsPastWord p table index moment (Some v) =
 
 -- how many low bits a PTE leaves alone
 abbrev pub IsReach : ℕ → Type 0
-IsReach bits = (bits ≡ 12) ⊎ (bits ≡ 16) ⊎ (bits ≡ 21) ⊎ (bits ≡ 30) ⊎ (bits ≡ 39) ⊎ (bits ≡ 48)
+IsReach bits = (bits ≡ 12) ⊎ (bits ≡ 21) ⊎ (bits ≡ 30) ⊎ (bits ≡ 39) ⊎ (bits ≡ 48)

@@ -22,7 +22,7 @@ use Rattle.walk_rules.specs.declared.memory_type.MemoryType.TheVariants.{Pma}
 use Rattle.walk_rules.specs.declared.pmp.PmpEntry.{PmpEntry}
 use Rattle.walk_rules.specs.declared.status.Privilege.{Privilege}
 use Rattle.walk_rules.specs.declared.status.Privilege.TheVariants as privilege
-use Rattle.access_history.specs.Held.{Read, has_global, reach_in, read_of, sets_ad, with_word}
+use Rattle.access_history.specs.Held.{Read, has_global, page_bits, read_of, sets_ad, with_word}
 use Rattle.access_history.specs.History.{First, Memory, pmp_at, pmps_at, satp_at}
 use Rattle.access_history.specs.Permits.{Past, Permits, index_of, is_there, memory_of, mode_of, place, privilege_of, satp_of, update}
 use Rattle.access_history.specs.declared.event.Event.{Event}
@@ -258,7 +258,7 @@ is_fenced_by x f h va c number =
 
 abbrev pub is_fenced : Extensions → First → List Event → ℕ → Found → Bool
 is_fenced x f h va c =
-    is_fenced_by x f h va c (address_fence f.satp h (reach_in x c.read.level c.read.word) va (space_of c.read))
+    is_fenced_by x f h va c (address_fence f.satp h (page_bits c.read.level) va (space_of c.read))
     || (not c.read.global && nat_lt c.last (space_fence h c.read.asid))
 
 -- a PTE serves under satp as it is: its level is one of the present MODE, under which the address is canonical, and it is of the present ASID or global

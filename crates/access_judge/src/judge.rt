@@ -2,7 +2,7 @@
 
 ghost use Rattle.std.specs.Prelude.{◌≡◌, ◌<◌, ◌≤◌, ◌&&◌, length, nat_lt, not};
 ghost use Rattle.sv39_entry.specs.declared.entry.Kind.TheVariants.{Leaf};
-ghost use Rattle.access_history.specs.Held.{reach_in};
+ghost use Rattle.access_history.specs.Held.{page_bits};
 ghost use Rattle.walk_rules.specs.Kinds.{is_napot, kind_in};
 ghost use Rattle.access_judge.specs.Judging.{IsStep, found_of, item_says};
 ghost use Rattle.access_judge.specs.Search.{address_fence, became_leaf, ended, is_fenced, is_fenced_by, is_kind, is_of_now, space_fence, space_of};
@@ -59,27 +59,15 @@ fn space_of(step: &Step) -> Option<u16>
     if step.global { None } else { Some(step.asid) }
 }
 
-/// Returns how many low bits of an address a fence leaves alone for an entry.
-fn reach_in(question: &Question, step: &Step) -> u32
-    requires { step.now.level ≤ 4 }
-    ensures { result ≡ reach_in question.now.extensions step.now.level step.now.entry }
-{
-    match question.extensions.kind(step.entry, step.level) {
-        Kind::Leaf => reach(step.entry, step.level),
-        Kind::Invalid | Kind::Pointer => 12 + 9 * step.level,
-    }
-}
-
-/// Returns the number of the last fence with an address that has an entry in its reach. 0: there was none.
+/// Returns the number of the last fence with an address in the page or the superpage of an entry's level. 0: there was none.
 #[tactic(auto, using(crate::proofs::FenceNumber::reaches, crate::proofs::FenceNumber::fence_in_past))]
 fn last_fence<L: Log>(log: &L, question: &Question, step: &Step) -> usize
     requires { step.now.level ≤ 4 }
     ensures value { result ≡ address_fence (L.past log.now).first.satp (L.past log.now).events
-        (reach_in question.now.extensions step.now.level step.now.entry) question.now.request.va.0 (space_of (found_of step.now).read) }
+        (page_bits step.now.level) question.now.request.va.0 (space_of (found_of step.now).read) }
     ensures in_past { result ≤ length (L.past log.now).events }
 {
-    let bits = reach_in(question, step);
-    log.address_fence(bits, question.request.va, space_of(step))
+    log.address_fence(12 + 9 * step.level, question.request.va, space_of(step))
 }
 
 /// Whether a fence of its ASID covers an entry since it was read.

@@ -1,11 +1,10 @@
 -- Lemmas of one page table entry without Svnapot and Svpbmt: a leaf is one at each level; it has none of bits 63 to 54; and V is set.
-use Rattle.std.proofs.Common.{◌≡◌, ◌≢◌, ℕ, zero, suc, ◌+◌, ◌*◌, ◌/◌, ◌%◌, ◌^◌, ◌==◌, ◌&&◌, ◌||◌, not, Bool, true, false, refl, sym, ◌∙◌, arith, inl, inr, Some, if◌then◌else◌}
+use Rattle.std.proofs.Common.{◌≡◌, ◌≢◌, ℕ, zero, suc, ◌/◌, ◌%◌, ◌^◌, ◌==◌, ◌&&◌, ◌||◌, not, Bool, true, false, refl, sym, ◌∙◌, arith, inl, inr, Some, if◌then◌else◌}
 use Rattle.std.proofs.lemmas.Bool.{cases_Bool, cases_eq, eq-eqb, false≢true, ne_eqb}
 use Rattle.sv39_entry.specs.Address.{has}
 use Rattle.sv39_entry.specs.Word.{kind_of, ppn}
 use Rattle.sv39_entry.specs.declared.entry.Kind.{Kind}
 use Rattle.sv39_entry.specs.declared.entry.Kind.TheVariants.{Invalid, Leaf, Pointer}
-use Rattle.walk_rules.specs.Addresses.{reach}
 use Rattle.walk_rules.specs.Kinds.{has_reserved, kind_in, memory_type, pbmt, reserved_in_pointer}
 use Rattle.walk_rules.specs.declared.extensions.Extensions.{Extensions}
 use Rattle.walk_rules.specs.declared.memory_type.MemoryType.TheVariants.{Pma}
@@ -24,9 +23,6 @@ leaf_clear w leaf = upper_clear w (λ other. let same : Leaf ≡ Invalid = sym l
 
 pub no_napot : (w : ℕ) → w / 2 ^ 54 ≡ 0 → has w 63 ≡ false
 no_napot w clear = ne_eqb (w / 2 ^ 63 % 2) 1 (omega (arith, clear))
-
-pub plain_reach : (level w : ℕ) → w / 2 ^ 54 ≡ 0 → reach level w ≡ 12 + 9 * level
-plain_reach level w clear = let none = no_napot w clear in rw none refl
 
 pub plain_type : (w : ℕ) → w / 2 ^ 54 ≡ 0 → memory_type w ≡ Some Pma
 plain_type w clear = rw (eq-eqb (w / 2 ^ 61 % 4) 0 (omega (arith, clear))) refl

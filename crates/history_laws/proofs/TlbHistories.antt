@@ -12,7 +12,6 @@ use Rattle.sv39_entry.specs.Schemes.{is_canonical, of_scheme, top_level}
 use Rattle.sv39_entry.specs.Word.{permits}
 use Rattle.sv39_entry.specs.declared.access.Mode.{Mode}
 use Rattle.sv39_entry.specs.declared.address.Va.{Va}
-use Rattle.sv39_entry.specs.declared.entry.Kind.{Kind}
 use Rattle.sv39_entry.specs.declared.entry.Kind.TheVariants.{Invalid, Leaf, Pointer}
 use Rattle.sv39_entry.specs.declared.scheme.Scheme.{Scheme}
 use Rattle.table_walk.specs.Leaves as leaves
@@ -21,10 +20,9 @@ use Rattle.table_walk.specs.Memory.{Memory, has_byte, physical_address}
 use Rattle.table_walk.specs.Walk.{Finds}
 use Rattle.table_walk.specs.declared.walk.Found.TheVariants as found
 use Rattle.table_walk.proofs.Ways.{by_marks, marked_on}
-use Rattle.walk_rules.specs.Addresses.{reach}
 use Rattle.walk_rules.specs.Kinds.{kind_in}
 use Rattle.walk_rules.specs.declared.extensions.Extensions.{Extensions}
-use Rattle.access_history.specs.Held.{IsCovered, IsHeld, IsInReach, IsInSpace, Read, has_global, reach_in, reach_of, read_of}
+use Rattle.access_history.specs.Held.{IsCovered, IsHeld, IsInReach, IsInSpace, Read, has_global, page_bits, read_of}
 use Rattle.access_history.specs.Held as held
 use Rattle.access_history.specs.History.{First, memory_at, satp_at}
 use Rattle.access_history.specs.Permits.{Past, Permits, Serves, memory_of, not_canonical, satp_of}
@@ -38,7 +36,7 @@ use Rattle.hart_tlb.specs.declared.entry.TlbEntry.{TlbEntry}
 use Rattle.hart_tlb.proofs.Pages.{byte_on_page, finds_on_page}
 use Rattle.history_laws.specs.PlainWalks.{IsPlain, extent_of, outcome_of}
 use Rattle.history_laws.specs.TlbEntries.{IsFilled, Remains, TlbRuns, evicts, filled, fills, happens, removes, starts, stays}
-use Rattle.history_laws.proofs.PlainEntries.{leaf_clear, of_leaf, plain_reach, valid_v}
+use Rattle.history_laws.proofs.PlainEntries.{of_leaf, valid_v}
 use Rattle.history_laws.proofs.PlainOutcomes.{end_of}
 use Rattle.history_laws.proofs.PlainReads.{held_level, same_canonical, top_is, valid_global}
 use Rattle.history_laws.proofs.PlainServing.{end_faults, is_denied, is_granted, left_of, right_of}
@@ -57,7 +55,6 @@ covers_same (suc (suc (suc (suc n)))) va page low is = absurd (omega (arith, low
 pub record IsLeafOf (leaf : leaves.Leaf) (r : Read) : Type 0 where
   pub level : leaf.level ≡ r.level
   pub low : leaf.level ≤ 3
-  pub reaches : reach r.level r.word ≡ 12 + 9 * r.level
 
 abbrev LeafIs : Option leaves.Leaf → Read → Type 0
 LeafIs None r = Unit {0}
@@ -75,18 +72,12 @@ in_space : (e : TlbEntry) (r : Read) (space : Option ℕ) → r.asid ≡ e.asid 
 in_space e r None same global is = refl
 in_space e r (Some n) same global is = and_from (e.asid == n) (not e.global) (eq-eqb e.asid n (sym same ∙ is.0)) (not_from_false e.global (global is.1))
 
-plain_reach_of : (kind : Kind) (level w : ℕ) → reach level w ≡ 12 + 9 * level → reach_of kind level w ≡ 12 + 9 * level
-plain_reach_of Invalid level w plain = refl
-plain_reach_of Leaf level w plain = plain
-plain_reach_of Pointer level w plain = refl
-
 in_reach : (x : Extensions) (f : First) (va : ℕ) (h past : List Event) (r : Read) (page : ℕ) (a : Option Va) (leaf : Option leaves.Leaf) → page ≡ page_of va
     → LeafIs leaf r → IsInReach x f va a h r past → is_in_reach a page leaf ≡ true
 in_reach x f va h past r page None leaf same of is = refl
 in_reach x f va h past r page (Some a) None same of is = refl
 in_reach x f va h past r page (Some a) (Some leaf) same of is =
-    let plain = plain_reach_of (kind_in x r.level r.word) r.level r.word of.reaches in
-    let bits : reach_in x r.level r.word ≡ 12 + 9 * leaf.level = plain ∙ ap (λ (n : ℕ). 12 + 9 * n) (sym of.level) in
+    let bits : page_bits r.level ≡ 12 + 9 * leaf.level = ap page_bits (sym of.level) in
     let agree = subst (λ (n : ℕ). a.0 / 2 ^ n ≡ va / 2 ^ n) bits is.1 in
     eq-eqb (page * 4096 / 2 ^ (12 + 9 * leaf.level)) (a.0 / 2 ^ (12 + 9 * leaf.level)) (covers_same leaf.level va page of.low same ∙ sym agree)
 
@@ -209,7 +200,7 @@ module _ (x : Extensions) (p : Past) (q : Request) (mode : Mode) (s : Scheme) (p
               absurd (false≢true (sym clear ∙ same ∙ wide.1 (finds.1.0 set)))
         ];
         leaf = subst (λ (l : Option leaves.Leaf). LeafIs l r) (sym is)
-            (record { level = refl; low = omega (arith, low, levels); reaches = plain_reach leaf.level leaf.word (leaf_clear leaf.word maps.kind) });
+            (record { level = refl; low = omega (arith, low, levels) });
       } in
       let serves = serves_still r made canonical low was.1
       (λ pointer. let bad : Leaf ≡ Pointer = sym (of_leaf x plain.hart.napot plain.hart.pbmt leaf.level leaf.word maps.kind) ∙ pointer in cc) in

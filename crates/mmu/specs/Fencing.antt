@@ -23,7 +23,7 @@ of_key f bits page space = unwrap_or (get key_eq f.addresses (bits, page, space)
 
 -- there is room for one more fence
 abbrev pub HasRoom : Fences → Type 0
-HasRoom f = (1 ≤ spare f.spaces) × (6 ≤ spare f.addresses)
+HasRoom f = (1 ≤ spare f.spaces) × (5 ≤ spare f.addresses)
 
 -- a fence with a valid address whose bits above `bits` are a page, and with one rs2
 abbrev pub is_exact : ℕ → List Event → ℕ → ℕ → Option ℕ → ℕ → Option ℕ → Bool

@@ -41,7 +41,7 @@ impl Fences {
         ensures addresses { (bits page : ℕ) (s : Option ℕ) → of_key self.new bits page s ≡ of_key self.old bits page s }
     {
         self.spaces.reserve(1)?;
-        self.addresses.reserve(6)
+        self.addresses.reserve(5)
     }
 
     /// Adds a fence of an ASID, later than those that there are.
@@ -74,9 +74,8 @@ impl Fences {
             ≡ (if va.0 / 2 ^ b == page && option_eq nat_eq asid s then number else of_key self.old b page s) }
         ensures spaces { self.new.spaces ≡ self.old.spaces }
     {
-        // pages, NAPOT leaves of 64 KiB, and levels 1 to 4
+        // pages of level 0, and those of levels 1 to 4
         self.put(12, va, asid, number);
-        self.put(16, va, asid, number);
         self.put(21, va, asid, number);
         self.put(30, va, asid, number);
         self.put(39, va, asid, number);

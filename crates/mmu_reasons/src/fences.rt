@@ -8,7 +8,6 @@ use access_judge::{Log, PastSatp, Step, Told, Way};
 use sv39_entry::{Entry, Kind, Va};
 use text_builder::Text;
 use walk_lines::Hex;
-use walk_rules::reach;
 
 /// After so many events the history begins anew.
 pub(crate) const MOST_EVENTS: usize = 65536;
@@ -105,16 +104,11 @@ impl Fences<'_> {
         let Some(address) = fence.va else {
             return true;
         };
-        let kind = telling.extensions.kind(step.entry, step.level);
-        let bits = if kind == Kind::Leaf {
-            reach(step.entry, step.level)
-        } else {
-            12 + 9 * step.level
-        };
+        let bits = 12 + 9 * step.level;
         if address.0 >> bits != telling.request.va.0 >> bits {
             return false;
         }
-        match kind {
+        match telling.extensions.kind(step.entry, step.level) {
             Kind::Leaf => true,
             Kind::Pointer => false,
             Kind::Invalid => self.became_leaf(telling, step, fence),
