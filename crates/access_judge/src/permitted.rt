@@ -128,7 +128,12 @@ fn search_from<L: Log, S: Sink>(
 {
     if let Some(table) = root_table(question, &root) {
         sink.begin(root);
-        search_table(log, question, &table, seen, sink);
+        if sink.wants_each_root() {
+            let mut own = Seen::new();
+            search_table(log, question, &table, &mut own, sink);
+        } else {
+            search_table(log, question, &table, seen, sink);
+        }
     }
 }
 

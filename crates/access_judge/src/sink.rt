@@ -32,6 +32,11 @@ pub trait Sink {
     /// The sink was told of each of these outcomes.
     ghost has: { Self → List Outcome → Type 0 };
 
+    /// Whether tables are searched anew from each root, so that the ways from each are told.
+    fn wants_each_root(&self) -> bool {
+        false
+    }
+
     /// Walks begin at the root of a word that satp had.
     fn begin(&mut self, root: PastSatp)
         ensures { gains self.old [] self.new };

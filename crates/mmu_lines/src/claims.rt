@@ -77,6 +77,9 @@ pub(crate) fn difference(told: Option<Update>, outcome: Outcome) -> &'static str
     let (Outcome::Granted { update, .. } | Outcome::Refused { update, .. }) = outcome;
     match (told, update) {
         (None, Some(_)) => "A or D is 0, and the hart sets them",
+        (Some(_), None) if matches!(outcome, Outcome::Refused { .. }) => {
+            "the access is refused before step 7, so the hart sets no PTE"
+        }
         (Some(_), None) => "the hart sets no PTE",
         (Some(told), Some(update)) if !is_at_place(told, update) => {
             "the PTE that the hart sets is at another place"

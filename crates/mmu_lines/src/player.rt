@@ -301,7 +301,7 @@ impl MmuPlayer {
     ) -> bool
         requires { 1 ≤ request.width }
     {
-        if telling.put_present(out, claim) {
+        if telling.put_present(out, claim) || telling.put_slip(out, claim) {
             return true;
         }
         if claim.by.is_some() {
@@ -320,7 +320,7 @@ impl MmuPlayer {
         }
         let is_told = self.put_held(out, &telling, request, claim);
         let extensions = self.profile.extensions;
-        let older = self.witness.older(extensions, request, claim);
+        let older = self.witness.older(extensions, request, claim, is_told);
         if older.is_nothing() {
             if !is_told && !self.put_other_pte(out, &telling, claim) {
                 telling.put_walk(out, claim);

@@ -140,6 +140,9 @@ impl Telling<'_> {
         };
         let (now, word) = (Hex(now), Hex(step.entry.to_word()));
         let place = Hex(place_at(step.ppn, index));
+        if now == word && !self.may_set(step) {
+            return write!(out, "PMP refuses the store to the PTE at {place}");
+        }
         if now == word {
             return out.push_str(why.text);
         }

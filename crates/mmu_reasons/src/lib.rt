@@ -13,6 +13,7 @@ mod present;
 mod reasons;
 mod recorded;
 mod seeking;
+mod slips;
 mod telling;
 mod walking;
 mod ways;

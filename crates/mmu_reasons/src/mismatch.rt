@@ -9,10 +9,10 @@ use crate::ways::{Stop, end_of, put_pte, stop_of};
 use access_history::Outcome;
 use access_judge::{Log, Step, Told, Way};
 use mmu_requests::{Claim, End};
-use sv39_entry::{Kind, Mode};
+use sv39_entry::{Access, Kind, Mode};
 use text_builder::Text;
 use walk_lines::Hex;
-use walk_rules::{Extensions, MemoryType, Status, has_ad, leads_to, reach};
+use walk_rules::{Extensions, MemoryType, Privilege, Status, has_ad, leads_to, reach};
 
 /// The size of a page in which the offset has so many bits.
 fn page_size(bits: u32) -> &'static str {
@@ -201,7 +201,11 @@ impl Telling<'_> {
             return false;
         }
         let satp = Hex(self.recorded.unit.satp().to_word());
-        write!(out, "the access is translated: satp is {satp}");
+        let lead = match self.request.privilege {
+            Privilege::Machine => "MPRV is 1, and ",
+            _ => "",
+        };
+        write!(out, "the access is translated: {lead}satp is {satp}");
         true
     }
 
@@ -330,7 +334,13 @@ impl Telling<'_> {
         if pa == Some(self.request.va.0) {
             return self.put_fault_at(out, self.request.va.0);
         }
-        out.push_str("the access isn't translated")
+        let (fetches, mprv) = (self.request.kind == Access::Fetch, self.request.status.mprv);
+        let why = match self.privilege() {
+            Privilege::Machine if fetches && mprv => "MPRV does not act on a fetch",
+            Privilege::Machine => "it is of M-mode",
+            _ => "satp is Bare",
+        };
+        write!(out, "the access isn't translated: {why}")
     }
 
     /// Appends what the walk comes to in place of what a client tells.

@@ -28,6 +28,8 @@ pub(crate) const MOST_WAYS: usize = 32;
 struct Seeking {
     extensions: Extensions,
     aim: Aim,
+    /// Whether the ways from each root are wanted.
+    each_root: bool,
     way: Way,
     found: Option<Told>,
     /// The moment of what is oldest on the way to it.
@@ -65,6 +67,10 @@ impl Sink for Seeking {
     ghost has_still = { has_still };
 
     ghost gains_again = { sought_again };
+
+    fn wants_each_root(&self) -> bool {
+        self.each_root
+    }
 
     fn begin(&mut self, root: PastSatp) {
         self.way = Way {
@@ -135,12 +141,19 @@ pub(crate) fn oldest(way: &Way) -> usize {
 }
 
 /// Looks through the outcomes of an access.
-fn seek_aim<L: Log>(log: &L, extensions: Extensions, request: Request, aim: Aim) -> Seeking
+fn seek_aim<L: Log>(
+    log: &L,
+    extensions: Extensions,
+    request: Request,
+    aim: Aim,
+    each_root: bool,
+) -> Seeking
     requires { 1 ≤ request.width }
 {
     let mut seeking = Seeking {
         extensions,
         aim,
+        each_root,
         way: Way {
             root: None,
             steps: [None; 5],
@@ -154,7 +167,7 @@ fn seek_aim<L: Log>(log: &L, extensions: Extensions, request: Request, aim: Aim)
     seeking
 }
 
-/// Returns the ways to the outcome that a client tells; of very many the first that the search comes by.
+/// Returns the ways to the outcome that a client tells, from each root; of very many the first that the search comes by.
 pub(crate) fn ways_to<L: Log>(
     log: &L,
     extensions: Extensions,
@@ -163,14 +176,14 @@ pub(crate) fn ways_to<L: Log>(
 ) -> [Option<Told>; MOST_WAYS]
     requires { 1 ≤ request.width }
 {
-    seek_aim(log, extensions, request, Aim::Claimed(claim)).ways
+    seek_aim(log, extensions, request, Aim::Claimed(claim), true).ways
 }
 
 /// Returns the outcome that a client tells with the way on which the oldest is newest; `None` if the search comes by none.
 pub fn seek<L: Log>(log: &L, extensions: Extensions, request: Request, claim: Claim) -> Option<Told>
     requires { 1 ≤ request.width }
 {
-    seek_aim(log, extensions, request, Aim::Claimed(claim)).found
+    seek_aim(log, extensions, request, Aim::Claimed(claim), false).found
 }
 
 /// Returns a refusal by a leaf that leads to a physical address, also one by A or D alone; `None` if there is none.
@@ -184,7 +197,7 @@ pub fn seek_refusal<L: Log>(
 {
     let (ad, va) = (AdScheme::Either, request.va);
     let aim = Aim::RefusedAt { va, pa };
-    seek_aim(log, Extensions { ad, ..extensions }, request, aim).found
+    seek_aim(log, Extensions { ad, ..extensions }, request, aim, false).found
 }
 
 /// Returns an outcome by a PTE, by its word, also one by A or D alone; `None` if there is none.
@@ -192,5 +205,6 @@ pub fn seek_by<L: Log>(log: &L, extensions: Extensions, request: Request, word: 
     requires { 1 ≤ request.width }
 {
     let ad = AdScheme::Either;
-    seek_aim(log, Extensions { ad, ..extensions }, request, Aim::By(word)).found
+    let aim = Aim::By(word);
+    seek_aim(log, Extensions { ad, ..extensions }, request, aim, false).found
 }

@@ -7,16 +7,36 @@ use crate::recorded::Recorded;
 use crate::ways::{LEVELS, end_of, kind_text, place_at, step_at};
 use access_judge::{Log, PastSatp, Step, Told, Way};
 use bitflags::Flags;
-use sv39_entry::{Entry, EntryFlags, Kind, Va};
+use sv39_entry::{Entry, EntryFlags, Kind, Satp, Va};
 use text_builder::Text;
 use walk_lines::Hex;
 use walk_rules::{Extensions, leads_to, pmp_permits_read, reach, top_level};
 
+/// A check that a hart may leave out.
+#[derive(Clone, Copy, PartialEq, Eq)]
+pub(crate) enum Slip {
+    /// None is left out.
+    None,
+    /// PMP, at the read of a PTE.
+    Pmp,
+    /// Which bits a pointer must not have.
+    Pointer,
+    /// The MODE of satp.
+    Mode,
+}
+
 /// Reads the PTE for an address in a table, to which a global pointer led or not; `None`: it is outside the memory, or PMP refuses.
-fn read(recorded: &Recorded, va: Va, table: u64, level: u32, global: bool) -> Option<Step> {
+fn read(
+    recorded: &Recorded,
+    va: Va,
+    table: u64,
+    level: u32,
+    global: bool,
+    slip: Slip,
+) -> Option<Step> {
     let (unit, index) = (&recorded.unit, va.page().index(level));
     let entry = Entry::from_word(unit.word(table, index)?);
-    if !pmp_permits_read(unit.pmp(), place_at(table, index)) {
+    if slip != Slip::Pmp && !pmp_permits_read(unit.pmp(), place_at(table, index)) {
         return None;
     }
     let is_global = entry.has(EntryFlags::VALID) && entry.has(EntryFlags::GLOBAL);
@@ -31,17 +51,29 @@ fn read(recorded: &Recorded, va: Va, table: u64, level: u32, global: bool) -> Op
     })
 }
 
+/// Whether a PTE has V alone of V, R, W and X.
+fn has_no_right(entry: Entry) -> bool {
+    entry.to_word() % 16 == 1
+}
+
 /// The PTEs, by level, that a walk reads from the root's table on, whose PTEs have level `top`.
-fn steps_now(recorded: &Recorded, extensions: Extensions, va: Va, top: u32) -> [Option<Step>; 5]
+fn steps_now(
+    recorded: &Recorded,
+    extensions: Extensions,
+    va: Va,
+    top: u32,
+    slip: Slip,
+) -> [Option<Step>; 5]
     requires { top ≤ 4 }
 {
     let mut steps = [None; 5];
     let (mut table, mut global) = (recorded.unit.satp().ppn(), false);
     'levels: for level in (0..top + 1).rev() {
-        let Some(step) = read(recorded, va, table, level, global) else {
+        let Some(step) = read(recorded, va, table, level, global, slip) else {
             return steps;
         };
-        let is_pointer = extensions.kind(step.entry, level) == Kind::Pointer;
+        let is_pointer = extensions.kind(step.entry, level) == Kind::Pointer
+            || (slip == Slip::Pointer && has_no_right(step.entry));
         (table, global) = (step.entry.ppn(), step.global);
         steps[level as usize] = Some(step);
         if !is_pointer {
@@ -53,16 +85,25 @@ fn steps_now(recorded: &Recorded, extensions: Extensions, va: Va, top: u32) -> [
 
 /// Returns the walk for an address over memory, satp and PMP as they are; `None` under Bare.
 fn walk_now(recorded: &Recorded, extensions: Extensions, va: Va) -> Option<Way> {
-    let (satp, last) = (recorded.unit.satp(), recorded.unit.now());
-    let top = top_level(satp)?;
+    walk_without(recorded, extensions, va, recorded.unit.satp(), Slip::None)
+}
+
+/// Returns the walk by a satp in place of the present one, and without a check.
+pub(crate) fn walk_without(
+    recorded: &Recorded,
+    extensions: Extensions,
+    va: Va,
+    satp: Satp,
+    slip: Slip,
+) -> Option<Way> {
     let root = PastSatp {
         satp,
         epoch: 0,
-        last,
+        last: recorded.unit.now(),
     };
     Some(Way {
         root: Some(root),
-        steps: steps_now(recorded, extensions, va, top),
+        steps: steps_now(recorded, extensions, va, top_level(satp)?, slip),
     })
 }
 

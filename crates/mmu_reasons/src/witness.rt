@@ -254,29 +254,41 @@ impl Witness {
     }
 
     /// Which PTE of another ASID the outcome that a client tells is by, if it is by one. Where a fence is a reason too (`is_excluded`), it must be held
-    /// still; where there was a way without fences (`has_way`), it must be a leaf.
+    /// still; where there is another reason (`has_other`, or a fence), it must be a leaf.
     fn foreign(
         &self,
         extensions: Extensions,
         request: Request,
         claim: Claim,
-        has_way: bool,
+        has_other: bool,
         is_excluded: bool,
     ) -> Option<Foreign>
         requires { 1 ≤ request.width }
     {
         let ways = ways_to(&self.unspaced.unit, extensions, request, claim);
-        self.foreign_among(extensions, request, ways.as_slice(), has_way, is_excluded)
+        let only_leaves = has_other || is_excluded;
+        self.foreign_among(
+            extensions,
+            request,
+            ways.as_slice(),
+            only_leaves,
+            is_excluded,
+        )
     }
 
-    /// Returns why the outcome that a client tells is not permitted, if a fence or an ASID is the reason.
-    pub fn older(&self, extensions: Extensions, request: Request, claim: Claim) -> Older
+    /// Returns why the outcome that a client tells is not permitted, if a fence or an ASID is the reason; `has_other`: there is one of another kind.
+    pub fn older(
+        &self,
+        extensions: Extensions,
+        request: Request,
+        claim: Claim,
+        has_other: bool,
+    ) -> Older
         requires { 1 ≤ request.width }
     {
         let ways = ways_to(&self.unfenced.unit, extensions, request, claim);
         let exclusion = self.last_exclusion(extensions, request, ways.as_slice());
-        let (has_way, is_excluded) = (ways[0].is_some(), exclusion.is_some());
-        let foreign = self.foreign(extensions, request, claim, has_way, is_excluded);
+        let foreign = self.foreign(extensions, request, claim, has_other, exclusion.is_some());
         Older { foreign, exclusion }
     }
 

@@ -75,6 +75,14 @@ impl<'a> Fields<'a> {
         }
     }
 
+    /// Returns what is wrong with a field that is no number.
+    fn no_number(&self, field: &[u8]) -> Result<String, AllocError> {
+        match (self.word, field) {
+            (Word::Sfence, b"x0") => String::from_str(self.alloc, "for x0 write -"),
+            _ => wrong_number(self.alloc, field),
+        }
+    }
+
     /// Returns the number in a field.
     pub fn number(&self, n: usize) -> Result<u64, Refusal>
         ensures ok { IfOk result (NumberAt (fields_of self.now.line.now) n) }
@@ -83,10 +91,7 @@ impl<'a> Fields<'a> {
         let place = self.field(n)?;
         match number(place.bytes) {
             Some(value) => Ok(value),
-            None => Err(Refusal::Mistake(Mistake::at(
-                place.column,
-                wrong_number(self.alloc, place.bytes)?,
-            ))),
+            None => Err(Refusal::Mistake(Mistake::at(place.column, self.no_number(place.bytes)?))),
         }
     }
 
