@@ -7,6 +7,7 @@ ghost use Rattle.std.specs.Prelude.{◌≡◌, ◌<◌, IfOk, slice_index};
 ghost use Rattle.frame_store.specs.Laws.{IsSeatOf, KeepsSeats};
 ghost use Rattle.frame_store.specs.View.{IsHeld};
 
+use crate::rows::expect;
 use frame_clients::{Pool, filled_frame, read_word};
 use frame_store::{
     FrameAccess, FrameSeat, FrameSupply, NoFrame, PlainFrames, SharersFull, opened_seat,
@@ -24,7 +25,8 @@ fn reads_back_through_two_places(rt: HostRuntime) -> Result<(), Fail> {
     let last = pool.read(2, frame, 511);
     prove!(last == 8);
     pool.close(2, 0);
-    assert_eq!(rt; (pool.read(0, frame, 0), pool.read(0, frame, 511)), (7, 8));
+    expect(&rt, 0, pool.read(0, frame, 0), 7);
+    expect(&rt, 511, pool.read(0, frame, 511), 8);
     Ok(())
 }
 
@@ -36,14 +38,14 @@ fn refuses_when_too_few_are_left(rt: HostRuntime) -> Result<(), Fail> {
     pool.fill(1, &[2; 512])?;
     let refused = pool.fill(0, &[3; 512]);
     prove!(refused.is_err());
-    assert!(rt; refused.is_err());
+    expect(&rt, 0, refused, Err(NoFrame));
     pool.close(0, 1);
-    assert!(rt; pool.fill(1, &[3; 512]).is_err());
+    expect(&rt, 1, pool.fill(1, &[3; 512]), Err(NoFrame));
     Ok(())
 }
 
 /// Why a client of a store is refused.
-#[derive(Clone, Copy, Debug)]
+#[derive(Clone, Copy, PartialEq, Eq, Debug)]
 pub(crate) enum Refusal {
     NoFrame,
     SharersFull,
@@ -114,12 +116,13 @@ fn runs_over_plain_frames(rt: HostRuntime) -> Result<(), Fail> {
     let (mut plain, mut seat) = PlainFrames::new(rt.alloc(), 2)?;
     let word = word_through_a_new_seat(&mut plain, &mut seat, &words, 511)?;
     prove!(word == 8);
-    assert_eq!(rt; word, 8);
+    expect(&rt, 0, word, 8);
     let refused = word_through_a_new_seat(&mut plain, &mut seat, &words, 511);
-    assert!(rt; matches!(refused, Err(Refusal::NoFrame)));
+    expect(&rt, 1, refused, Err(Refusal::NoFrame));
     // each opened seat left its reference of frame 0 to `seat`: three there, and one of the filled frame
     let report = plain.report();
-    assert_eq!(rt; (report.free, report.held, report.references), (0, 2, 4));
+    let counts = (report.free, report.held, report.references);
+    expect(&rt, 2, counts, (0, 2, 4));
     Ok(())
 }
 
@@ -130,11 +133,12 @@ fn runs_over_shared_frames(rt: HostRuntime) -> Result<(), Fail> {
     let mut supply = frames.supply(&rt);
     let word = word_through_a_new_seat(&mut supply, &mut seat, &words, 511)?;
     prove!(word == 8);
-    assert_eq!(rt; word, 8);
+    expect(&rt, 0, word, 8);
     let refused = word_through_a_new_seat(&mut supply, &mut seat, &words, 511);
-    assert!(rt; matches!(refused, Err(Refusal::NoFrame)));
+    expect(&rt, 1, refused, Err(Refusal::NoFrame));
     let totals = frames.close(seat);
-    assert_eq!(rt; (totals.free, totals.held, totals.trampoline), (0, 2, 3));
+    let counts = (totals.free, totals.held, totals.trampoline);
+    expect(&rt, 2, counts, (0, 2, 3));
     Ok(())
 }
 
@@ -171,9 +175,12 @@ static NEXT_WORDS: [(usize, usize, Option<(usize, u64)>); 9] = [
     (512, 512, None),
 ];
 
-/// Fills a frame that has three words other than 0. Returns whether, for each case of a table, `next_word` and
-/// `next_busy_word` find the first of these words from index `first` on and below index `last`.
-fn finds_next_words<F: FrameSupply>(store: &mut F, seat: &mut F::Seat) -> Result<bool, NoFrame>
+/// Fills a frame that has three words other than 0. Returns the first row for which `next_word` or `next_busy_word` does not
+/// find the first of these words from index `first` on and below index `last`; `None` if there is none.
+fn first_not_found<F: FrameSupply>(
+    store: &mut F,
+    seat: &mut F::Seat,
+) -> Result<Option<usize>, NoFrame>
     requires fits { IsSeatOf F.invariant store.old seat.old }
     requires anchored { IsHeld (F.Seat.view seat.old) 0 }
     ensures keeps { KeepsSeats F.invariant store.old seat.old store.new seat.new }
@@ -183,31 +190,33 @@ fn finds_next_words<F: FrameSupply>(store: &mut F, seat: &mut F::Seat) -> Result
     words[9] = 2;
     words[511] = 3;
     let frame = filled_frame(store, seat, &words)?;
-    'cases: for (first, last, next) in &NEXT_WORDS {
-        if *first > *last || *last > 512 || store.next_word(seat, frame, *first, *last) != *next {
-            return Ok(false);
+    'cases: for number in 0..NEXT_WORDS.len() {
+        let (first, last, next) = NEXT_WORDS[number];
+        if first > last || last > 512 || store.next_word(seat, frame, first, last) != next {
+            return Ok(Some(number));
         }
         // none of the three words names a frame, so no word is skipped
-        if store.next_busy_word(seat, frame, *first, *last) != *next {
-            return Ok(false);
+        if store.next_busy_word(seat, frame, first, last) != next {
+            return Ok(Some(number));
         }
     }
-    Ok(true)
+    Ok(None)
 }
 
 #[test]
 fn finds_next_words_of_plain_frames(rt: HostRuntime) -> Result<(), Fail> {
     let (mut plain, mut seat) = PlainFrames::new(rt.alloc(), 2)?;
-    assert_eq!(rt; finds_next_words(&mut plain, &mut seat), Ok(true));
+    let wrong = first_not_found(&mut plain, &mut seat);
+    expect(&rt, 0, wrong, Ok(None));
     Ok(())
 }
 
 #[test]
 fn finds_next_words_of_shared_frames(rt: HostRuntime) -> Result<(), Fail> {
     let (frames, mut seat) = SharedFrames::new(rt.alloc(), 2)?;
-    let found = finds_next_words(&mut frames.supply(&rt), &mut seat);
-    assert_eq!(rt; found, Ok(true));
+    let wrong = first_not_found(&mut frames.supply(&rt), &mut seat);
+    expect(&rt, 0, wrong, Ok(None));
     let totals = frames.close(seat);
-    assert_eq!(rt; (totals.free, totals.held), (0, 2));
+    expect(&rt, 1, (totals.free, totals.held), (0, 2));
     Ok(())
 }

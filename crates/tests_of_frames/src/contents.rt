@@ -1,21 +1,80 @@
 // Tests that `frame_bytes` fills, loads, stores and copies frames, and reads and writes runs of their bytes, with the right
-// values, over plain frames. `Bench`, a struct: a store with two frames for the tests. `Access`, a row: an offset, a width
-// and the number that a load must return.
+// values, over plain frames. `Bench`, a struct: a store with two frames for the tests. A test is a row of steps (`Step`), of
+// which some change the frames, and some say what they must hold then.
 
 ghost use Rattle.std.specs.Prelude.{◌≡◌, ◌%◌, ◌<◌, ◌≤◌, IsTrue, length};
 ghost use Rattle.process_model.specs.Bytes.{is_width};
 
+use crate::rows::expect;
 use frame_bytes::{
     copy_frame, fill_frame, load_bytes, read_frame, read_run, store_bytes, write_run,
 };
 use frame_store::{FrameAccess, FrameSupply, PlainFrames, PlainSeat};
 use std::alloc::Global;
 use std::marker::Model;
+use std::process::Abort;
 use std::test::Fail;
 use sv39_entry::{Entry, FrameNo, Rights};
 
-/// An offset in the page, a width in bytes, and the number that a load there must return.
-type Access = (usize, usize, u64);
+/// The bytes of a page.
+#[derive(Clone, Copy)]
+enum Pattern {
+    /// Each is 1.
+    Ones,
+    /// The first 600 count from 0 to 255, again and again; the others are 0.
+    Front,
+    /// All count from 0 to 250, again and again, so that no word equals the next one.
+    Whole,
+}
+
+/// A change of the two frames, or what the first must hold. An offset is one of the page, a width and a length are in bytes.
+#[derive(Clone, Copy)]
+enum Step {
+    /// A fill with these bytes.
+    Fill(&'static [u8]),
+    /// A fill with the first bytes of a pattern, and how many these are.
+    FillWith(Pattern, usize),
+    /// A store: the offset, the width and the value.
+    Store(usize, usize, u64),
+    /// A write of these bytes from an offset on.
+    Write(usize, &'static [u8]),
+    /// A write of a whole pattern.
+    WriteWith(Pattern),
+    /// A copy of the first frame to the second.
+    Copy,
+    /// The first frame becomes the second, and the second the first.
+    Turn,
+    /// A load: the offset, the width and the number that it must return.
+    Load(usize, usize, u64),
+    /// A load of one byte at each offset must return that of the pattern.
+    Bytes(Pattern),
+    /// The word at an index, as page tables have it.
+    Word(usize, u64),
+    /// A read of the whole page must return the pattern, but for the last byte, which must be this one.
+    Page(Pattern, u8),
+    /// A read of a run must return that of `Pattern::Whole`: the offset and the length.
+    Run(usize, usize),
+    /// A read of a run must return these bytes: the offset and the bytes.
+    Read(usize, &'static [u8]),
+}
+
+/// The byte of a pattern at an offset.
+fn byte_of(pattern: Pattern, offset: usize) -> u8 {
+    match pattern {
+        Pattern::Ones => 1,
+        Pattern::Front if offset < 600 => (offset % 256) as u8,
+        Pattern::Front => 0,
+        Pattern::Whole => (offset % 251) as u8,
+    }
+}
+
+fn page_of(pattern: Pattern) -> [u8; 4096] {
+    let mut bytes = [0; 4096];
+    for at in 0..4096 {
+        bytes[at] = byte_of(pattern, at);
+    }
+    bytes
+}
 
 /// A store with one seat, which is the sole holder of two frames. Each of their bytes is 1 at first. Contracts see the
 /// numbers of the two frames.
@@ -79,15 +138,14 @@ impl Bench {
         Some(number)
     }
 
-    /// The first access that does not load its number; `None` if all do.
-    fn first_wrong(&mut self, accesses: &[Access]) -> Option<Access> {
-        'accesses: for access in accesses {
-            let (offset, width, number) = *access;
-            if self.load(offset, width) != Some(number) {
-                return Some(*access);
+    /// Whether a load of one byte at each offset of the first frame returns that of the pattern.
+    fn has_bytes(&mut self, pattern: Pattern) -> bool {
+        'bytes: for offset in 0..4096 {
+            if self.load(offset, 1) != Some(u64::from(byte_of(pattern, offset))) {
+                return false;
             }
         }
-        None
+        true
     }
 
     /// Stores the low `width` bytes of `value` at `offset` of the first frame; does nothing if that is no access.
@@ -112,34 +170,27 @@ impl Bench {
         self.store.load(&mut self.seat, self.first, index)
     }
 
-    /// The 4,096 bytes of the first frame, read into an array that had other bytes.
-    fn page(&mut self) -> [u8; 4096] {
+    /// Whether the 4,096 bytes of the first frame, read into an array that had other bytes, are those of the pattern, with
+    /// `last` as the last one.
+    fn has_page(&mut self, pattern: Pattern, last: u8) -> bool {
         let mut bytes = [0xee; 4096];
         read_frame(&mut self.store, &mut self.seat, self.first, &mut bytes);
-        bytes
+        let mut wanted = page_of(pattern);
+        wanted[4095] = last;
+        bytes == wanted
     }
 
-    /// Reads `bytes.len()` bytes of the first frame from `offset` on; does nothing if they are not all in the page.
-    fn read(&mut self, offset: usize, bytes: &mut [u8]) {
-        if offset <= 4096 && bytes.len() <= 4096 - offset {
-            read_run(&mut self.store, &mut self.seat, self.first, offset, bytes);
-        }
-    }
-
-    /// Whether the `length` bytes at `offset` of the first frame are those of `counting_page`. False if they are more than
-    /// 32 or not all in the page.
-    fn reads_counting(&mut self, offset: usize, length: usize) -> bool {
-        if length > 32 || offset > 4096 {
+    /// Whether a read of the first frame from `offset` on, into an array that had other bytes, returns these. False if they
+    /// are not all in the page.
+    fn has_run(&mut self, offset: usize, wanted: &[u8]) -> bool {
+        let length = wanted.len();
+        if offset > 4096 || length > 4096 - offset {
             return false;
         }
-        let mut bytes = [0xee; 32];
-        self.read(offset, &mut bytes[..length]);
-        for at in 0..length {
-            if bytes[at] != ((offset + at) % 251) as u8 {
-                return false;
-            }
-        }
-        true
+        let mut bytes = [0xee; 4096];
+        let run = &mut bytes[..length];
+        read_run(&mut self.store, &mut self.seat, self.first, offset, run);
+        &bytes[..length] == wanted
     }
 
     /// Writes `bytes` to the first frame from `offset` on; does nothing if they are not all in the page.
@@ -160,239 +211,221 @@ impl Bench {
         self.first = self.second;
         self.second = first;
     }
-}
 
-/// 600 bytes that count from 0 to 255, again and again.
-fn counting() -> [u8; 600] {
-    let mut bytes = [0; 600];
-    for at in 0..600 {
-        bytes[at] = (at % 256) as u8;
+    /// Makes a change, which is right; of another step, returns whether the first frame holds what it says.
+    fn is_right(&mut self, step: Step) -> bool {
+        match step {
+            Step::Fill(bytes) => self.fill(&bytes[..bytes.len().min(4096)]),
+            Step::FillWith(pattern, length) => self.fill(&page_of(pattern)[..length.min(4096)]),
+            Step::Store(offset, width, value) => self.store(offset, width, value),
+            Step::Write(offset, bytes) => self.write(offset, bytes),
+            Step::WriteWith(pattern) => self.write(0, &page_of(pattern)),
+            Step::Copy => self.copy(),
+            Step::Turn => self.turn(),
+            _ => return self.holds(step),
+        }
+        true
     }
-    bytes
-}
 
-/// The byte at an offset of a page that begins with the bytes of `counting` and is zeros past them.
-fn byte_of_counting(offset: usize) -> u64 {
-    if offset < 600 {
-        (offset % 256) as u64
-    } else {
-        0
+    /// Whether the first frame holds what a step says; false for a change.
+    fn holds(&mut self, step: Step) -> bool {
+        match step {
+            Step::Load(offset, width, number) => self.load(offset, width) == Some(number),
+            Step::Bytes(pattern) => self.has_bytes(pattern),
+            Step::Word(index, word) => self.word(index) == word,
+            Step::Page(pattern, last) => self.has_page(pattern, last),
+            Step::Run(offset, length) => {
+                let end = offset.saturating_add(length).min(4096);
+                self.has_run(offset, &page_of(Pattern::Whole)[offset.min(end)..end])
+            }
+            Step::Read(offset, bytes) => self.has_run(offset, bytes),
+            _ => false,
+        }
     }
 }
 
-/// A page whose bytes count from 0 to 250, again and again, so that no word equals the next one.
-fn counting_page() -> [u8; 4096] {
-    let mut bytes = [0; 4096];
-    for at in 0..4096 {
-        bytes[at] = (at % 251) as u8;
+/// Makes the steps, one after another, and asserts that all are right.
+///
+/// # Errors
+/// `Fail`: the host is out of memory.
+fn play<R: Abort>(rt: &R, alloc: Global, steps: &[Step]) -> Result<(), Fail> {
+    let mut bench = Bench::new(alloc)?;
+    'steps: for number in 0..steps.len() {
+        expect(rt, number, bench.is_right(steps[number]), true);
     }
-    bytes
+    Ok(())
 }
 
-/// Accesses of a page that begins with the bytes of `counting`.
-static COUNTED: [Access; 10] = [
-    (254, 2, 0xfffe),
-    (256, 2, 0x0100),
-    (598, 2, 0x5756),
-    (600, 2, 0),
-    (252, 4, 0xfffe_fdfc),
-    (596, 4, 0x5756_5554),
-    (600, 4, 0),
-    (0, 8, 0x0706_0504_0302_0100),
-    (592, 8, 0x5756_5554_5352_5150),
-    (4088, 8, 0),
+static FILLED: [Step; 13] = [
+    Step::Load(4088, 8, 0x0101_0101_0101_0101),
+    Step::FillWith(Pattern::Front, 600),
+    Step::Bytes(Pattern::Front),
+    Step::Load(254, 2, 0xfffe),
+    Step::Load(256, 2, 0x0100),
+    Step::Load(598, 2, 0x5756),
+    Step::Load(600, 2, 0),
+    Step::Load(252, 4, 0xfffe_fdfc),
+    Step::Load(596, 4, 0x5756_5554),
+    Step::Load(600, 4, 0),
+    Step::Load(0, 8, 0x0706_0504_0302_0100),
+    Step::Load(592, 8, 0x5756_5554_5352_5150),
+    Step::Load(4088, 8, 0),
 ];
 
 #[test]
 fn loads_what_was_filled(rt: HostRuntime) -> Result<(), Fail> {
-    let mut bench = Bench::new(rt.alloc())?;
-    assert_eq!(rt; bench.load(4088, 8), Some(0x0101_0101_0101_0101));
-    bench.fill(&counting());
-    'bytes: for offset in 0..4096 {
-        assert_eq!(rt; bench.load(offset, 1), Some(byte_of_counting(offset)));
-    }
-    assert_eq!(rt; bench.first_wrong(&COUNTED), None);
-    Ok(())
+    play(&rt, rt.alloc(), &FILLED)
 }
 
-/// Accesses of a page that begins with 13 bytes of 0xff.
-static PARTLY_FILLED: [Access; 3] = [
-    (0, 8, 0xffff_ffff_ffff_ffff),
-    (8, 8, 0x0000_00ff_ffff_ffff),
-    (16, 8, 0),
+static PARTLY_FILLED: [Step; 6] = [
+    Step::Fill(&[0xff; 13]),
+    Step::Load(0, 8, 0xffff_ffff_ffff_ffff),
+    Step::Load(8, 8, 0x0000_00ff_ffff_ffff),
+    Step::Load(16, 8, 0),
+    Step::Fill(&[]),
+    Step::Load(0, 8, 0),
 ];
 
 #[test]
 fn fills_a_part_of_a_word(rt: HostRuntime) -> Result<(), Fail> {
-    let mut bench = Bench::new(rt.alloc())?;
-    bench.fill(&[0xff; 13]);
-    assert_eq!(rt; bench.first_wrong(&PARTLY_FILLED), None);
-    bench.fill(&[]);
-    assert_eq!(rt; bench.load(0, 8), Some(0));
-    Ok(())
+    play(&rt, rt.alloc(), &PARTLY_FILLED)
 }
 
-/// Stores: an offset, a width and a value.
-static STORES: [Access; 4] = [
-    (11, 1, 0x1ff),
-    (22, 2, 0x1234_abcd),
-    (24, 4, 0xffff_ffff_2345_6789),
-    (32, 8, 0xfedc_ba98_7654_3210),
-];
-
-/// Accesses after those stores.
-static STORED: [Access; 8] = [
-    (0, 8, 0x0706_0504_0302_0100),
-    (8, 8, 0x0f0e_0d0c_ff0a_0908),
-    (16, 8, 0xabcd_1514_1312_1110),
-    (24, 8, 0x1f1e_1d1c_2345_6789),
-    (32, 8, 0xfedc_ba98_7654_3210),
-    (40, 8, 0x2f2e_2d2c_2b2a_2928),
-    (10, 2, 0xff0a),
-    (20, 4, 0xabcd_1514),
+static STORED: [Step; 13] = [
+    Step::FillWith(Pattern::Front, 600),
+    Step::Store(11, 1, 0x1ff),
+    Step::Store(22, 2, 0x1234_abcd),
+    Step::Store(24, 4, 0xffff_ffff_2345_6789),
+    Step::Store(32, 8, 0xfedc_ba98_7654_3210),
+    Step::Load(0, 8, 0x0706_0504_0302_0100),
+    Step::Load(8, 8, 0x0f0e_0d0c_ff0a_0908),
+    Step::Load(16, 8, 0xabcd_1514_1312_1110),
+    Step::Load(24, 8, 0x1f1e_1d1c_2345_6789),
+    Step::Load(32, 8, 0xfedc_ba98_7654_3210),
+    Step::Load(40, 8, 0x2f2e_2d2c_2b2a_2928),
+    Step::Load(10, 2, 0xff0a),
+    Step::Load(20, 4, 0xabcd_1514),
 ];
 
 #[test]
 fn stores_beside_neighbors(rt: HostRuntime) -> Result<(), Fail> {
-    let mut bench = Bench::new(rt.alloc())?;
-    bench.fill(&counting());
-    'stores: for (offset, width, value) in &STORES {
-        bench.store(*offset, *width, *value);
-    }
-    assert_eq!(rt; bench.first_wrong(&STORED), None);
-    Ok(())
+    play(&rt, rt.alloc(), &STORED)
 }
 
-/// The leaf of frame 5 with R, X and U, stored to a frame, and the bytes in which it then lies in memory, from the lowest
-/// address on. Those bytes, filled into a frame, are that leaf.
+/// The leaf of frame 5 with R, X and U.
+const LEAF: u64 = 0x2000145b;
+
+/// The bytes in which it lies in memory, from the lowest address on.
+const LEAF_BYTES: &[u8] = &[0x5b, 0x14, 0x00, 0x20, 0x00, 0x00, 0x00, 0x00];
+
+/// The leaf, stored to a frame, lies there in those bytes; and those bytes, filled into a frame, are the leaf.
+static LEAF_IN_MEMORY: [Step; 4] = [
+    Step::Store(8, 8, LEAF),
+    Step::Read(8, LEAF_BYTES),
+    Step::Fill(LEAF_BYTES),
+    Step::Word(0, LEAF),
+];
+
 #[test]
 fn leaves_lie_low_byte_first(rt: HostRuntime) -> Result<(), Fail> {
     let code = Rights::READ | Rights::EXECUTE;
-    let leaf = Entry::leaf(FrameNo(5), code, true, false, true).to_word();
-    let bytes = [0x5b, 0x14, 0x00, 0x20, 0x00, 0x00, 0x00, 0x00];
-    let mut bench = Bench::new(rt.alloc())?;
-    bench.store(8, 8, leaf);
-    let mut stored = [0xee; 8];
-    bench.read(8, &mut stored);
-    assert!(rt; stored == bytes);
-    bench.fill(&bytes);
-    assert_eq!(rt; bench.word(0), leaf);
-    Ok(())
+    let leaf = Entry::leaf(FrameNo(5), code, true, false, true);
+    expect(&rt, 0, leaf.to_word(), LEAF);
+    play(&rt, rt.alloc(), &LEAF_IN_MEMORY)
 }
 
-/// Accesses of the copy, and (`CHANGED`) of the first frame, whose first word was stored then.
-static COPIED: [Access; 4] = [
-    (0, 8, 0x0706_0504_0302_0100),
-    (592, 8, 0x5756_5554_5352_5150),
-    (600, 8, 0),
-    (4088, 8, 0),
+/// What the copy holds, and then what the first frame does, whose first word was stored after the copy.
+static COPIED: [Step; 11] = [
+    Step::FillWith(Pattern::Front, 600),
+    Step::Copy,
+    Step::Store(0, 8, 0),
+    Step::Turn,
+    Step::Load(0, 8, 0x0706_0504_0302_0100),
+    Step::Load(592, 8, 0x5756_5554_5352_5150),
+    Step::Load(600, 8, 0),
+    Step::Load(4088, 8, 0),
+    Step::Turn,
+    Step::Load(0, 8, 0),
+    Step::Load(8, 8, 0x0f0e_0d0c_0b0a_0908),
 ];
-
-static CHANGED: [Access; 2] = [(0, 8, 0), (8, 8, 0x0f0e_0d0c_0b0a_0908)];
 
 #[test]
 fn copies_to_another_frame(rt: HostRuntime) -> Result<(), Fail> {
-    let mut bench = Bench::new(rt.alloc())?;
-    bench.fill(&counting());
-    bench.copy();
-    bench.store(0, 8, 0);
-    bench.turn();
-    assert_eq!(rt; bench.first_wrong(&COPIED), None);
-    bench.turn();
-    assert_eq!(rt; bench.first_wrong(&CHANGED), None);
-    Ok(())
+    play(&rt, rt.alloc(), &COPIED)
 }
+
+/// 4,095 is 16 times 251, and 79.
+static PAGES: [Step; 3] = [
+    Step::Page(Pattern::Ones, 1),
+    Step::FillWith(Pattern::Whole, 4096),
+    Step::Page(Pattern::Whole, 79),
+];
 
 #[test]
 fn reads_a_whole_page(rt: HostRuntime) -> Result<(), Fail> {
-    let mut bench = Bench::new(rt.alloc())?;
-    assert!(rt; bench.page() == [1; 4096]);
-    bench.fill(&counting_page());
-    assert!(rt; bench.page() == counting_page());
-    Ok(())
+    play(&rt, rt.alloc(), &PAGES)
 }
+
+static EACH_BYTE: [Step; 3] = [
+    Step::FillWith(Pattern::Front, 600),
+    Step::Store(4095, 1, 0x7f),
+    Step::Page(Pattern::Front, 0x7f),
+];
 
 #[test]
 fn reads_each_byte_of_a_page(rt: HostRuntime) -> Result<(), Fail> {
-    let mut bench = Bench::new(rt.alloc())?;
-    bench.fill(&counting());
-    bench.store(4095, 1, 0x7f);
-    let page = bench.page();
-    'bytes: for at in 0..4095 {
-        assert_eq!(rt; u64::from(page[at]), byte_of_counting(at));
-    }
-    assert_eq!(rt; page[4095], 0x7f);
-    Ok(())
+    play(&rt, rt.alloc(), &EACH_BYTE)
 }
 
-/// Runs: an offset and a length.
-static RUNS: [(usize, usize); 15] = [
-    (0, 0),
-    (0, 1),
-    (0, 8),
-    (0, 32),
-    (1, 7),
-    (1, 8),
-    (3, 2),
-    (5, 30),
-    (7, 1),
-    (7, 2),
-    (8, 9),
-    (4064, 32),
-    (4089, 7),
-    (4095, 1),
-    (4096, 0),
+static RUNS: [Step; 17] = [
+    Step::FillWith(Pattern::Whole, 4096),
+    Step::Run(0, 0),
+    Step::Run(0, 1),
+    Step::Run(0, 8),
+    Step::Run(0, 32),
+    Step::Run(1, 7),
+    Step::Run(1, 8),
+    Step::Run(3, 2),
+    Step::Run(5, 30),
+    Step::Run(7, 1),
+    Step::Run(7, 2),
+    Step::Run(8, 9),
+    Step::Run(4064, 32),
+    Step::Run(4089, 7),
+    Step::Run(4095, 1),
+    Step::Run(4096, 0),
+    Step::Run(0, 4096),
 ];
 
 #[test]
 fn reads_runs(rt: HostRuntime) -> Result<(), Fail> {
-    let mut bench = Bench::new(rt.alloc())?;
-    bench.fill(&counting_page());
-    'runs: for (offset, length) in &RUNS {
-        assert!(rt; bench.reads_counting(*offset, *length));
-    }
-    let mut page = [0; 4096];
-    bench.read(0, &mut page);
-    assert!(rt; page == counting_page());
-    Ok(())
+    play(&rt, rt.alloc(), &RUNS)
 }
 
-/// An offset, and the bytes that are written there.
-static WRITES: [(usize, &[u8]); 6] = [
-    (0, b"a"),
-    (13, b"bcdefg"),
-    (24, b"hijklmnopqrstuvw"),
-    (47, b"0123456789"),
-    (4095, b"z"),
-    (4096, b""),
-];
-
-/// Accesses of a page that began with the bytes of `counting`, after `WRITES`.
-static WRITTEN: [Access; 10] = [
-    (0, 8, 0x0706_0504_0302_0161),
-    (8, 8, 0x6463_620c_0b0a_0908),
-    (16, 8, 0x1716_1514_1367_6665),
-    (24, 8, 0x6f6e_6d6c_6b6a_6968),
-    (32, 8, 0x7776_7574_7372_7170),
-    (40, 8, 0x302e_2d2c_2b2a_2928),
-    (48, 8, 0x3837_3635_3433_3231),
-    (56, 8, 0x3f3e_3d3c_3b3a_3939),
-    (64, 8, 0x4746_4544_4342_4140),
-    (4088, 8, 0x7a00_0000_0000_0000),
+static WRITTEN: [Step; 20] = [
+    Step::FillWith(Pattern::Front, 600),
+    Step::Write(0, b"a"),
+    Step::Write(13, b"bcdefg"),
+    Step::Write(24, b"hijklmnopqrstuvw"),
+    Step::Write(47, b"0123456789"),
+    Step::Write(4095, b"z"),
+    Step::Write(4096, b""),
+    Step::Load(0, 8, 0x0706_0504_0302_0161),
+    Step::Load(8, 8, 0x6463_620c_0b0a_0908),
+    Step::Load(16, 8, 0x1716_1514_1367_6665),
+    Step::Load(24, 8, 0x6f6e_6d6c_6b6a_6968),
+    Step::Load(32, 8, 0x7776_7574_7372_7170),
+    Step::Load(40, 8, 0x302e_2d2c_2b2a_2928),
+    Step::Load(48, 8, 0x3837_3635_3433_3231),
+    Step::Load(56, 8, 0x3f3e_3d3c_3b3a_3939),
+    Step::Load(64, 8, 0x4746_4544_4342_4140),
+    Step::Load(4088, 8, 0x7a00_0000_0000_0000),
+    Step::Read(13, b"bcdefg"),
+    Step::WriteWith(Pattern::Whole),
+    Step::Page(Pattern::Whole, 79),
 ];
 
 #[test]
 fn writes_runs(rt: HostRuntime) -> Result<(), Fail> {
-    let mut bench = Bench::new(rt.alloc())?;
-    bench.fill(&counting());
-    'writes: for (offset, bytes) in &WRITES {
-        bench.write(*offset, bytes);
-    }
-    assert_eq!(rt; bench.first_wrong(&WRITTEN), None);
-    let mut written = [0; 6];
-    bench.read(13, &mut written);
-    assert!(rt; written == *b"bcdefg");
-    bench.write(0, &counting_page());
-    assert!(rt; bench.page() == counting_page());
-    Ok(())
+    play(&rt, rt.alloc(), &WRITTEN)
 }

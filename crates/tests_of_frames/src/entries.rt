@@ -2,30 +2,30 @@
 // addresses, canonical addresses, numbers and special addresses of both schemes (Sv39, Sv48), exception causes, numbers and
 // names of rules.
 
+use crate::rows::expect;
 use sv39_entry::{Access, Entry, FrameNo, Kind, Mode, Rights, Rule, Satp, Scheme, Va, Vpn};
 
-/// Leaves of frame 5 for users: whether they grant X, or else W, beside R; whether they are marked for copy-on-write; whether
-/// they are dirty; and the word.
-static LEAVES: [(bool, bool, bool, u64); 4] = [
-    (true, false, true, 0x2000145b),
-    (false, false, true, 0x200014d7),
-    (false, true, true, 0x200015d3),
-    (false, false, false, 0x20001457),
+/// Leaves of frame 5 for users: what they grant beside R; whether they are marked for copy-on-write; whether they are dirty;
+/// and the word.
+static LEAVES: [(Rights, bool, bool, u64); 4] = [
+    (Rights::EXECUTE, false, true, 0x2000145b),
+    (Rights::WRITE, false, true, 0x200014d7),
+    (Rights::WRITE, true, true, 0x200015d3),
+    (Rights::WRITE, false, false, 0x20001457),
 ];
 
 #[test]
 fn writes_leaves(rt: HostRuntime) {
-    let (code, data) = (Rights::READ | Rights::EXECUTE, Rights::READ | Rights::WRITE);
-    for (executes, cow, dirty, word) in &LEAVES {
-        let rights = if *executes { code } else { data };
-        let leaf = Entry::leaf(FrameNo(5), rights, true, *cow, *dirty);
-        assert_eq!(rt; leaf.to_word(), *word);
+    for number in 0..LEAVES.len() {
+        let (right, cow, dirty, word) = LEAVES[number];
+        let leaf = Entry::leaf(FrameNo(5), Rights::READ | right, true, cow, dirty);
+        expect(&rt, number, leaf.to_word(), word);
     }
 }
 
 #[test]
 fn writes_pointers(rt: HostRuntime) {
-    assert_eq!(rt; Entry::pointer(FrameNo(7)).to_word(), 0x20001c01);
+    expect(&rt, 0, Entry::pointer(FrameNo(7)).to_word(), 0x20001c01);
 }
 
 /// A scheme and an ASID, and the word of satp with the root in frame 3.
@@ -39,10 +39,11 @@ static SATPS: [(Scheme, u16, u64); 5] = [
 
 #[test]
 fn writes_satp(rt: HostRuntime) {
-    for (scheme, asid, word) in &SATPS {
-        let written = Satp::new(*scheme, *asid, FrameNo(3)).to_word();
-        let told = (written, Satp::from_word(*word).asid());
-        assert_eq!(rt; told, (*word, *asid));
+    for number in 0..SATPS.len() {
+        let (scheme, asid, word) = SATPS[number];
+        let written = Satp::new(scheme, asid, FrameNo(3)).to_word();
+        let told = (written, Satp::from_word(word).asid());
+        expect(&rt, number, told, (word, asid));
     }
 }
 
@@ -68,9 +69,9 @@ static KINDS: [(u64, Kind); 16] = [
 
 #[test]
 fn knows_kinds(rt: HostRuntime) {
-    for (word, kind) in &KINDS {
-        let told = Entry::from_word(*word).kind();
-        assert_eq!(rt; (*word, told), (*word, *kind));
+    for number in 0..KINDS.len() {
+        let (word, kind) = KINDS[number];
+        expect(&rt, number, Entry::from_word(word).kind(), kind);
     }
 }
 
@@ -87,17 +88,18 @@ static ACCESSES: [(u64, Access, Mode, bool); 8] = [
 
 #[test]
 fn judges_accesses(rt: HostRuntime) {
-    for row in &ACCESSES {
-        let (word, access, mode, _) = *row;
-        let permits = Entry::from_word(word).permits(access, mode);
-        assert_eq!(rt; (word, access, mode, permits), *row);
+    for number in 0..ACCESSES.len() {
+        let (word, access, mode, permitted) = ACCESSES[number];
+        let told = Entry::from_word(word).permits(access, mode);
+        expect(&rt, number, told, permitted);
     }
 }
 
 #[test]
 fn reads_entries_and_rights(rt: HostRuntime) {
-    assert_eq!(rt; Entry::from_word(0x200015d3).ppn(), 0x80005);
-    assert!(rt; Rights::READ.grants(Access::Load) && !Rights::READ.grants(Access::Store));
+    expect(&rt, 0, Entry::from_word(0x200015d3).ppn(), 0x80005);
+    expect(&rt, 1, Rights::READ.grants(Access::Load), true);
+    expect(&rt, 2, Rights::READ.grants(Access::Store), false);
 }
 
 /// The indices of a page in the tables of its walk, that of level 3 first.
@@ -118,10 +120,11 @@ static ADDRESSES: [(u64, u64, u64, Indices); 5] = [
 
 #[test]
 fn takes_addresses_apart(rt: HostRuntime) {
-    for (address, number, rest, wanted) in &ADDRESSES {
-        let (page, offset) = (Va(*address).page(), Va(*address).offset());
+    for number in 0..ADDRESSES.len() {
+        let va = Va(ADDRESSES[number].0);
+        let (page, offset) = (va.page(), va.offset());
         let told = (page.at(offset).0, page.number(), offset, indices(page));
-        assert_eq!(rt; told, (*address, *number, *rest, *wanted));
+        expect(&rt, number, told, ADDRESSES[number]);
     }
 }
 
@@ -132,11 +135,11 @@ fn number_of(page: Option<Vpn>) -> Option<u64> {
 
 #[test]
 fn takes_numbers_of_pages_and_frames(rt: HostRuntime) {
-    let pages = (number_of(Vpn::new(1 << 52)), number_of(Vpn::new(7)));
-    assert_eq!(rt; pages, (None, Some(7)));
-    let frames = (FrameNo::from_ppn(0x80005), FrameNo::from_ppn(0x7ffff));
-    assert_eq!(rt; frames, (Some(FrameNo(5)), None));
-    assert_eq!(rt; FrameNo(5).address(), 0x80005000);
+    expect(&rt, 0, number_of(Vpn::new(1 << 52)), None);
+    expect(&rt, 1, number_of(Vpn::new(7)), Some(7));
+    expect(&rt, 2, FrameNo::from_ppn(0x80005), Some(FrameNo(5)));
+    expect(&rt, 3, FrameNo::from_ppn(0x7ffff), None);
+    expect(&rt, 4, FrameNo(5).address(), 0x80005000);
 }
 
 /// An address, and whether it is canonical under Sv39 and under Sv48.
@@ -153,14 +156,11 @@ static CANONICAL: [(u64, bool, bool); 8] = [
 
 #[test]
 fn knows_canonical_addresses(rt: HostRuntime) {
-    for (address, in_sv39, in_sv48) in &CANONICAL {
-        let va = Va(*address);
-        let told = (
-            *address,
-            Scheme::Sv39.is_canonical(va),
-            Scheme::Sv48.is_canonical(va),
-        );
-        assert_eq!(rt; told, (*address, *in_sv39, *in_sv48));
+    for number in 0..CANONICAL.len() {
+        let (address, in_sv39, in_sv48) = CANONICAL[number];
+        let va = Va(address);
+        let told = (Scheme::Sv39.is_canonical(va), Scheme::Sv48.is_canonical(va));
+        expect(&rt, number, told, (in_sv39, in_sv48));
     }
 }
 
@@ -203,8 +203,9 @@ static PLACES: [(Scheme, [u64; 6]); 2] = [
 
 #[test]
 fn knows_places(rt: HostRuntime) {
-    for (scheme, wanted) in &PLACES {
-        assert_eq!(rt; places(*scheme), *wanted, "{scheme:?}");
+    for number in 0..PLACES.len() {
+        let (scheme, wanted) = PLACES[number];
+        expect(&rt, number, places(scheme), wanted);
     }
 }
 
@@ -216,9 +217,10 @@ static SCHEMES: [(Scheme, u32, u64, u64); 2] = [
 
 #[test]
 fn knows_schemes(rt: HostRuntime) {
-    for (scheme, top_level, pages, mode) in &SCHEMES {
+    for number in 0..SCHEMES.len() {
+        let (scheme, top_level, pages, mode) = SCHEMES[number];
         let told = (scheme.top_level(), scheme.page_limit(), scheme.mode());
-        assert_eq!(rt; told, (*top_level, *pages, *mode));
+        expect(&rt, number, told, (top_level, pages, mode));
     }
 }
 
@@ -231,13 +233,14 @@ static CAUSES: [(Access, u64, u64, u64); 3] = [
 
 #[test]
 fn numbers_causes(rt: HostRuntime) {
-    for (access, misaligned, outside, page) in &CAUSES {
+    for number in 0..CAUSES.len() {
+        let (access, misaligned, outside, page) = CAUSES[number];
         let told = (
             access.misaligned_cause(),
             access.access_fault_cause(),
             access.page_fault_cause(),
         );
-        assert_eq!(rt; told, (*misaligned, *outside, *page));
+        expect(&rt, number, told, (misaligned, outside, page));
     }
 }
 
@@ -248,7 +251,8 @@ static RULES: [(Rule, u64, &str); 2] = [
 
 #[test]
 fn names_rules(rt: HostRuntime) {
-    for (rule, number, name) in &RULES {
-        assert_eq!(rt; (rule.number(), rule.name()), (*number, *name));
+    for row in 0..RULES.len() {
+        let (rule, number, name) = RULES[row];
+        expect(&rt, row, (rule.number(), rule.name()), (number, name));
     }
 }

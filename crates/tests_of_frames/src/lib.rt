@@ -12,4 +12,6 @@ mod entries;
 #[cfg(test)]
 mod plain_frames;
 #[cfg(test)]
+mod rows;
+#[cfg(test)]
 mod shared_words;

@@ -9,7 +9,8 @@ ghost use Rattle.frame_store.specs.View.{IsHeld};
 ghost use Rattle.shared_frames.specs.SeatsOfTable.{FitsIn, view_of};
 
 use crate::clients::{Refusal, shared_to_the_most};
-use frame_store::{FrameAccess, FrameSupply, PlainFrames, SharersFull};
+use crate::rows::expect;
+use frame_store::{FrameAccess, FrameSupply, NoFrame, PlainFrames, SharersFull};
 use shared_frames::{SharedFrames, SharedSeat};
 use std::sync::Wait;
 use std::test::Fail;
@@ -111,19 +112,21 @@ fn four_threads_give_all_back(rt: HostRuntime) -> Result<(), Fail> {
         { work_both(&rt, &frames, third, fourth) },
     );
     frames.access().join(&mut seat, other);
-    assert!(rt; all && other_all);
+    expect(&rt, 0, (all, other_all), (true, true));
     let totals = frames.close(seat);
-    assert_eq!(rt; (totals.free, totals.held, totals.trampoline), (64, 1, 4));
+    let counts = (totals.free, totals.held, totals.trampoline);
+    expect(&rt, 1, counts, (64, 1, 4));
     Ok(())
 }
 
 #[test]
 fn rounds_at_both_stores(rt: HostRuntime) -> Result<(), Fail> {
     let (mut plain, mut plain_seat) = PlainFrames::new(rt.alloc(), 5)?;
-    assert!(rt; round(&mut plain, &mut plain_seat).is_ok());
+    expect(&rt, 0, round(&mut plain, &mut plain_seat), Ok(()));
     let (frames, mut seat) = SharedFrames::new(rt.alloc(), 5)?;
-    assert!(rt; round(&mut frames.supply(&rt), &mut seat).is_ok());
-    assert_eq!(rt; (plain.report().free, frames.close(seat).free), (4, 4));
+    expect(&rt, 1, round(&mut frames.supply(&rt), &mut seat), Ok(()));
+    let free = (plain.report().free, frames.close(seat).free);
+    expect(&rt, 2, free, (4, 4));
     Ok(())
 }
 
@@ -132,10 +135,10 @@ fn refuses_what_is_reserved(rt: HostRuntime) -> Result<(), Fail> {
     let (frames, mut first) = SharedFrames::new(rt.alloc(), 5)?;
     let mut supply = frames.supply(&rt);
     let mut second = supply.split(&mut first, &[]);
-    assert!(rt; supply.reserve(&mut first, 3).is_ok());
-    assert!(rt; supply.reserve(&mut second, 2).is_err());
+    supply.reserve(&mut first, 3)?;
+    expect(&rt, 0, supply.reserve(&mut second, 2), Err(NoFrame));
     supply.give_back(&mut first, 3);
-    assert!(rt; supply.reserve(&mut second, 2).is_ok());
+    expect(&rt, 1, supply.reserve(&mut second, 2), Ok(()));
     Ok(())
 }
 
@@ -143,7 +146,7 @@ fn refuses_what_is_reserved(rt: HostRuntime) -> Result<(), Fail> {
 fn counts_to_65_535(rt: HostRuntime) -> Result<(), Fail> {
     let (frames, mut seat) = SharedFrames::new(rt.alloc(), 2)?;
     let counts = shared_to_the_most(&mut frames.supply(&rt), &mut seat)?;
-    assert_eq!(rt; counts, (1, 65_534, 65_535));
+    expect(&rt, 0, counts, (1, 65_534, 65_535));
     Ok(())
 }
 
@@ -204,6 +207,6 @@ fn hands_frames_over(rt: HostRuntime) -> Result<(), Fail> {
             requires { FitsIn frames.table one × IsHeld (view_of one) frame.0 }
         { last_word(&frames, &mut one, frame) },
     );
-    assert_eq!(rt; (mine, theirs), (7, 9));
+    expect(&rt, 0, (mine, theirs), (7, 9));
     Ok(())
 }

@@ -2,7 +2,7 @@ use Rattle.std.proofs.Common.{refl, sym, subst}
 use Rattle.frame_store.specs.Laws.{fits_after}
 use Rattle.frame_store.specs.View.{IsHeld}
 use Rattle.frame_clients.specs.FilledFrames.{filled_holds}
-use Rattle.tests_of_frames.proofs.clients.finds_next_words.Goals as goal
+use Rattle.tests_of_frames.proofs.clients.first_not_found.Goals as goal
 
 pub cases-init : goal.cases-init
 cases-init g c = record {

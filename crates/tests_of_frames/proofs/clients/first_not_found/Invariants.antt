@@ -1,7 +1,7 @@
 use Rattle.std.proofs.Common.{◌≡◌}
 use Rattle.frame_store.specs.Laws.{KeepsSeats}
 use Rattle.frame_store.specs.View.{IsHeld}
-use Rattle.tests_of_frames.proofs.clients.finds_next_words.Given as goal
+use Rattle.tests_of_frames.proofs.clients.first_not_found.Given as goal
 
 -- nothing changes
 abbrev pub invariant-cases : goal.invariant-cases
