@@ -38,9 +38,10 @@ pub(crate) fn first_wrong<S: FrameSeat + Drop, F: FrameSupply<Seat = S> + Accoun
     ensures alive { AreAlive S.view space.new child.new }
     ensures keeps { FamilyKeeps F.invariant store.old space.old child.old store.new space.new child.new }
 {
-    'rows: for (number, (operation, expected, same)) in rows.iter().enumerate() {
-        let (answer, as_before) = played(alloc, space, child, store, files, images, *operation)?;
-        if answer != *expected || as_before != *same {
+    'rows: for number in 0..rows.len() {
+        let (operation, expected, same) = rows[number];
+        let (answer, as_before) = played(alloc, space, child, store, files, images, operation)?;
+        if answer != expected || as_before != same {
             return Ok(Some((number, answer, as_before)));
         }
     }

@@ -1,11 +1,12 @@
 // Tests that a served fault, both kernel copies, munmap and exec are refused if the file refuses a promise (a reservation of
 // page I/O), keep what was copied before but change nothing else, and succeed when they are repeated if frames are free.
-// `Case`: promises and frames, four rows of an operation and its answer, and free frames in the end.
+// Each is a story (test case): four rows of an operation and its answer.
 
 use crate::operation::Answer::{Copied, Done, Refused, Served, Short};
 use crate::operation::Operation::{CopyIn, CopyOut, Exec, Map, Serve, Unmap};
-use crate::operation::Row;
-use crate::stores::play;
+use crate::operation::{Answer, Operation, Row};
+use crate::stores::play_all;
+use crate::stories::Story;
 use fault_rules::Served::{Ready, Unserved};
 use process_model::Refusal::{Memory, NoFrame};
 use std::test::Fail;
@@ -17,64 +18,121 @@ const FIRST: u64 = 0x3f_ffff_c000;
 
 const SECOND: u64 = 0x3f_ffff_d000;
 
-/// How many promises the file makes before it refuses one, the number of free frames at first, the rows, and the number of
-/// free frames in the end.
-type Case = (usize, usize, [Row; 4], usize);
+const MAPPED: Row = (Map(0x2000), Done, false);
 
-/// In the last case exec's promise is refused, and no frame is free either: the promise is asked for first.
-fn cases() -> [Case; 9] {
-    let map = (Map(0x2000), Done, false);
-    let serve = Serve(Access::Store, FIRST);
-    let unserved = (serve, Served(Unserved(Memory)), true);
-    let (ready, again) = ((serve, Served(Ready), false), (serve, Served(Ready), true));
-    let (copy_in, copy_out) = (CopyIn(SECOND - 2), CopyOut(SECOND - 2, [1, 2, 3, 4]));
-    let written = (copy_out, Done, false);
-    let none_out = (copy_out, Short(Unpromised(Memory), 0, 0), true);
-    let half_out = (copy_out, Short(Unpromised(Memory), 2, 0), false);
-    let half_in = (copy_in, Short(Unpromised(Memory), 2, 0x0707), false);
-    let all_read = (copy_in, Copied(0x0403_0201), true);
-    let half_read = (copy_in, Copied(0x0201), false);
-    let old_read = (copy_in, Copied(0x0707), false);
-    let (front, back) = (Unmap(FIRST, 0x1000), Unmap(SECOND, 0x1000));
-    let (all, exec, small) = (Unmap(FIRST, 0x2000), Exec(0), Exec(1));
-    let (no, dry) = (Refused(Memory), Refused(NoFrame));
-    [
-        (0, 12, [map, unserved, ready, again], 11),
-        (0, 12, [map, none_out, written, all_read], 10),
-        (1, 12, [map, half_out, half_read, written], 10),
-        (1, 12, [map, half_in, old_read, written], 10),
-        (
-            2,
-            12,
-            [map, written, (all, no, true), (all, Done, false)],
-            12,
-        ),
-        (
-            3,
-            12,
-            [map, written, (front, Done, false), (back, no, true)],
-            11,
-        ),
-        (
-            2,
-            12,
-            [map, written, (exec, no, true), (exec, Done, false)],
-            12,
-        ),
-        (
-            2,
-            12,
-            [map, written, (small, no, true), (small, Done, false)],
-            14,
-        ),
-        (2, 2, [map, written, (exec, no, true), (exec, dry, true)], 0),
-    ]
-}
+const SERVE: Operation = Serve(Access::Store, FIRST);
+
+/// Copies across the end of the first page.
+const COPY_IN: Operation = CopyIn(SECOND - 2);
+
+const COPY_OUT: Operation = CopyOut(SECOND - 2, [1, 2, 3, 4]);
+
+const WRITTEN: Row = (COPY_OUT, Done, false);
+
+const ALL: Operation = Unmap(FIRST, 0x2000);
+
+const BACK: Operation = Unmap(SECOND, 0x1000);
+
+const NO: Answer = Refused(Memory);
+
+/// In the last story exec's promise is refused, and no frame is free either: the promise is asked for first.
+static STORIES: [Story; 9] = [
+    Story {
+        left: 12,
+        sharers: 0,
+        promises: Some(0),
+        rows: &[
+            MAPPED,
+            (SERVE, Served(Unserved(Memory)), true),
+            (SERVE, Served(Ready), false),
+            (SERVE, Served(Ready), true),
+        ],
+        free: 11,
+    },
+    Story {
+        left: 12,
+        sharers: 0,
+        promises: Some(0),
+        rows: &[
+            MAPPED,
+            (COPY_OUT, Short(Unpromised(Memory), 0, 0), true),
+            WRITTEN,
+            (COPY_IN, Copied(0x0403_0201), true),
+        ],
+        free: 10,
+    },
+    Story {
+        left: 12,
+        sharers: 0,
+        promises: Some(1),
+        rows: &[
+            MAPPED,
+            (COPY_OUT, Short(Unpromised(Memory), 2, 0), false),
+            (COPY_IN, Copied(0x0201), false),
+            WRITTEN,
+        ],
+        free: 10,
+    },
+    Story {
+        left: 12,
+        sharers: 0,
+        promises: Some(1),
+        rows: &[
+            MAPPED,
+            (COPY_IN, Short(Unpromised(Memory), 2, 0x0707), false),
+            (COPY_IN, Copied(0x0707), false),
+            WRITTEN,
+        ],
+        free: 10,
+    },
+    Story {
+        left: 12,
+        sharers: 0,
+        promises: Some(2),
+        rows: &[MAPPED, WRITTEN, (ALL, NO, true), (ALL, Done, false)],
+        free: 12,
+    },
+    Story {
+        left: 12,
+        sharers: 0,
+        promises: Some(3),
+        rows: &[
+            MAPPED,
+            WRITTEN,
+            (Unmap(FIRST, 0x1000), Done, false),
+            (BACK, NO, true),
+        ],
+        free: 11,
+    },
+    Story {
+        left: 12,
+        sharers: 0,
+        promises: Some(2),
+        rows: &[MAPPED, WRITTEN, (Exec(0), NO, true), (Exec(0), Done, false)],
+        free: 12,
+    },
+    Story {
+        left: 12,
+        sharers: 0,
+        promises: Some(2),
+        rows: &[MAPPED, WRITTEN, (Exec(1), NO, true), (Exec(1), Done, false)],
+        free: 14,
+    },
+    Story {
+        left: 2,
+        sharers: 0,
+        promises: Some(2),
+        rows: &[
+            MAPPED,
+            WRITTEN,
+            (Exec(0), NO, true),
+            (Exec(0), Refused(NoFrame), true),
+        ],
+        free: 0,
+    },
+];
 
 #[test]
 fn changes_nothing_without_a_promise(rt: HostRuntime) -> Result<(), Fail> {
-    for (promises, left, rows, free) in cases().iter() {
-        play(&rt, rt.alloc(), *left, 0, Some(*promises), rows, *free)?;
-    }
-    Ok(())
+    play_all(&rt, rt.alloc(), &STORIES)
 }

@@ -1,8 +1,7 @@
 // `play`: plays a story (test case) over plain frames and over shared frames, and asserts that it has no wrong row and gives
-// its frames back.
+// its frames back. `play_all`: plays the stories of a table.
 
-use crate::images_and_file::{SMALL, STANDARD, one_file, standard_segments};
-use crate::operation::Row;
+use crate::images_and_file::{SMALL, one_file, standard_segments};
 use crate::stories::{FRAMES, Story, Told, played_over};
 use frame_store::PlainFrames;
 use process_model::Image;
@@ -12,42 +11,39 @@ use std::process::Abort;
 use std::sync::Wait;
 use std::test::Fail;
 
-/// Plays rows over both stores. Image 0 is of the standard segments, and image 1 is the small ELF file. Asserts that no row
-/// is wrong, that `free` frames are free after the rows, and that all but frame 0 are free once the processes are destroyed.
-/// `left`: how many frames are free when the process has started. `sharers` and `promises` are as in `Story`.
+/// Plays a story over both stores. Image 0 is of the standard segments, and image 1 is the small ELF file. Asserts that no row
+/// is wrong, that as many frames are free after the rows as the story says, and that all but frame 0 are free once the
+/// processes are destroyed. `number` is that of the story, for a failed assertion.
 ///
 /// # Errors
 /// `Fail`: the process could not be started, or the host is out of memory.
 pub(crate) fn play<R: Abort + Wait>(
     rt: &R,
     alloc: Global,
-    left: usize,
-    sharers: usize,
-    promises: Option<usize>,
-    rows: &[Row],
-    free: usize,
+    number: usize,
+    story: &Story,
 ) -> Result<(), Fail> {
     let segments = standard_segments(alloc)?;
     let images = [Image::Segments(&segments), Image::Elf(SMALL)];
-    let left = STANDARD.saturating_add(left);
-    let story = Story {
-        left,
-        sharers,
-        promises,
-        rows,
-    };
-    for is_shared in [false, true] {
-        let told = if is_shared {
-            over_shared(rt, alloc, &images, &story)?
-        } else {
-            over_plain(alloc, &images, &story)?
-        };
-        let wanted = ((None, free), FRAMES - 1);
-        assert_eq!(rt;
-            told,
-            wanted,
-            "shared: {is_shared}, {left} left, {sharers} sharers, {promises:?} promises"
-        );
+    let plain = over_plain(alloc, &images, story)?;
+    let shared = over_shared(rt, alloc, &images, story)?;
+    let wanted = ((None, story.free), FRAMES - 1);
+    let key = (number, story.left);
+    assert_eq!(rt; (key, plain, shared), (key, wanted, wanted));
+    Ok(())
+}
+
+/// Plays stories, one after another.
+///
+/// # Errors
+/// `Fail`: a process could not be started, or the host is out of memory.
+pub(crate) fn play_all<R: Abort + Wait>(
+    rt: &R,
+    alloc: Global,
+    stories: &[Story],
+) -> Result<(), Fail> {
+    for number in 0..stories.len() {
+        play(rt, alloc, number, &stories[number])?;
     }
     Ok(())
 }

@@ -7,7 +7,7 @@ ghost use Rattle.frame_store.specs.View.{IsHeld};
 
 use crate::accounts::Accounts;
 use crate::family::{Wrong, ended, first_wrong};
-use crate::images_and_file::OneFile;
+use crate::images_and_file::{OneFile, STANDARD};
 use crate::initial_process::{begun, reserved_all};
 use crate::operation::Row;
 use frame_store::{FrameAccess, FrameSeat, FrameSupply};
@@ -21,14 +21,16 @@ pub(crate) const FRAMES: usize = 64;
 
 /// What a process of the first image does.
 #[derive(Clone, Copy)]
-pub(crate) struct Story<'a> {
-    /// The number of frames left to the process.
+pub(crate) struct Story {
+    /// The number of frames that are free when the process has started.
     pub left: usize,
     /// How many references of frame 0 the keeper takes beside its own.
     pub sharers: usize,
     /// How many promises the file makes before it refuses one; `None`: it refuses none.
     pub promises: Option<usize>,
-    pub rows: &'a [Row],
+    pub rows: &'static [Row],
+    /// The number of frames that must be free after the rows.
+    pub free: usize,
 }
 
 /// The first wrong row, and the number of free frames after the rows, before the process is destroyed.
@@ -53,7 +55,7 @@ pub(crate) fn played_over<S: FrameSeat + Drop, F: FrameSupply<Seat = S> + Accoun
     let Some(image) = images.first() else {
         return Err(Fail::from("no image"));
     };
-    let reserved = (FRAMES - 1).saturating_sub(story.left);
+    let reserved = (FRAMES - 1 - STANDARD).saturating_sub(story.left);
     let image = exec_segments::Image::judged(Scheme::Sv39, *image)?;
     let mut space = begun(store, &mut keeper, &image, reserved, story.sharers)?;
     let mut child = None;
