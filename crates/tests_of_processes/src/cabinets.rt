@@ -11,7 +11,7 @@ use std::test::Fail;
 pub(crate) type Change = (usize, usize, u8);
 
 /// The length of each file in bytes, and whether it is writable.
-const FILES: [(usize, bool); 3] = [(5_000, true), (4_096, false), (10_003, true)];
+static FILES: [(usize, bool); 3] = [(5_000, true), (4_096, false), (10_003, true)];
 
 /// The byte of `file` at offset `place` in the beginning: `place / 256 + 64 * file`, modulo 256. It differs from one block
 /// of 256 bytes to the next, and from file to file.
@@ -42,7 +42,8 @@ fn declared(
 /// `Fail`: the host is out of memory.
 pub(crate) fn three_files(alloc: Global) -> Result<Cabinet, Fail> {
     let mut texts = Vec::new(alloc);
-    for (file, (length, writable)) in FILES.into_iter().enumerate() {
+    for file in 0..FILES.len() {
+        let (length, writable) = FILES[file];
         texts.push(declared(alloc, file, length, writable)?)?;
     }
     cabinet(alloc, &texts)
@@ -55,14 +56,14 @@ pub(crate) fn three_files(alloc: Global) -> Result<Cabinet, Fail> {
 /// `AllocError`: the host is out of memory.
 pub(crate) fn changes_of(alloc: Global, files: &Cabinet) -> Result<Vec<Change>, AllocError> {
     let mut changes = Vec::new(alloc);
-    for (file, (length, _)) in FILES.into_iter().enumerate() {
+    for file in 0..FILES.len() {
         let bytes = files.bytes(file).unwrap_or_default();
-        for (place, byte) in bytes.iter().enumerate() {
-            if *byte != byte_at(file, place) {
-                changes.push((file, place, *byte))?;
+        for place in 0..bytes.len() {
+            if bytes[place] != byte_at(file, place) {
+                changes.push((file, place, bytes[place]))?;
             }
         }
-        if bytes.len() != length {
+        if bytes.len() != FILES[file].0 {
             changes.push((file, bytes.len(), 0))?;
         }
     }

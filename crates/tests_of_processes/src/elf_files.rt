@@ -2,7 +2,7 @@
 // (`Row`: a field, its number and the check), for two program headers, and for a file of 1 MiB and of one byte more; and
 // that `start` makes the right regions of the file.
 
-use crate::SCHEMES;
+use crate::rows::expect;
 use address_space::Space;
 use byteorder::{ByteOrder, LittleEndian};
 use exec_segments::{read_image, start};
@@ -44,11 +44,14 @@ fn put(bytes: &mut [u8], at: usize, number: u64) {
     }
 }
 
+/// The offset of a field, and the number written there.
+type Field = (usize, u64);
+
 /// The check that the file fails with these numbers written at two offsets.
 fn with_numbers(
     alloc: Global,
     scheme: Scheme,
-    fields: [(usize, u64); 2],
+    fields: [Field; 2],
 ) -> Result<Option<BadImage>, AllocError> {
     let mut bytes = Vec::from_slice(alloc, FILE)?;
     for (at, number) in fields {
@@ -66,51 +69,204 @@ fn judges_each_front(rt: HostRuntime) {
             120..124 => Some(BadImage::Contents),
             _ => None,
         };
-        assert_eq!(rt;
-            refusal(Scheme::Sv39, &FILE[..count]),
-            told,
-            "{count} bytes"
-        );
+        expect(&rt, count, refusal(Scheme::Sv39, &FILE[..count]), told);
     }
 }
 
-/// The offset of a field, the number written there, and the check that the file then fails.
-type Row = ((usize, u64), Option<BadImage>);
+/// A scheme, two fields or twice the same one, and the check that the file then fails.
+type Row = (Scheme, Field, Field, Option<BadImage>);
 
-fn rows(scheme: Scheme) -> [Row; 15] {
-    let high = match scheme {
-        Scheme::Sv39 => Some(BadImage::TooHigh),
-        Scheme::Sv48 => None,
-    };
-    [
-        ((0, 0x0001_0102_464c_457e), Some(BadImage::Magic)),
-        ((TABLE, u64::MAX), Some(BadImage::ProgramHeader)),
-        ((COUNT, 0xffff), Some(BadImage::ProgramHeader)),
-        ((COUNT, 0), Some(BadImage::NoLoad)),
-        ((TYPE, 0x5_0000_0002), Some(BadImage::NoLoad)),
-        ((MEMORY_SIZE, 3), Some(BadImage::Sizes)),
-        ((ADDRESS, 0xffff_ffff_ffff_f000), Some(BadImage::Wraps)),
-        ((ADDRESS, 0x1001), Some(BadImage::Align)),
-        ((OFFSET, u64::MAX), Some(BadImage::Contents)),
-        ((FILE_SIZE, 5), Some(BadImage::Contents)),
-        ((ADDRESS, 0x3f_ffff_b000), None),
-        ((ADDRESS, 0x3f_ffff_d000), high),
-        ((ADDRESS, 0x7fff_ffff_b000), high),
-        ((ADDRESS, 0x7fff_ffff_d000), Some(BadImage::TooHigh)),
-        ((MEMORY_SIZE, u64::MAX), Some(BadImage::TooHigh)),
-    ]
-}
+static FIELDS: [Row; 32] = [
+    (
+        Scheme::Sv39,
+        (0, 0x0001_0102_464c_457e),
+        (0, 0x0001_0102_464c_457e),
+        Some(BadImage::Magic),
+    ),
+    (
+        Scheme::Sv39,
+        (TABLE, u64::MAX),
+        (TABLE, u64::MAX),
+        Some(BadImage::ProgramHeader),
+    ),
+    (
+        Scheme::Sv39,
+        (COUNT, 0xffff),
+        (COUNT, 0xffff),
+        Some(BadImage::ProgramHeader),
+    ),
+    (Scheme::Sv39, (COUNT, 0), (COUNT, 0), Some(BadImage::NoLoad)),
+    (
+        Scheme::Sv39,
+        (TYPE, 0x5_0000_0002),
+        (TYPE, 0x5_0000_0002),
+        Some(BadImage::NoLoad),
+    ),
+    (
+        Scheme::Sv39,
+        (MEMORY_SIZE, 3),
+        (MEMORY_SIZE, 3),
+        Some(BadImage::Sizes),
+    ),
+    (
+        Scheme::Sv39,
+        (ADDRESS, 0xffff_ffff_ffff_f000),
+        (ADDRESS, 0xffff_ffff_ffff_f000),
+        Some(BadImage::Wraps),
+    ),
+    (
+        Scheme::Sv39,
+        (ADDRESS, 0x1001),
+        (ADDRESS, 0x1001),
+        Some(BadImage::Align),
+    ),
+    (
+        Scheme::Sv39,
+        (OFFSET, u64::MAX),
+        (OFFSET, u64::MAX),
+        Some(BadImage::Contents),
+    ),
+    (
+        Scheme::Sv39,
+        (FILE_SIZE, 5),
+        (FILE_SIZE, 5),
+        Some(BadImage::Contents),
+    ),
+    (
+        Scheme::Sv39,
+        (ADDRESS, 0x3f_ffff_b000),
+        (ADDRESS, 0x3f_ffff_b000),
+        None,
+    ),
+    (
+        Scheme::Sv39,
+        (ADDRESS, 0x3f_ffff_d000),
+        (ADDRESS, 0x3f_ffff_d000),
+        Some(BadImage::TooHigh),
+    ),
+    (
+        Scheme::Sv39,
+        (ADDRESS, 0x7fff_ffff_b000),
+        (ADDRESS, 0x7fff_ffff_b000),
+        Some(BadImage::TooHigh),
+    ),
+    (
+        Scheme::Sv39,
+        (ADDRESS, 0x7fff_ffff_d000),
+        (ADDRESS, 0x7fff_ffff_d000),
+        Some(BadImage::TooHigh),
+    ),
+    (
+        Scheme::Sv39,
+        (MEMORY_SIZE, u64::MAX),
+        (MEMORY_SIZE, u64::MAX),
+        Some(BadImage::TooHigh),
+    ),
+    (
+        Scheme::Sv39,
+        (FILE_SIZE, 0),
+        (MEMORY_SIZE, 0),
+        Some(BadImage::NoLoad),
+    ),
+    (
+        Scheme::Sv48,
+        (0, 0x0001_0102_464c_457e),
+        (0, 0x0001_0102_464c_457e),
+        Some(BadImage::Magic),
+    ),
+    (
+        Scheme::Sv48,
+        (TABLE, u64::MAX),
+        (TABLE, u64::MAX),
+        Some(BadImage::ProgramHeader),
+    ),
+    (
+        Scheme::Sv48,
+        (COUNT, 0xffff),
+        (COUNT, 0xffff),
+        Some(BadImage::ProgramHeader),
+    ),
+    (Scheme::Sv48, (COUNT, 0), (COUNT, 0), Some(BadImage::NoLoad)),
+    (
+        Scheme::Sv48,
+        (TYPE, 0x5_0000_0002),
+        (TYPE, 0x5_0000_0002),
+        Some(BadImage::NoLoad),
+    ),
+    (
+        Scheme::Sv48,
+        (MEMORY_SIZE, 3),
+        (MEMORY_SIZE, 3),
+        Some(BadImage::Sizes),
+    ),
+    (
+        Scheme::Sv48,
+        (ADDRESS, 0xffff_ffff_ffff_f000),
+        (ADDRESS, 0xffff_ffff_ffff_f000),
+        Some(BadImage::Wraps),
+    ),
+    (
+        Scheme::Sv48,
+        (ADDRESS, 0x1001),
+        (ADDRESS, 0x1001),
+        Some(BadImage::Align),
+    ),
+    (
+        Scheme::Sv48,
+        (OFFSET, u64::MAX),
+        (OFFSET, u64::MAX),
+        Some(BadImage::Contents),
+    ),
+    (
+        Scheme::Sv48,
+        (FILE_SIZE, 5),
+        (FILE_SIZE, 5),
+        Some(BadImage::Contents),
+    ),
+    (
+        Scheme::Sv48,
+        (ADDRESS, 0x3f_ffff_b000),
+        (ADDRESS, 0x3f_ffff_b000),
+        None,
+    ),
+    (
+        Scheme::Sv48,
+        (ADDRESS, 0x3f_ffff_d000),
+        (ADDRESS, 0x3f_ffff_d000),
+        None,
+    ),
+    (
+        Scheme::Sv48,
+        (ADDRESS, 0x7fff_ffff_b000),
+        (ADDRESS, 0x7fff_ffff_b000),
+        None,
+    ),
+    (
+        Scheme::Sv48,
+        (ADDRESS, 0x7fff_ffff_d000),
+        (ADDRESS, 0x7fff_ffff_d000),
+        Some(BadImage::TooHigh),
+    ),
+    (
+        Scheme::Sv48,
+        (MEMORY_SIZE, u64::MAX),
+        (MEMORY_SIZE, u64::MAX),
+        Some(BadImage::TooHigh),
+    ),
+    (
+        Scheme::Sv48,
+        (FILE_SIZE, 0),
+        (MEMORY_SIZE, 0),
+        Some(BadImage::NoLoad),
+    ),
+];
 
 #[test]
 fn judges_each_field(rt: HostRuntime) {
-    let empty = [(FILE_SIZE, 0), (MEMORY_SIZE, 0)];
-    for scheme in SCHEMES {
-        for (field, told) in rows(scheme) {
-            let found = with_numbers(rt.alloc(), scheme, [field, field]);
-            assert_eq!(rt; found, Ok(told), "{scheme:?} {field:?}");
-        }
-        let found = with_numbers(rt.alloc(), scheme, empty);
-        assert_eq!(rt; found, Ok(Some(BadImage::NoLoad)), "{scheme:?}");
+    for number in 0..FIELDS.len() {
+        let (scheme, first, second, wanted) = FIELDS[number];
+        let told = with_numbers(rt.alloc(), scheme, [first, second]);
+        expect(&rt, number, told, Ok(wanted));
     }
 }
 
@@ -128,9 +284,9 @@ fn with_two_headers(alloc: Global, address: u64) -> Result<Option<BadImage>, All
 
 #[test]
 fn judges_headers_in_a_row(rt: HostRuntime) {
-    for (address, told) in [(0, Some(BadImage::Order)), (0x1000, None)] {
-        assert_eq!(rt; with_two_headers(rt.alloc(), address), Ok(told));
-    }
+    let order = Some(BadImage::Order);
+    expect(&rt, 0, with_two_headers(rt.alloc(), 0), Ok(order));
+    expect(&rt, 1, with_two_headers(rt.alloc(), 0x1000), Ok(None));
 }
 
 /// The check that the file fails with zeros appended up to a length in bytes.
@@ -142,45 +298,47 @@ fn with_length(alloc: Global, length: usize) -> Result<Option<BadImage>, AllocEr
 
 #[test]
 fn takes_a_mebibyte(rt: HostRuntime) {
-    for (length, told) in [(1_048_576, None), (1_048_577, Some(BadImage::TooLong))] {
-        assert_eq!(rt; with_length(rt.alloc(), length), Ok(told));
+    let too_long = Some(BadImage::TooLong);
+    expect(&rt, 0, with_length(rt.alloc(), 1_048_576), Ok(None));
+    expect(&rt, 1, with_length(rt.alloc(), 1_048_577), Ok(too_long));
+}
+
+/// Accesses to the process of the file, their addresses and widths, and the rules that deny them, `None` for a granted one: a
+/// fetch and a store at the end of page 0, a load in page 1, a store in page 2, and a load in page 3.
+static GRANTS: [(Access, u64, u64, Option<Rule>); 5] = [
+    (Access::Fetch, 0xffc, 4, None),
+    (Access::Store, 0xff8, 8, Some(Rule::NoWrite)),
+    (Access::Load, 0x1000, 8, Some(Rule::GuardPage)),
+    (Access::Store, 0x2000, 8, None),
+    (Access::Load, 0x3000, 8, Some(Rule::NoRegion)),
+];
+
+/// The number of the first access that another rule denies, or that is granted or denied and must not be; `None` if there is
+/// none.
+fn first_wrong(space: &Space<PlainSeat>) -> Option<usize> {
+    for number in 0..GRANTS.len() {
+        let (access, address, width, rule) = GRANTS[number];
+        // changes no row; it shows the limit to the proof
+        if space.grant(access, Va(address), width.max(1)).err() != rule {
+            return Some(number);
+        }
     }
+    None
 }
 
-/// The rules that deny accesses to the process of the file, `None` for a granted one: a fetch and a store at the end of page
-/// 0, a load in page 1, a store in page 2, and a load in page 3.
-fn refused(space: &Space<PlainSeat>) -> [Option<Rule>; 5] {
-    [
-        space.grant(Access::Fetch, Va(0xffc), 4).err(),
-        space.grant(Access::Store, Va(0xff8), 8).err(),
-        space.grant(Access::Load, Va(0x1000), 8).err(),
-        space.grant(Access::Store, Va(0x2000), 8).err(),
-        space.grant(Access::Load, Va(0x3000), 8).err(),
-    ]
-}
-
-/// `refused` of the process that a start of the file over 64 frames makes; `None` if it could not be started.
-fn refused_when_started(alloc: Global) -> Result<Option<[Option<Rule>; 5]>, AllocError> {
+/// `first_wrong` of the process that a start of the file over 64 frames makes. `None` if it could not be started.
+fn first_wrong_when_started(alloc: Global) -> Result<Option<Option<usize>>, AllocError> {
     let Ok(image) = read_image(Scheme::Sv39, FILE) else {
         return Ok(None);
     };
     let (mut store, seat) = PlainFrames::new(alloc, 64)?;
     match start(&mut store, seat, &image) {
-        Ok(space) => Ok(Some(refused(&space))),
+        Ok(space) => Ok(Some(first_wrong(&space))),
         Err(_) => Ok(None),
     }
 }
 
 #[test]
 fn starts_the_file(rt: HostRuntime) {
-    assert_eq!(rt;
-        refused_when_started(rt.alloc()),
-        Ok(Some([
-            None,
-            Some(Rule::NoWrite),
-            Some(Rule::GuardPage),
-            None,
-            Some(Rule::NoRegion),
-        ]))
-    );
+    expect(&rt, 0, first_wrong_when_started(rt.alloc()), Ok(Some(None)));
 }

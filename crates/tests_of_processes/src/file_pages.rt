@@ -5,6 +5,7 @@
 ghost use Rattle.std.specs.Prelude.{◌≡◌};
 ghost use Rattle.process_model.specs.Files.{fits_file};
 
+use crate::rows::expect;
 use file_cabinet::{Cabinet, Files};
 use process_model::{Bytes, FileText};
 use std::alloc::{AllocError, Global};
@@ -78,22 +79,23 @@ fn shape(files: &Cabinet, number: usize) -> (Option<usize>, Option<usize>, bool)
     (files.length(number), bytes, files.writable(number))
 }
 
+static LENGTHS: [usize; 16] = [
+    0, 1, 100, 4_095, 4_096, 4_097, 5_000, 8_192, 12_288, 12_289, 20_000, 32_768, 40_000, 61_440,
+    65_535, 65_536,
+];
+
 #[test]
 fn keeps_sixteen_files(rt: HostRuntime) -> Result<(), Fail> {
-    let lengths = [
-        0, 1, 100, 4_095, 4_096, 4_097, 5_000, 8_192, 12_288, 12_289, 20_000, 32_768, 40_000,
-        61_440, 65_535, 65_536,
-    ];
-    let texts = filled(rt.alloc(), &lengths)?;
+    let texts = filled(rt.alloc(), &LENGTHS)?;
     let files = cabinet(rt.alloc(), &texts)?;
-    for (number, length) in lengths.iter().enumerate() {
-        let wanted = (Some(*length), Some(*length), number % 2 == 0);
-        assert_eq!(rt; shape(&files, number), wanted, "file {number}");
+    for number in 0..LENGTHS.len() {
+        let length = Some(LENGTHS[number]);
+        let wanted = (length, length, number % 2 == 0);
+        expect(&rt, number, shape(&files, number), wanted);
     }
-    for number in [16, usize::MAX] {
-        let wanted = (None, None, false);
-        assert_eq!(rt; shape(&files, number), wanted, "file {number}");
-    }
+    expect(&rt, 16, shape(&files, 16), (None, None, false));
+    let last = shape(&files, usize::MAX);
+    expect(&rt, usize::MAX, last, (None, None, false));
     Ok(())
 }
 
@@ -109,41 +111,43 @@ fn as_lent(length: Option<usize>, offset: usize, place: usize, byte: u8) -> Opti
     Some(if place < rest { Some(byte) } else { None })
 }
 
+/// A file, the offset of a page in it, a place in the page, and the byte there.
+static READS: [(usize, usize, usize, u8); 22] = [
+    (0, 0, 0, 0),
+    (0, 0, 255, 255),
+    (0, 0, 256, 0),
+    (0, 0, 4_095, 255),
+    (0, 1, 0, 1),
+    (0, 4_000, 0, 160),
+    (0, 4_000, 99, 3),
+    (0, 4_000, 100, 0),
+    (0, 4_099, 0, 3),
+    (0, 4_100, 0, 0),
+    (0, 4_999, 4_095, 0),
+    (0, 5_000, 0, 0),
+    (0, usize::MAX, 4_095, 0),
+    (1, 0, 0, 0),
+    (1, 0, 4_095, 0),
+    (2, 61_440, 4_095, 255),
+    (2, 65_534, 0, 254),
+    (2, 65_534, 1, 255),
+    (2, 65_534, 2, 0),
+    (2, 65_536, 0, 0),
+    (3, 0, 0, 0),
+    (3, 0, 4_095, 0),
+];
+
 #[test]
 fn reads_pages(rt: HostRuntime) -> Result<(), Fail> {
     let mut files = three_files(rt.alloc())?;
-    let rows = [
-        (0, 0, 0, 0),
-        (0, 0, 255, 255),
-        (0, 0, 256, 0),
-        (0, 0, 4_095, 255),
-        (0, 1, 0, 1),
-        (0, 4_000, 0, 160),
-        (0, 4_000, 99, 3),
-        (0, 4_000, 100, 0),
-        (0, 4_099, 0, 3),
-        (0, 4_100, 0, 0),
-        (0, 4_999, 4_095, 0),
-        (0, 5_000, 0, 0),
-        (0, usize::MAX, 4_095, 0),
-        (1, 0, 0, 0),
-        (1, 0, 4_095, 0),
-        (2, 61_440, 4_095, 255),
-        (2, 65_534, 0, 254),
-        (2, 65_534, 1, 255),
-        (2, 65_534, 2, 0),
-        (2, 65_536, 0, 0),
-        (3, 0, 0, 0),
-        (3, 0, 4_095, 0),
-    ];
-    for (file, offset, place, byte) in rows {
+    for number in 0..READS.len() {
+        let (file, offset, place, byte) = READS[number];
         let mut page = [9; 4096];
         files.read_page(file, offset, &mut page);
         let there = page.get(place).copied();
-        assert_eq!(rt; there, Some(byte), "file {file} from {offset} at {place}");
         let lent = lent_byte(&files, file, offset, place);
         let wanted = as_lent(files.length(file), offset, place, byte);
-        assert_eq!(rt; lent, wanted, "file {file} from {offset} at {place}, lent");
+        expect(&rt, number, (there, lent), (Some(byte), wanted));
     }
     Ok(())
 }
@@ -153,45 +157,48 @@ pub(crate) fn byte_at(files: &Cabinet, file: usize, offset: usize) -> Option<u8>
     files.bytes(file)?.get(offset).copied()
 }
 
+/// A file and the offset at which the page below is written to it; and a file, an offset in it, and the byte there then.
+static WRITES: [(usize, usize, usize, usize, Option<u8>); 21] = [
+    (0, 0, 0, 0, Some(8)),
+    (0, 0, 0, 1, Some(7)),
+    (0, 0, 0, 4_095, Some(9)),
+    (0, 0, 0, 4_098, Some(2)),
+    (0, 0, 2, 1, Some(1)),
+    (0, 4_000, 0, 3_999, Some(159)),
+    (0, 4_000, 0, 4_000, Some(8)),
+    (0, 4_000, 0, 4_999, Some(7)),
+    (0, 4_000, 0, 5_000, None),
+    (0, 4_999, 0, 4_998, Some(0)),
+    (0, 4_999, 0, 4_999, Some(8)),
+    (0, 5_000, 0, 4_999, Some(0)),
+    (0, usize::MAX, 0, 4_999, Some(0)),
+    (1, 0, 1, 0, None),
+    (2, 61_440, 2, 61_439, Some(255)),
+    (2, 61_440, 2, 61_440, Some(8)),
+    (2, 61_440, 2, 65_535, Some(9)),
+    (2, 61_441, 2, 65_535, Some(7)),
+    (2, 61_441, 2, 65_536, None),
+    (3, 0, 2, 2, Some(2)),
+    (3, 0, 3, 0, None),
+];
+
 #[test]
 fn writes_pages(rt: HostRuntime) -> Result<(), Fail> {
     let mut page = [7; 4096];
     page[0] = 8;
     page[4_095] = 9;
-    let rows = [
-        (0, 0, 0, 0, Some(8)),
-        (0, 0, 0, 1, Some(7)),
-        (0, 0, 0, 4_095, Some(9)),
-        (0, 0, 0, 4_098, Some(2)),
-        (0, 0, 2, 1, Some(1)),
-        (0, 4_000, 0, 3_999, Some(159)),
-        (0, 4_000, 0, 4_000, Some(8)),
-        (0, 4_000, 0, 4_999, Some(7)),
-        (0, 4_000, 0, 5_000, None),
-        (0, 4_999, 0, 4_998, Some(0)),
-        (0, 4_999, 0, 4_999, Some(8)),
-        (0, 5_000, 0, 4_999, Some(0)),
-        (0, usize::MAX, 0, 4_999, Some(0)),
-        (1, 0, 1, 0, None),
-        (2, 61_440, 2, 61_439, Some(255)),
-        (2, 61_440, 2, 61_440, Some(8)),
-        (2, 61_440, 2, 65_535, Some(9)),
-        (2, 61_441, 2, 65_535, Some(7)),
-        (2, 61_441, 2, 65_536, None),
-        (3, 0, 2, 2, Some(2)),
-        (3, 0, 3, 0, None),
-    ];
-    let kept = (Some(5_000), Some(0), Some(65_536));
-    for (file, offset, seen, at, byte) in rows {
+    for number in 0..WRITES.len() {
+        let (file, offset, seen, at, byte) = WRITES[number];
         let mut files = three_files(rt.alloc())?;
         files.write_page(file, offset, &page);
-        assert_eq!(rt;
-            byte_at(&files, seen, at),
-            byte,
-            "{file} from {offset}, {seen} at {at}"
+        let lengths = [files.length(0), files.length(1), files.length(2)];
+        let kept = [Some(5_000), Some(0), Some(65_536)];
+        expect(
+            &rt,
+            number,
+            (byte_at(&files, seen, at), lengths),
+            (byte, kept),
         );
-        let lengths = (files.length(0), files.length(1), files.length(2));
-        assert_eq!(rt; lengths, kept, "file {file} from {offset}");
     }
     Ok(())
 }

@@ -3,19 +3,32 @@
 // refusal.
 
 use crate::file_pages::{byte_at, three_files};
+use crate::rows::expect;
 use file_cabinet::{Files, PromiseError};
 use process_model::Refusal;
 use std::test::Fail;
 use tests_of_files::{RefusingFiles, copy_page};
 
+static PAGES: [usize; 4] = [0, 1, 65_536, usize::MAX];
+
 #[test]
 fn promises_any_pages(rt: HostRuntime) -> Result<(), Fail> {
     let mut files = three_files(rt.alloc())?;
-    for pages in [0, 1, 65_536, usize::MAX] {
-        assert_eq!(rt; files.promise(pages), Ok(()), "{pages} pages");
+    for number in 0..PAGES.len() {
+        expect(&rt, number, files.promise(PAGES[number]), Ok(()));
     }
     Ok(())
 }
+
+/// A copy of the page at an offset of one file to another file; its outcome, and byte 4,999 of file 0 then.
+type PageCopy = (usize, usize, usize, Result<(), Refusal>, Option<u8>);
+
+static COPIES: [PageCopy; 4] = [
+    (2, 0, 4_096, Ok(()), Some(135)),
+    (1, 0, 0, Err(Refusal::Memory), Some(135)),
+    (1, 0, 4_096, Ok(()), Some(0)),
+    (2, 0, 0, Ok(()), Some(0)),
+];
 
 #[test]
 fn copies_over_any_files(rt: HostRuntime) -> Result<(), Fail> {
@@ -23,31 +36,22 @@ fn copies_over_any_files(rt: HostRuntime) -> Result<(), Fail> {
         files: three_files(rt.alloc())?,
         until_refusal: Some(1),
     };
-    let rows = [
-        (2, 0, 4_096, Ok(()), Some(135)),
-        (1, 0, 0, Err(Refusal::Memory), Some(135)),
-        (1, 0, 4_096, Ok(()), Some(0)),
-        (2, 0, 0, Ok(()), Some(0)),
-    ];
-    for (from, to, offset, outcome, byte) in rows {
+    for number in 0..COPIES.len() {
+        let (from, to, offset, outcome, byte) = COPIES[number];
         let copied = copy_page(&mut files, from, to, offset);
-        assert_eq!(rt; copied, outcome, "from {from} at {offset}");
         let there = byte_at(&files.files, 0, 4_999);
-        assert_eq!(rt; there, byte, "after {from} at {offset}");
+        expect(&rt, number, (copied, there), (outcome, byte));
     }
-    assert_eq!(rt; (files.length(0), files.writable(0)), (Some(5_000), true));
-    assert_eq!(rt; copy_page(&mut files.files, 2, 0, 4_096), Ok(()));
+    let kept = (files.length(0), files.writable(0));
+    expect(&rt, 4, kept, (Some(5_000), true));
+    expect(&rt, 5, copy_page(&mut files.files, 2, 0, 4_096), Ok(()));
     Ok(())
 }
 
 #[test]
-fn refuses_for_the_same_reason(rt: HostRuntime) -> Result<(), Fail> {
-    let rows = [
-        (PromiseError::Memory, Refusal::Memory),
-        (PromiseError::JournalFull, Refusal::JournalFull),
-    ];
-    for (error, refusal) in rows {
-        assert_eq!(rt; Refusal::from(error), refusal);
-    }
-    Ok(())
+fn refuses_for_the_same_reason(rt: HostRuntime) {
+    let memory = Refusal::from(PromiseError::Memory);
+    expect(&rt, 0, memory, Refusal::Memory);
+    let full = Refusal::from(PromiseError::JournalFull);
+    expect(&rt, 1, full, Refusal::JournalFull);
 }

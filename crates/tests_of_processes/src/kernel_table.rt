@@ -7,10 +7,12 @@ ghost use Rattle.address_space.specs.Agreement.{HoldsTrampoline};
 ghost use Rattle.frame_store.specs.Laws.{IsSeatOf, KeepsSeats};
 
 use crate::SCHEMES;
+use crate::rows::expect;
 use address_space::KernelTable;
 use frame_store::{FrameAccess, FrameSeat, FrameSupply, NoFrame, PlainFrames};
 use shared_frames::SharedFrames;
 use std::alloc::{AllocError, Global};
+use std::process::Abort;
 use std::sync::Wait;
 use sv39_entry::{Access, Scheme, Va};
 use table_walk::Walk;
@@ -18,45 +20,75 @@ use table_walk::Walk;
 /// An access to an address, and the outcome of its walk.
 type Row = (Access, u64, Walk);
 
-/// The outcome of a walk that ends at a leaf of level 0.
-fn mapped(word: u64, address: u64) -> Walk {
-    Walk::Leaf {
-        word,
-        level: 0,
-        address,
-    }
-}
+/// The outcomes of walks that end at a leaf of level 0: at byte 8 of frame 5, at the last eight bytes of frame 63, and at the
+/// first and the second instruction in frame 0, that of the trampoline.
+const AT_FRAME_5: Walk = Walk::Leaf {
+    word: 0x200014c7,
+    level: 0,
+    address: 0x80005008,
+};
 
-/// For 64 frames and four stacks. The last address is not canonical in Sv39. In Sv48 it is, and another than that of frame
-/// 5.
-fn rows(scheme: Scheme) -> [Row; 14] {
-    let (fetch, load, store) = (Access::Fetch, Access::Load, Access::Store);
-    let (trampoline, trapframe, guard, below) = match scheme {
-        Scheme::Sv39 => (0x3ffffff004, 0x3fffffe000, 0x3fffffc000, 0x3fffff5000),
-        Scheme::Sv48 => (
-            0x7ffffffff004,
-            0x7fffffffe000,
-            0x7fffffffc000,
-            0x7fffffff5000,
-        ),
-    };
-    [
-        (load, 0x80005008, mapped(0x200014c7, 0x80005008)),
-        (store, 0x80005008, mapped(0x200014c7, 0x80005008)),
-        (fetch, 0x80005008, Walk::PageFault(12)),
-        (load, 0x8003fff8, mapped(0x2000fcc7, 0x8003fff8)),
-        (load, 0x80040000, Walk::PageFault(13)),
-        (load, 0x7ffffff8, Walk::PageFault(13)),
-        (fetch, 0x80000000, mapped(0x2000004b, 0x80000000)),
-        (store, 0x80000000, Walk::PageFault(15)),
-        (fetch, trampoline, mapped(0x2000004b, 0x80000004)),
-        (load, trapframe, Walk::PageFault(13)),
-        (load, guard, Walk::PageFault(13)),
-        (load, below, Walk::PageFault(13)),
-        (load, 0xffffffff80005008, Walk::PageFault(13)),
-        (load, 0x8080005008, Walk::PageFault(13)),
-    ]
-}
+const AT_FRAME_63: Walk = Walk::Leaf {
+    word: 0x2000fcc7,
+    level: 0,
+    address: 0x8003fff8,
+};
+
+const AT_FRAME_0: Walk = Walk::Leaf {
+    word: 0x2000004b,
+    level: 0,
+    address: 0x80000000,
+};
+
+const IN_TRAMPOLINE: Walk = Walk::Leaf {
+    word: 0x2000004b,
+    level: 0,
+    address: 0x80000004,
+};
+
+const FETCH: Access = Access::Fetch;
+
+const LOAD: Access = Access::Load;
+
+const STORE: Access = Access::Store;
+
+const NO_LOAD: Walk = Walk::PageFault(13);
+
+/// For 64 frames and four stacks. The last address is not canonical in Sv39.
+static IN_SV39: [Row; 14] = [
+    (LOAD, 0x80005008, AT_FRAME_5),
+    (STORE, 0x80005008, AT_FRAME_5),
+    (FETCH, 0x80005008, Walk::PageFault(12)),
+    (LOAD, 0x8003fff8, AT_FRAME_63),
+    (LOAD, 0x80040000, NO_LOAD),
+    (LOAD, 0x7ffffff8, NO_LOAD),
+    (FETCH, 0x80000000, AT_FRAME_0),
+    (STORE, 0x80000000, Walk::PageFault(15)),
+    (FETCH, 0x3ffffff004, IN_TRAMPOLINE),
+    (LOAD, 0x3fffffe000, NO_LOAD),
+    (LOAD, 0x3fffffc000, NO_LOAD),
+    (LOAD, 0x3fffff5000, NO_LOAD),
+    (LOAD, 0xffffffff80005008, NO_LOAD),
+    (LOAD, 0x8080005008, NO_LOAD),
+];
+
+/// The last address is canonical in Sv48, and another than that of frame 5.
+static IN_SV48: [Row; 14] = [
+    (LOAD, 0x80005008, AT_FRAME_5),
+    (STORE, 0x80005008, AT_FRAME_5),
+    (FETCH, 0x80005008, Walk::PageFault(12)),
+    (LOAD, 0x8003fff8, AT_FRAME_63),
+    (LOAD, 0x80040000, NO_LOAD),
+    (LOAD, 0x7ffffff8, NO_LOAD),
+    (FETCH, 0x80000000, AT_FRAME_0),
+    (STORE, 0x80000000, Walk::PageFault(15)),
+    (FETCH, 0x7ffffffff004, IN_TRAMPOLINE),
+    (LOAD, 0x7fffffffe000, NO_LOAD),
+    (LOAD, 0x7fffffffc000, NO_LOAD),
+    (LOAD, 0x7fffffff5000, NO_LOAD),
+    (LOAD, 0xffffffff80005008, NO_LOAD),
+    (LOAD, 0x8080005008, NO_LOAD),
+];
 
 /// Builds the table for 64 frames and four stacks. Returns the first row whose walk has another outcome, and the table's
 /// seat; `NoFrame` with the seat if too few frames are free.
@@ -64,7 +96,7 @@ fn first_wrong<S: FrameSeat, F: FrameSupply<Seat = S>>(
     store: &mut F,
     seat: S,
     scheme: Scheme,
-    rows: &[Row; 14],
+    rows: &[Row],
 ) -> Result<(Option<Row>, S), (NoFrame, S)>
     requires fits { IsSeatOf F.invariant store.old seat }
     requires opening { HoldsTrampoline (S.view seat) }
@@ -84,34 +116,41 @@ fn first_wrong<S: FrameSeat, F: FrameSupply<Seat = S>>(
 /// The first wrong row, or `NoFrame` if the table could not be built; and the number of free frames then.
 type Checked = (Result<Option<Row>, NoFrame>, usize);
 
-fn over_plain(alloc: Global, scheme: Scheme) -> Result<Checked, AllocError> {
+fn over_plain(alloc: Global, scheme: Scheme, rows: &[Row]) -> Result<Checked, AllocError> {
     let (mut store, seat) = PlainFrames::new(alloc, 64)?;
-    let wrong = match first_wrong(&mut store, seat, scheme, &rows(scheme)) {
+    let wrong = match first_wrong(&mut store, seat, scheme, rows) {
         Ok((wrong, _)) => Ok(wrong),
         Err((refusal, _)) => Err(refusal),
     };
     Ok((wrong, store.report().free))
 }
 
-fn over_shared<R: Wait>(rt: &R, alloc: Global, scheme: Scheme) -> Result<Checked, AllocError> {
+fn over_shared<R: Wait>(
+    rt: &R,
+    alloc: Global,
+    scheme: Scheme,
+    rows: &[Row],
+) -> Result<Checked, AllocError> {
     let (frames, seat) = SharedFrames::new(alloc, 64)?;
     let mut supply = frames.supply(rt);
-    let (wrong, seat) = match first_wrong(&mut supply, seat, scheme, &rows(scheme)) {
+    let (wrong, seat) = match first_wrong(&mut supply, seat, scheme, rows) {
         Ok((wrong, seat)) => (Ok(wrong), seat),
         Err((refusal, seat)) => (Err(refusal), seat),
     };
     Ok((wrong, frames.close(seat).free))
 }
 
+/// Asserts that the table can be built over both stores, that it leaves so many frames free, and that no row is wrong.
+fn judge<R: Abort + Wait>(rt: &R, alloc: Global, scheme: Scheme, rows: &[Row], free: usize) {
+    expect(rt, 0, over_plain(alloc, scheme, rows), Ok((Ok(None), free)));
+    let shared = over_shared(rt, alloc, scheme, rows);
+    expect(rt, 1, shared, Ok((Ok(None), free)));
+}
+
 #[test]
 fn maps_alike_over_both_stores(rt: HostRuntime) {
-    for (scheme, free) in [(Scheme::Sv39, 54), (Scheme::Sv48, 52)] {
-        let over_both = [
-            over_plain(rt.alloc(), scheme),
-            over_shared(&rt, rt.alloc(), scheme),
-        ];
-        assert_eq!(rt; over_both, [Ok((Ok(None), free)); 2]);
-    }
+    judge(&rt, rt.alloc(), Scheme::Sv39, &IN_SV39, 54);
+    judge(&rt, rt.alloc(), Scheme::Sv48, &IN_SV48, 52);
 }
 
 /// Whether the table can be built, and each slot's kernel stack is mapped for stores, to another frame than that of the slot
@@ -140,7 +179,7 @@ fn has_stacks(alloc: Global, scheme: Scheme) -> Result<bool, AllocError> {
 #[test]
 fn finds_stacks(rt: HostRuntime) {
     for scheme in SCHEMES {
-        assert_eq!(rt; has_stacks(rt.alloc(), scheme), Ok(true));
+        expect(&rt, 0, has_stacks(rt.alloc(), scheme), Ok(true));
     }
 }
 
@@ -163,31 +202,38 @@ fn free_beside(
     }
 }
 
+const SV39: Scheme = Scheme::Sv39;
+
+const SV48: Scheme = Scheme::Sv48;
+
+/// A scheme, a number of frames, one of slots, and the number of frames that the table leaves free.
+static FREE: [(Scheme, u16, u16, Option<usize>); 16] = [
+    (SV39, 64, 1, Some(57)),
+    (SV39, 64, 4, Some(54)),
+    (SV39, 64, 64, None),
+    (SV39, 70, 64, Some(0)),
+    (SV39, 512, 1, Some(505)),
+    (SV39, 512, 4, Some(502)),
+    (SV39, 512, 64, Some(442)),
+    (SV39, 513, 1, Some(505)),
+    (SV39, 513, 4, Some(502)),
+    (SV39, 513, 64, Some(442)),
+    (SV48, 64, 1, Some(55)),
+    (SV48, 71, 64, None),
+    (SV48, 72, 64, Some(0)),
+    (SV48, 512, 4, Some(500)),
+    (SV48, 513, 4, Some(500)),
+    (SV48, 513, 64, Some(440)),
+];
+
 #[test]
 fn takes_its_frames(rt: HostRuntime) {
-    let (sv39, sv48) = (Scheme::Sv39, Scheme::Sv48);
-    for (scheme, frames, slots, told) in [
-        (sv39, 64, 1, Some(57)),
-        (sv39, 64, 4, Some(54)),
-        (sv39, 64, 64, None),
-        (sv39, 70, 64, Some(0)),
-        (sv39, 512, 1, Some(505)),
-        (sv39, 512, 4, Some(502)),
-        (sv39, 512, 64, Some(442)),
-        (sv39, 513, 1, Some(505)),
-        (sv39, 513, 4, Some(502)),
-        (sv39, 513, 64, Some(442)),
-        (sv48, 64, 1, Some(55)),
-        (sv48, 71, 64, None),
-        (sv48, 72, 64, Some(0)),
-        (sv48, 512, 4, Some(500)),
-        (sv48, 513, 4, Some(500)),
-        (sv48, 513, 64, Some(440)),
-    ] {
+    for number in 0..FREE.len() {
+        let (scheme, frames, slots, told) = FREE[number];
         // changes no row; it shows the limits to the proof
         let (frames, slots) = (frames.clamp(16, 1024), slots.clamp(1, 64));
         let free = free_beside(rt.alloc(), scheme, frames, slots);
-        assert_eq!(rt; free, Ok(told), "{scheme:?} {frames} {slots}");
+        expect(&rt, number, free, Ok(told));
     }
 }
 
@@ -214,8 +260,6 @@ fn built_after_refusal(alloc: Global) -> Result<Option<(NoFrame, Accounts, usize
 
 #[test]
 fn gives_the_seat_back(rt: HostRuntime) {
-    assert_eq!(rt;
-        built_after_refusal(rt.alloc()),
-        Ok(Some((NoFrame, (15, 1, 1), 0)))
-    );
+    let told = built_after_refusal(rt.alloc());
+    expect(&rt, 0, told, Ok(Some((NoFrame, (15, 1, 1), 0))));
 }

@@ -1,8 +1,9 @@
 // `Operation`, an enum: one operation in a story (test case): mmap, munmap, a user access, a kernel copy, the service of a
-// fault, write-back, or a read of a file. `Row`: an operation and the reply that it must get.
+// fault, write-back, or a read of a file. `Wanted`, an enum: the reply that it must get. `Row`: an operation and that reply.
 
-use process_model::Reply;
-use sv39_entry::Access;
+use crate::kernel_copies::counted;
+use process_model::{Reply, ScalarReply};
+use sv39_entry::{Access, Rule};
 
 /// One operation of a process, or of the kernel for it. Lengths, counts and widths are in bytes.
 #[derive(Clone, Copy)]
@@ -30,5 +31,24 @@ pub(crate) enum Operation {
     Look(usize, usize),
 }
 
+/// The reply that an operation must get. Bytes that are copied from the process are told by the first one and their number:
+/// they count up.
+#[derive(Clone, Copy)]
+pub(crate) enum Wanted {
+    Scalar(ScalarReply),
+    CopiedIn(u8, usize),
+    ShortIn(Rule, u8, usize),
+}
+
+impl Wanted {
+    pub fn reply(self) -> Reply {
+        match self {
+            Wanted::Scalar(reply) => Reply::Scalar(reply),
+            Wanted::CopiedIn(first, count) => Reply::CopiedIn(counted(first, count)),
+            Wanted::ShortIn(rule, first, count) => Reply::ShortIn(rule, counted(first, count)),
+        }
+    }
+}
+
 /// An operation, and the reply that it must get.
-pub(crate) type Row = (Operation, Reply);
+pub(crate) type Row = (Operation, Wanted);

@@ -33,9 +33,10 @@ pub(crate) fn first_wrong<S: FrameSeat, F: FrameSupply<Seat = S>, C: Files>(
     ensures alive { IsAlive (body_of S.view space.new) }
     ensures keeps { KeepsSeats F.invariant store.old space.old.seat store.new space.new.seat }
 {
-    for (number, (operation, expected)) in rows.iter().enumerate() {
-        let reply = perform(space, store, files, *operation);
-        if reply != *expected {
+    'rows: for number in 0..rows.len() {
+        let (operation, wanted) = rows[number];
+        let reply = perform(space, store, files, operation);
+        if reply != wanted.reply() {
             return Some((number, reply));
         }
     }

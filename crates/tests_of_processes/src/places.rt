@@ -3,53 +3,78 @@
 // case): rows of an operation and its reply. TRAPFRAME is at 0x3fffffe000.
 
 use crate::operation::Operation::{Map, Serve, Unmap};
-use crate::operation::Row;
-use crate::stores::play;
+use crate::operation::Wanted::Scalar;
+use crate::operation::{Operation, Row, Wanted};
+use crate::stores::{Story, play, play_all};
 use process_model::Refusal::{
     BadArgument, FileNotWritable, HoleInMapping, MappingsFull, NoFrame, NoRoom,
 };
-use process_model::Reply;
-use process_model::Reply::Scalar;
 use process_model::ScalarReply::{Done, MappedAt, Ready, Refused};
-use std::alloc::{AllocError, Global};
 use std::test::Fail;
 use sv39_entry::Access;
 
-const BAD: Reply = Scalar(Refused(BadArgument));
+const BAD: Wanted = Scalar(Refused(BadArgument));
 
-const FULL: Reply = Scalar(Refused(NoRoom));
+const FULL: Wanted = Scalar(Refused(NoRoom));
+
+const ONE_PAGE: Operation = Map(4_096, 1, 2, 0);
 
 /// Sixteen mappings of a page each, downwards from TRAPFRAME; mappings that are refused beside them; and one in the room of
 /// the sixteenth.
-fn sixteen(alloc: Global) -> Result<Vec<Row>, AllocError> {
-    let mut rows = Vec::new(alloc);
-    for below in 0..16 {
-        let address = 0x3fffffd000 - 0x1000 * below;
-        rows.push((Map(4_096, 1, 2, 0), Scalar(MappedAt(address))))?;
-    }
-    rows.push((Map(4_096, 1, 2, 0), Scalar(Refused(MappingsFull))))?;
+const SIXTEEN: &[Row] = &[
+    (ONE_PAGE, Scalar(MappedAt(0x3fffffd000))),
+    (ONE_PAGE, Scalar(MappedAt(0x3fffffc000))),
+    (ONE_PAGE, Scalar(MappedAt(0x3fffffb000))),
+    (ONE_PAGE, Scalar(MappedAt(0x3fffffa000))),
+    (ONE_PAGE, Scalar(MappedAt(0x3fffff9000))),
+    (ONE_PAGE, Scalar(MappedAt(0x3fffff8000))),
+    (ONE_PAGE, Scalar(MappedAt(0x3fffff7000))),
+    (ONE_PAGE, Scalar(MappedAt(0x3fffff6000))),
+    (ONE_PAGE, Scalar(MappedAt(0x3fffff5000))),
+    (ONE_PAGE, Scalar(MappedAt(0x3fffff4000))),
+    (ONE_PAGE, Scalar(MappedAt(0x3fffff3000))),
+    (ONE_PAGE, Scalar(MappedAt(0x3fffff2000))),
+    (ONE_PAGE, Scalar(MappedAt(0x3fffff1000))),
+    (ONE_PAGE, Scalar(MappedAt(0x3fffff0000))),
+    (ONE_PAGE, Scalar(MappedAt(0x3ffffef000))),
+    (ONE_PAGE, Scalar(MappedAt(0x3ffffee000))),
+    (ONE_PAGE, Scalar(Refused(MappingsFull))),
     // a fault of the request itself is reported before `MappingsFull`
-    rows.push((Map(0, 1, 2, 0), Scalar(Refused(BadArgument))))?;
-    rows.push((Map(4_096, 3, 1, 1), Scalar(Refused(FileNotWritable))))?;
-    // the sixteenth is at 0x3fffffd000 - 15 * 0x1000; its room is the highest that is free once it is unmapped
-    rows.push((Unmap(0x3ffffee000, 4_096), Scalar(Done)))?;
-    rows.push((Map(4_096, 1, 2, 0), Scalar(MappedAt(0x3ffffee000))))?;
-    Ok(rows)
-}
+    (Map(0, 1, 2, 0), BAD),
+    (Map(4_096, 3, 1, 1), Scalar(Refused(FileNotWritable))),
+    // the room of the sixteenth is the highest that is free once it is unmapped
+    (Unmap(0x3ffffee000, 4_096), Scalar(Done)),
+    (ONE_PAGE, Scalar(MappedAt(0x3ffffee000))),
+];
+
+/// Page 0x3ffffed ends where the sixteenth mapping begins: `MappingsFull` is reported before `NoRoom`.
+static BESIDE_PAGES: [Story; 2] = [
+    Story {
+        frames: 8,
+        page: 0,
+        promises: None,
+        rows: SIXTEEN,
+        changes: &[],
+    },
+    Story {
+        frames: 8,
+        page: 0x3ffffed,
+        promises: None,
+        rows: SIXTEEN,
+        changes: &[],
+    },
+];
 
 #[test]
 fn takes_sixteen_mappings(rt: HostRuntime) -> Result<(), Fail> {
-    let rows = sixteen(rt.alloc())?;
-    // page 0x3ffffed ends where the sixteenth mapping begins: `MappingsFull` is reported before `NoRoom`
-    for page in [0, 0x3ffffed] {
-        play(&rt, rt.alloc(), 8, page, None, &rows, &[])?;
-    }
-    Ok(())
+    play_all(&rt, rt.alloc(), &BESIDE_PAGES)
 }
 
-#[test]
-fn refuses_in_order(rt: HostRuntime) -> Result<(), Fail> {
-    let rows = [
+static IN_ORDER: Story = Story {
+    frames: 8,
+    page: 0,
+    promises: None,
+    rows: &[
         (Map(0, 1, 2, 0), BAD),
         (Map(1_048_577, 1, 2, 0), BAD),
         (Map(4_096, 0, 2, 0), BAD),
@@ -66,13 +91,20 @@ fn refuses_in_order(rt: HostRuntime) -> Result<(), Fail> {
         (Map(4_096, 5, 1, 1), Scalar(MappedAt(0x3fffffc000))),
         // 256 pages
         (Map(1_048_576, 7, 2, 0), Scalar(MappedAt(0x3fffefc000))),
-    ];
-    play(&rt, rt.alloc(), 8, 0, None, &rows, &[])
-}
+    ],
+    changes: &[],
+};
 
 #[test]
-fn gives_room_back(rt: HostRuntime) -> Result<(), Fail> {
-    let rows = [
+fn refuses_in_order(rt: HostRuntime) -> Result<(), Fail> {
+    play(&rt, rt.alloc(), 0, &IN_ORDER)
+}
+
+static ROOM: Story = Story {
+    frames: 8,
+    page: 0,
+    promises: None,
+    rows: &[
         (Map(12_288, 1, 2, 0), Scalar(MappedAt(0x3fffffb000))),
         (Unmap(0x3fffffc000, 4_096), Scalar(Refused(HoleInMapping))),
         (Unmap(0x3fffffb001, 4_096), BAD),
@@ -94,34 +126,53 @@ fn gives_room_back(rt: HostRuntime) -> Result<(), Fail> {
         // two pages, of different mappings
         (Unmap(0x3fffffa000, 8_192), BAD),
         (Map(4_096, 1, 2, 0), Scalar(MappedAt(0x3fffffd000))),
-    ];
-    play(&rt, rt.alloc(), 8, 0, None, &rows, &[])
-}
+    ],
+    changes: &[],
+};
 
 #[test]
-fn stays_above_the_heap(rt: HostRuntime) -> Result<(), Fail> {
-    let rows = [
+fn gives_room_back(rt: HostRuntime) -> Result<(), Fail> {
+    play(&rt, rt.alloc(), 0, &ROOM)
+}
+
+/// The heap ends at 0x3fffffb000, three pages below the trapframe.
+static ABOVE_THE_HEAP: Story = Story {
+    frames: 8,
+    page: 0x3fffffa,
+    promises: None,
+    rows: &[
         (Map(12_289, 1, 2, 0), FULL),
         (Map(12_288, 1, 2, 0), Scalar(MappedAt(0x3fffffb000))),
         (Map(1, 1, 2, 0), FULL),
         (Unmap(0x3fffffb000, 4_096), Scalar(Done)),
         (Map(8_192, 1, 2, 0), FULL),
         (Map(1, 1, 2, 0), Scalar(MappedAt(0x3fffffb000))),
-    ];
-    // the heap ends at 0x3fffffb000, three pages below the trapframe
-    play(&rt, rt.alloc(), 8, 0x3fffffa, None, &rows, &[])
-}
+    ],
+    changes: &[],
+};
 
 #[test]
-fn gives_frames_back(rt: HostRuntime) -> Result<(), Fail> {
-    let rows = [
+fn stays_above_the_heap(rt: HostRuntime) -> Result<(), Fail> {
+    play(&rt, rt.alloc(), 0, &ABOVE_THE_HEAP)
+}
+
+/// Frame 0, the trapframe, the page of data and five page tables, which serve the mapping too, are taken; one of the nine
+/// frames is free.
+static FRAMES: Story = Story {
+    frames: 9,
+    page: 0,
+    promises: None,
+    rows: &[
         (Map(8_192, 1, 2, 0), Scalar(MappedAt(0x3fffffc000))),
         (Serve(Access::Load, 0x3fffffc000), Scalar(Ready)),
         (Serve(Access::Load, 0x3fffffd000), Scalar(Refused(NoFrame))),
         (Unmap(0x3fffffc000, 4_096), Scalar(Done)),
         (Serve(Access::Load, 0x3fffffd000), Scalar(Ready)),
-    ];
-    // frame 0, the trapframe, the page of data and five page tables, which serve the mapping too; one of the nine frames is
-    // free
-    play(&rt, rt.alloc(), 9, 0, None, &rows, &[])
+    ],
+    changes: &[],
+};
+
+#[test]
+fn gives_frames_back(rt: HostRuntime) -> Result<(), Fail> {
+    play(&rt, rt.alloc(), 0, &FRAMES)
 }

@@ -5,6 +5,7 @@ ghost use Rattle.std.specs.Prelude.{◌≡◌, ◌+◌, ◌≤◌, All};
 ghost use Rattle.sv39_entry.specs.Schemes.{trapframe_page};
 
 use crate::SCHEMES;
+use crate::rows::expect;
 use address_space::{Layout, Part, Region, RegionKind, Source};
 use bitflags::Flags;
 use std::process::Abort;
@@ -42,60 +43,58 @@ fn parts<'a>() -> [Part<'a>; 4]
     ]
 }
 
-fn rows() -> [Row; 9] {
-    [
-        (Access::Fetch, 0x0, 4, None),
-        (Access::Store, 0xff8, 8, Some(Rule::NoWrite)),
-        (Access::Load, 0x1000, 8, None),
-        (Access::Store, 0x2ff8, 8, None),
-        (Access::Fetch, 0x1000, 4, Some(Rule::NoExec)),
-        (Access::Load, 0x3000, 1, Some(Rule::NoRegion)),
-        (Access::Load, 0x5000, 1, Some(Rule::GuardPage)),
-        (Access::Store, 0x6000, 4, None),
-        (Access::Load, 0x7000, 1, Some(Rule::NoRegion)),
-    ]
-}
+static ROWS: [Row; 9] = [
+    (Access::Fetch, 0x0, 4, None),
+    (Access::Store, 0xff8, 8, Some(Rule::NoWrite)),
+    (Access::Load, 0x1000, 8, None),
+    (Access::Store, 0x2ff8, 8, None),
+    (Access::Fetch, 0x1000, 4, Some(Rule::NoExec)),
+    (Access::Load, 0x3000, 1, Some(Rule::NoRegion)),
+    (Access::Load, 0x5000, 1, Some(Rule::GuardPage)),
+    (Access::Store, 0x6000, 4, None),
+    (Access::Load, 0x7000, 1, Some(Rule::NoRegion)),
+];
+
+const KERNEL: Option<Rule> = Some(Rule::KernelPage);
+
+const BEYOND: Option<Rule> = Some(Rule::BeyondMax);
 
 /// Accesses at TRAPFRAME and TRAMPOLINE, and past the end of a scheme's addresses.
-fn rows_at_the_end(scheme: Scheme) -> [Row; 7] {
-    let (kernel, beyond) = (Some(Rule::KernelPage), Some(Rule::BeyondMax));
-    match scheme {
-        Scheme::Sv39 => [
-            (Access::Load, 0x3fffffdfff, 1, Some(Rule::NoRegion)),
-            (Access::Load, 0x3fffffe000, 1, kernel),
-            (Access::Fetch, 0x3ffffff000, 4, kernel),
-            (Access::Load, 0x4000000000, 8, beyond),
-            (Access::Load, 0x4000000001, 8, Some(Rule::Misaligned)),
-            (Access::Load, 0x7fffffffe000, 1, beyond),
-            (Access::Load, u64::MAX, 1, beyond),
-        ],
-        Scheme::Sv48 => [
-            (Access::Load, 0x3fffffe000, 1, Some(Rule::NoRegion)),
-            (Access::Load, 0x4000000000, 8, Some(Rule::NoRegion)),
-            (Access::Load, 0x7fffffffe000, 1, kernel),
-            (Access::Fetch, 0x7ffffffff000, 4, kernel),
-            (Access::Load, 0x800000000000, 8, beyond),
-            (Access::Load, 0x800000000001, 8, Some(Rule::Misaligned)),
-            (Access::Load, u64::MAX, 1, beyond),
-        ],
-    }
-}
+static AT_THE_END_OF_SV39: [Row; 7] = [
+    (Access::Load, 0x3fffffdfff, 1, Some(Rule::NoRegion)),
+    (Access::Load, 0x3fffffe000, 1, KERNEL),
+    (Access::Fetch, 0x3ffffff000, 4, KERNEL),
+    (Access::Load, 0x4000000000, 8, BEYOND),
+    (Access::Load, 0x4000000001, 8, Some(Rule::Misaligned)),
+    (Access::Load, 0x7fffffffe000, 1, BEYOND),
+    (Access::Load, u64::MAX, 1, BEYOND),
+];
+
+static AT_THE_END_OF_SV48: [Row; 7] = [
+    (Access::Load, 0x3fffffe000, 1, Some(Rule::NoRegion)),
+    (Access::Load, 0x4000000000, 8, Some(Rule::NoRegion)),
+    (Access::Load, 0x7fffffffe000, 1, KERNEL),
+    (Access::Fetch, 0x7ffffffff000, 4, KERNEL),
+    (Access::Load, 0x800000000000, 8, BEYOND),
+    (Access::Load, 0x800000000001, 8, Some(Rule::Misaligned)),
+    (Access::Load, u64::MAX, 1, BEYOND),
+];
 
 /// Asserts that each row gets its rule.
-fn judge<R: Abort>(rt: &R, layout: &Layout, rows: &[Row]) {
-    let scheme = layout.scheme();
-    for row in rows {
-        let (access, address, width, rule) = *row;
+fn judge<R: Abort>(rt: &R, scheme: Scheme, rows: &[Row]) {
+    let layout = Layout::new(scheme, &parts());
+    for number in 0..rows.len() {
+        let (access, address, width, rule) = rows[number];
         let told = layout.grant(access, Va(address), width.max(1)).err();
-        assert_eq!(rt; told, rule, "{scheme:?} {row:?}");
+        expect(rt, number, told, rule);
     }
 }
 
 #[test]
 fn tells_the_first_rule(rt: HostRuntime) {
     for scheme in SCHEMES {
-        let layout = Layout::new(scheme, &parts());
-        judge(&rt, &layout, &rows());
-        judge(&rt, &layout, &rows_at_the_end(scheme));
+        judge(&rt, scheme, &ROWS);
     }
+    judge(&rt, Scheme::Sv39, &AT_THE_END_OF_SV39);
+    judge(&rt, Scheme::Sv48, &AT_THE_END_OF_SV48);
 }

@@ -7,6 +7,7 @@ ghost use Rattle.address_space.specs.Parts.{AreParts};
 ghost use Rattle.process_model.specs.Order.{is_file};
 ghost use Rattle.process_model.specs.Regions.{makes_leaf};
 
+use crate::rows::expect;
 use address_space::{Part, Region, RegionKind, Source, Space, frames_needed};
 use frame_store::PlainFrames;
 use std::alloc::{AllocError, Global};
@@ -53,33 +54,38 @@ fn needed(scheme: Scheme, lower: Run, upper: Run) -> Option<usize> {
     Some(frames_needed(scheme, &parts))
 }
 
-/// Beside its pages a process takes a trapframe, a root table, and the tables between the root and TRAPFRAME: two, or three
-/// under Sv48. A run takes one table for each aligned group of 512 pages that it touches, one for each of 2^18, and under
-/// Sv48 one for each of 2^27. Each table counts once.
+const SV39: Scheme = Scheme::Sv39;
+
+const SV48: Scheme = Scheme::Sv48;
+
+/// Two runs of pages, and the number of frames. Beside its pages a process takes a trapframe, a root table, and the tables
+/// between the root and TRAPFRAME: two, or three under Sv48. A run takes one table for each aligned group of 512 pages that
+/// it touches, one for each of 2^18, and under Sv48 one for each of 2^27. Each table counts once.
+static COUNTS: [(Scheme, Run, Run, Option<usize>); 17] = [
+    (SV39, (0, 1), (1, 1), Some(8)),
+    (SV39, (0, 1), (2, 3), Some(10)),
+    (SV39, (0, 512), (512, 1), Some(520)),
+    (SV39, (0, 0), (511, 2), Some(9)),
+    (SV39, (5, 0), (7, 0), Some(4)),
+    (SV39, (0, 262_145), (262_145, 1), Some(262_665)),
+    (SV39, (0, 1), (262_144, 600), Some(610)),
+    (SV39, (510, 1), (67_108_350, 512), Some(520)),
+    (SV39, (0, 1), (67_108_860, 2), Some(9)),
+    (SV39, (3, 1), (262_143, 2), Some(12)),
+    (SV39, (0, 1), (134_217_728, 1), None),
+    (SV48, (0, 1), (1, 1), Some(10)),
+    (SV48, (5, 0), (7, 0), Some(5)),
+    (SV48, (3, 1), (262_143, 2), Some(14)),
+    (SV48, (0, 1), (134_217_728, 1), Some(13)),
+    (SV48, (134_217_727, 2), (34_359_737_854, 512), Some(526)),
+    (SV48, (0, 1), (34_359_738_366, 1), None),
+];
+
 #[test]
 fn counts_frames(rt: HostRuntime) {
-    let (sv39, sv48) = (Scheme::Sv39, Scheme::Sv48);
-    for (scheme, lower, upper, count) in [
-        (sv39, (0, 1), (1, 1), Some(8)),
-        (sv39, (0, 1), (2, 3), Some(10)),
-        (sv39, (0, 512), (512, 1), Some(520)),
-        (sv39, (0, 0), (511, 2), Some(9)),
-        (sv39, (5, 0), (7, 0), Some(4)),
-        (sv39, (0, 262_145), (262_145, 1), Some(262_665)),
-        (sv39, (0, 1), (262_144, 600), Some(610)),
-        (sv39, (510, 1), (67_108_350, 512), Some(520)),
-        (sv39, (0, 1), (67_108_860, 2), Some(9)),
-        (sv39, (3, 1), (262_143, 2), Some(12)),
-        (sv39, (0, 1), (134_217_728, 1), None),
-        (sv48, (0, 1), (1, 1), Some(10)),
-        (sv48, (5, 0), (7, 0), Some(5)),
-        (sv48, (3, 1), (262_143, 2), Some(14)),
-        (sv48, (0, 1), (134_217_728, 1), Some(13)),
-        (sv48, (134_217_727, 2), (34_359_737_854, 512), Some(526)),
-        (sv48, (0, 1), (34_359_738_366, 1), None),
-    ] {
-        let told = needed(scheme, lower, upper);
-        assert_eq!(rt; told, count, "{scheme:?} {lower:?} {upper:?}");
+    for number in 0..COUNTS.len() {
+        let (scheme, lower, upper, count) = COUNTS[number];
+        expect(&rt, number, needed(scheme, lower, upper), count);
     }
 }
 
@@ -92,7 +98,7 @@ fn parts<'a>() -> [Part<'a>; 2]
 
 /// If a space could be built, the rules that deny a load in its second page and one in the page after it, `None` for a
 /// granted load; and the number of free frames then.
-type Built = (Option<[Option<Rule>; 2]>, usize);
+type Built = (Option<(Option<Rule>, Option<Rule>)>, usize);
 
 fn built_over(alloc: Global, scheme: Scheme, frames: usize) -> Result<Built, AllocError>
     requires some { 0 < frames }
@@ -100,23 +106,32 @@ fn built_over(alloc: Global, scheme: Scheme, frames: usize) -> Result<Built, All
 {
     let (mut store, seat) = PlainFrames::new(alloc, frames)?;
     let refused = match Space::build(&mut store, seat, scheme, &parts()) {
-        Ok(space) => Some([
+        Ok(space) => Some((
             space.grant(Access::Load, Va(0x1ff8), 8).err(),
             space.grant(Access::Load, Va(0x2000), 8).err(),
-        ]),
+        )),
         Err(_) => None,
     };
     Ok((refused, store.report().free))
 }
 
-/// Beside frame 0 the space takes three pages, the trapframe, and five page tables, seven under Sv48.
+const LOADED: Option<(Option<Rule>, Option<Rule>)> = Some((None, Some(Rule::NoRegion)));
+
+/// A scheme, a number of frames, and what is built then. Beside frame 0 the space takes three pages, the trapframe, and five
+/// page tables, seven under Sv48.
+static BUILT: [(Scheme, usize, Built); 4] = [
+    (SV39, 10, (LOADED, 0)),
+    (SV39, 9, (None, 8)),
+    (SV48, 12, (LOADED, 0)),
+    (SV48, 11, (None, 10)),
+];
+
 #[test]
 fn builds_a_space(rt: HostRuntime) {
-    let built = Some([None, Some(Rule::NoRegion)]);
-    let alloc = rt.alloc();
-    let (sv39, sv48) = (Scheme::Sv39, Scheme::Sv48);
-    assert_eq!(rt; built_over(alloc, sv39, 10), Ok((built, 0)));
-    assert_eq!(rt; built_over(alloc, sv39, 9), Ok((None, 8)));
-    assert_eq!(rt; built_over(alloc, sv48, 12), Ok((built, 0)));
-    assert_eq!(rt; built_over(alloc, sv48, 11), Ok((None, 10)));
+    for number in 0..BUILT.len() {
+        let (scheme, frames, built) = BUILT[number];
+        // changes no row; it shows the limits to the proof
+        let told = built_over(rt.alloc(), scheme, frames.clamp(1, 256));
+        expect(&rt, number, told, Ok(built));
+    }
 }

@@ -14,6 +14,7 @@ ghost use Rattle.sv39_entry.specs.Address.{page_of};
 ghost use Rattle.sv39_entry.specs.Schemes.{trapframe_page};
 ghost use Rattle.table_walk.specs.Tables.{Tables};
 
+use crate::rows::expect;
 use address_space::{Part, Region, RegionKind, Source, Space};
 use bitflags::Flags;
 use frame_store::{FrameAccess, FrameSeat, FrameSupply, NoFrame, PlainFrames};
@@ -238,38 +239,45 @@ fn over_shared<R: Wait>(
     Ok((reads, frames.close(seat).free))
 }
 
-/// Beside frame 0 the space takes eleven frames: five page tables, the trapframe and its five pages. The far pages take one
-/// to three more, missing page tables included. Under Sv48 it has seven page tables, and a page from 2^39 on, past the last
-/// page of Sv39, needs three page tables of its own.
+const REFUSED: Option<Reads> = Some((NEAR, NEAR, AGAIN, None));
+
+const SETTLED: Option<Reads> = Some((NEAR, NEAR, AGAIN, Some((0, FAR))));
+
+const SV39: Scheme = Scheme::Sv39;
+
+const SV48: Scheme = Scheme::Sv48;
+
+/// A scheme, a number of frames, a far page, the reads, and the number of free frames in the end. Beside frame 0 the space
+/// takes eleven frames: five page tables, the trapframe and its five pages. The far pages take one to three more, missing
+/// page tables included. Under Sv48 it has seven page tables, and a page from 2^39 on, past the last page of Sv39, needs
+/// three page tables of its own.
+static LIVES: [(Scheme, usize, u64, Option<Reads>, usize); 13] = [
+    (SV39, 11, 0x5, None, 10),
+    (SV39, 12, 0x5, REFUSED, 12),
+    (SV39, 13, 0x5, SETTLED, 13),
+    (SV39, 13, 0x200, REFUSED, 13),
+    (SV39, 14, 0x200, SETTLED, 14),
+    (SV39, 14, 0x40000, REFUSED, 14),
+    (SV39, 15, 0x40000, SETTLED, 15),
+    (SV48, 13, 0x5, None, 12),
+    (SV48, 15, 0x5, SETTLED, 15),
+    (SV48, 16, 0x4000000, REFUSED, 16),
+    (SV48, 17, 0x4000000, SETTLED, 17),
+    (SV48, 17, 0x8000000, REFUSED, 17),
+    (SV48, 18, 0x8000000, SETTLED, 18),
+];
+
 #[test]
 fn lives_over_both_stores(rt: HostRuntime) {
-    let refused = Some((NEAR, NEAR, AGAIN, None));
-    let settled = Some((NEAR, NEAR, AGAIN, Some((0, FAR))));
-    let (sv39, sv48) = (Scheme::Sv39, Scheme::Sv48);
-    for (scheme, frames, page, reads, free) in [
-        (sv39, 11, 0x5, None, 10),
-        (sv39, 12, 0x5, refused, 12),
-        (sv39, 13, 0x5, settled, 13),
-        (sv39, 13, 0x200, refused, 13),
-        (sv39, 14, 0x200, settled, 14),
-        (sv39, 14, 0x40000, refused, 14),
-        (sv39, 15, 0x40000, settled, 15),
-        (sv48, 13, 0x5, None, 12),
-        (sv48, 15, 0x5, settled, 15),
-        (sv48, 16, 0x4000000, refused, 16),
-        (sv48, 17, 0x4000000, settled, 17),
-        (sv48, 17, 0x8000000, refused, 17),
-        (sv48, 18, 0x8000000, settled, 18),
-    ] {
+    for number in 0..LIVES.len() {
+        let (scheme, frames, page, reads, free) = LIVES[number];
         // changes no row; it shows the limits to the proof
         let last = scheme.trapframe().page().number() - 1;
         let (frames, page) = (frames.clamp(1, 256), page.clamp(0x5, last));
-        let over_both = [
-            over_plain(rt.alloc(), scheme, frames, page),
-            over_shared(&rt, rt.alloc(), scheme, frames, page),
-        ];
-        let wanted = Ok((reads, free));
-        assert_eq!(rt; over_both, [wanted; 2], "{scheme:?} {frames} {page:x}");
+        let plain = over_plain(rt.alloc(), scheme, frames, page);
+        expect(&rt, number, plain, Ok((reads, free)));
+        let shared = over_shared(&rt, rt.alloc(), scheme, frames, page);
+        expect(&rt, number, shared, Ok((reads, free)));
     }
 }
 
@@ -315,9 +323,11 @@ fn mapped(alloc: Global) -> Result<Option<[Firsts; 4]>, AllocError> {
     Ok(Some([whole, cut, gone, firsts(&space)]))
 }
 
+const WHOLE: Firsts = (Some(100), Some(100));
+
+const MAPPED: [Firsts; 4] = [WHOLE, (None, Some(102)), (None, None), WHOLE];
+
 #[test]
 fn changes_mappings(rt: HostRuntime) {
-    let whole = (Some(100), Some(100));
-    let wanted = [whole, (None, Some(102)), (None, None), whole];
-    assert_eq!(rt; mapped(rt.alloc()), Ok(Some(wanted)));
+    expect(&rt, 0, mapped(rt.alloc()), Ok(Some(MAPPED)));
 }

@@ -1,13 +1,11 @@
 // `play`: plays a story (a test case of one process: rows of an operation and its reply) over plain frames and over shared
-// frames, with files that may refuse one promise (a reservation of page I/O). `Story`, a struct: the frames, the page and
-// the rows of a story; `End`, a struct: how it ended.
+// frames, with files that may refuse one promise (a reservation of page I/O). `Story`, a struct: the frames, the page, the
+// promises, the rows and the changed bytes of a story; `End`, a struct: how it ended.
 
-ghost use Rattle.std.specs.Prelude.{◌<◌, ◌≤◌, IfErr, IfOk};
+ghost use Rattle.std.specs.Prelude.{IfErr, IfOk};
 ghost use Rattle.address_space.specs.Agreement.{HoldsTrampoline};
 ghost use Rattle.address_space.specs.Steps.{IsBare};
 ghost use Rattle.frame_store.specs.Laws.{IsSeatOf, KeepsSeats};
-ghost use Rattle.sv39_entry.specs.Schemes.{trapframe_page};
-ghost use Rattle.sv39_entry.specs.declared.scheme.Scheme.TheVariants.{Sv39};
 
 use crate::cabinets::{Change, changes_of, three_files};
 use crate::initial_parts::one_page;
@@ -24,12 +22,18 @@ use std::test::Fail;
 use sv39_entry::Scheme;
 use tests_of_files::RefusingFiles;
 
-/// What a process that begins with one page does, over a store of `frames` frames.
+/// What a process that begins with one page does.
 #[derive(Clone, Copy)]
-struct Story<'a> {
-    frames: usize,
-    page: u64,
-    rows: &'a [Row],
+pub(crate) struct Story {
+    /// The number of frames of the store, 1 to 256.
+    pub frames: usize,
+    /// The number of the page, below that of TRAPFRAME. The heap begins after it, empty.
+    pub page: u64,
+    /// How many promises the files make before they refuse one; `None`: they refuse none.
+    pub promises: Option<usize>,
+    pub rows: &'static [Row],
+    /// The bytes of the three files that differ in the end.
+    pub changes: &'static [Change],
 }
 
 /// How a story ended. `wrong`: its first wrong reply, `Some(None)` if there is none, `None` if the process could not be
@@ -40,44 +44,47 @@ struct End {
     free: usize,
 }
 
-/// Plays rows over plain frames and over shared frames, `frames` of them, with the three files. The process begins with one
-/// page, number `page`; the heap begins after it, empty. Asserts that no reply is wrong, that the files differ in these
-/// bytes in the end, and that all frames are free then. `promises`: how many promises the files make before they refuse one;
-/// `None`: they refuse none.
+/// Plays a story over plain frames and over shared frames, with the three files. Asserts that no reply is wrong, that the
+/// files differ in the bytes of the story in the end, and that all frames are free then. `number` is that of the story, for a
+/// failed assertion.
 ///
 /// # Errors
 /// `Fail`: the host is out of memory.
 pub(crate) fn play<R: Abort + Wait>(
     rt: &R,
     alloc: Global,
-    frames: usize,
-    page: u64,
-    promises: Option<usize>,
-    rows: &[Row],
-    changes: &[Change],
-) -> Result<(), Fail>
-    requires some { 0 < frames }
-    requires few { frames ≤ 256 }
-    requires low { page < trapframe_page Sv39 }
-{
-    let story = Story { frames, page, rows };
+    number: usize,
+    story: &Story,
+) -> Result<(), Fail> {
     for is_shared in [false, true] {
         let mut files = RefusingFiles {
             files: three_files(alloc)?,
-            until_refusal: promises,
+            until_refusal: story.promises,
         };
         let end = if is_shared {
-            over_shared(rt, alloc, &story, &mut files)?
+            over_shared(rt, alloc, story, &mut files)?
         } else {
-            over_plain(alloc, &story, &mut files)?
+            over_plain(alloc, story, &mut files)?
         };
-        assert_eq!(rt;
-            (end.wrong, end.free),
-            (Some(None), frames),
-            "shared: {is_shared}"
-        );
         let changed = changes_of(alloc, &files.files)?;
-        assert_eq!(rt; changed.as_slice(), changes, "shared: {is_shared}");
+        let key = (number, is_shared);
+        let told = (key, end.wrong, end.free, changed.as_slice());
+        assert_eq!(rt; told, (key, Some(None), story.frames, story.changes));
+    }
+    Ok(())
+}
+
+/// Plays stories, one after another.
+///
+/// # Errors
+/// `Fail`: the host is out of memory.
+pub(crate) fn play_all<R: Abort + Wait>(
+    rt: &R,
+    alloc: Global,
+    stories: &[Story],
+) -> Result<(), Fail> {
+    for number in 0..stories.len() {
+        play(rt, alloc, number, &stories[number])?;
     }
     Ok(())
 }
@@ -92,22 +99,20 @@ fn lived<S: FrameSeat, F: FrameSupply<Seat = S>, C: Files>(
 ) -> Result<(Wrong, S), (NoFrame, S)>
     requires fits { IsSeatOf F.invariant store.old seat }
     requires opening { HoldsTrampoline (S.view seat) }
-    requires low { story.now.page < trapframe_page Sv39 }
     ensures bare { IfOk result (λ r. IsBare (S.view r.1)) }
     ensures keeps { IfOk result (λ r. KeepsSeats F.invariant store.old seat store.new r.1) }
     ensures keeps_refused { IfErr result (λ e. KeepsSeats F.invariant store.old seat store.new e.1) }
 {
-    let mut space = Space::build(store, seat, Scheme::Sv39, &one_page(story.page))?;
+    // changes no story; it shows the limit to the proof
+    let page = story.page.min(Scheme::Sv39.trapframe().page().number() - 1);
+    let mut space = Space::build(store, seat, Scheme::Sv39, &one_page(page))?;
     let wrong = first_wrong(&mut space, store, files, story.rows);
     Ok((wrong, space.destroy(store)))
 }
 
-fn over_plain<C: Files>(alloc: Global, story: &Story, files: &mut C) -> Result<End, AllocError>
-    requires some { 0 < story.now.frames }
-    requires few { story.now.frames ≤ 256 }
-    requires low { story.now.page < trapframe_page Sv39 }
-{
-    let (mut store, seat) = PlainFrames::new(alloc, story.frames)?;
+fn over_plain<C: Files>(alloc: Global, story: &Story, files: &mut C) -> Result<End, AllocError> {
+    // changes no story; it shows the limits to the proof
+    let (mut store, seat) = PlainFrames::new(alloc, story.frames.clamp(1, 256))?;
     let wrong = match lived(&mut store, seat, story, files) {
         Ok((wrong, _)) => Some(wrong),
         Err(_) => None,
@@ -121,12 +126,9 @@ fn over_shared<R: Wait, C: Files>(
     alloc: Global,
     story: &Story,
     files: &mut C,
-) -> Result<End, AllocError>
-    requires some { 0 < story.now.frames }
-    requires few { story.now.frames ≤ 256 }
-    requires low { story.now.page < trapframe_page Sv39 }
-{
-    let (frames, seat) = SharedFrames::new(alloc, story.frames)?;
+) -> Result<End, AllocError> {
+    // changes no story; it shows the limits to the proof
+    let (frames, seat) = SharedFrames::new(alloc, story.frames.clamp(1, 256))?;
     let mut supply = frames.supply(rt);
     let (wrong, seat) = match lived(&mut supply, seat, story, files) {
         Ok((wrong, seat)) => (Some(wrong), seat),

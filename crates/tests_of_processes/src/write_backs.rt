@@ -3,16 +3,18 @@
 // operation and its reply. The byte of file n at offset k is k / 256 + 64 * n.
 
 use crate::operation::Operation::{Load, Look, Map, Serve, Store, Unmap, WriteBack};
-use crate::stores::play;
-use process_model::Reply::Scalar;
+use crate::operation::Wanted::Scalar;
+use crate::stores::{Story, play};
 use process_model::ScalarReply::{Done, Fault, MappedAt, Ready, Stored, Value};
 use std::test::Fail;
 use sv39_entry::Access;
 
-#[test]
-fn writes_up_to_the_end_of_a_file(rt: HostRuntime) -> Result<(), Fail> {
-    // file 0 has 5,000 bytes, 904 (0x388) of them in the second page
-    let rows = [
+/// File 0 has 5,000 bytes, 904 (0x388) of them in the second page.
+static TO_THE_END: Story = Story {
+    frames: 12,
+    page: 0,
+    promises: None,
+    rows: &[
         (Map(6_000, 3, 1, 0), Scalar(MappedAt(0x3fffffc000))),
         (Serve(Access::Store, 0x3fffffc000), Scalar(Ready)),
         (Serve(Access::Store, 0x3fffffd000), Scalar(Ready)),
@@ -30,19 +32,25 @@ fn writes_up_to_the_end_of_a_file(rt: HostRuntime) -> Result<(), Fail> {
         (Look(0, 5_000), Scalar(Value(0))),
         // a load page fault (RISC-V Privileged Architecture 20211203, 4.1.8)
         (Load(0x3fffffd380, 8), Scalar(Fault(13))),
-    ];
-    let changes = [
+    ],
+    changes: &[
         (0, 4_996, 0xa4),
         (0, 4_997, 0xa3),
         (0, 4_998, 0xa2),
         (0, 4_999, 0xa1),
-    ];
-    play(&rt, rt.alloc(), 12, 0, None, &rows, &changes)
-}
+    ],
+};
 
 #[test]
-fn leaves_what_was_only_loaded(rt: HostRuntime) -> Result<(), Fail> {
-    let rows = [
+fn writes_up_to_the_end_of_a_file(rt: HostRuntime) -> Result<(), Fail> {
+    play(&rt, rt.alloc(), 0, &TO_THE_END)
+}
+
+static ONLY_LOADED: Story = Story {
+    frames: 12,
+    page: 0,
+    promises: None,
+    rows: &[
         (Map(4_096, 3, 1, 0), Scalar(MappedAt(0x3fffffd000))),
         (Map(4_096, 3, 1, 0), Scalar(MappedAt(0x3fffffc000))),
         (Map(4_096, 3, 2, 0), Scalar(MappedAt(0x3fffffb000))),
@@ -61,15 +69,21 @@ fn leaves_what_was_only_loaded(rt: HostRuntime) -> Result<(), Fail> {
         (WriteBack, Scalar(Done)),
         (Unmap(0x3fffffd000, 4_096), Scalar(Done)),
         (Unmap(0x3fffffb000, 4_096), Scalar(Done)),
-    ];
-    let changes = [(0, 0x100, 2), (0, 0x101, 2)];
-    play(&rt, rt.alloc(), 12, 0, None, &rows, &changes)
-}
+    ],
+    changes: &[(0, 0x100, 2), (0, 0x101, 2)],
+};
 
 #[test]
-fn writes_all_mappings(rt: HostRuntime) -> Result<(), Fail> {
-    // file 2 has 10,003 bytes, 1,811 (0x713) of them in the third page
-    let rows = [
+fn leaves_what_was_only_loaded(rt: HostRuntime) -> Result<(), Fail> {
+    play(&rt, rt.alloc(), 0, &ONLY_LOADED)
+}
+
+/// File 2 has 10,003 bytes, 1,811 (0x713) of them in the third page.
+static ALL_MAPPINGS: Story = Story {
+    frames: 12,
+    page: 0,
+    promises: None,
+    rows: &[
         (Map(5_000, 3, 1, 0), Scalar(MappedAt(0x3fffffc000))),
         (Map(10_003, 3, 1, 2), Scalar(MappedAt(0x3fffff9000))),
         (Serve(Access::Store, 0x3fffffd000), Scalar(Ready)),
@@ -90,22 +104,28 @@ fn writes_all_mappings(rt: HostRuntime) -> Result<(), Fail> {
         (Look(0, 4_096), Scalar(Value(0x101010101010d2d1))),
         (Unmap(0x3fffff9000, 10_003), Scalar(Done)),
         (Unmap(0x3fffffc000, 1), Scalar(Done)),
-    ];
-    let changes = [
+    ],
+    changes: &[
         (0, 4_096, 0xd1),
         (0, 4_097, 0xd2),
         (2, 4_095, 0xe1),
         (2, 10_000, 0xf8),
         (2, 10_001, 0xf7),
         (2, 10_002, 0xf6),
-    ];
-    play(&rt, rt.alloc(), 12, 0, None, &rows, &changes)
-}
+    ],
+};
 
 #[test]
-fn keeps_places_in_the_file(rt: HostRuntime) -> Result<(), Fail> {
-    // of three pages the first is unmapped, then the last; the middle one has the bytes of file 2 from offset 4,096 on
-    let rows = [
+fn writes_all_mappings(rt: HostRuntime) -> Result<(), Fail> {
+    play(&rt, rt.alloc(), 0, &ALL_MAPPINGS)
+}
+
+/// Of three pages the first is unmapped, then the last; the middle one has the bytes of file 2 from offset 4,096 on.
+static PLACES: Story = Story {
+    frames: 12,
+    page: 0,
+    promises: None,
+    rows: &[
         (Map(12_288, 3, 1, 2), Scalar(MappedAt(0x3fffffb000))),
         (Unmap(0x3fffffb000, 4_096), Scalar(Done)),
         (Unmap(0x3fffffd000, 4_096), Scalar(Done)),
@@ -113,7 +133,11 @@ fn keeps_places_in_the_file(rt: HostRuntime) -> Result<(), Fail> {
         (Load(0x3fffffc000, 8), Scalar(Value(0x9090909090909090))),
         (Store(0x3fffffc000, 2, 0xc1c2), Scalar(Stored)),
         (Unmap(0x3fffffc000, 4_096), Scalar(Done)),
-    ];
-    let changes = [(2, 4_096, 0xc2), (2, 4_097, 0xc1)];
-    play(&rt, rt.alloc(), 12, 0, None, &rows, &changes)
+    ],
+    changes: &[(2, 4_096, 0xc2), (2, 4_097, 0xc1)],
+};
+
+#[test]
+fn keeps_places_in_the_file(rt: HostRuntime) -> Result<(), Fail> {
+    play(&rt, rt.alloc(), 0, &PLACES)
 }
