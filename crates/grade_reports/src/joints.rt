@@ -1,4 +1,4 @@
-// How texts are joined: `joint`, what stands before one of some; `put_note` and `put_joint`, notes one after the other.
+// How texts are joined: `joint`, what stands before one of some; `put_number`, a number; `put_note` and `put_joint`, notes one after the other.
 
 use text_builder::Text;
 
@@ -11,6 +11,11 @@ pub fn joint(number: usize, count: usize, last: &'static str) -> &'static str {
     } else {
         ", "
     }
+}
+
+/// Appends a number.
+pub fn put_number(text: &mut Text, number: usize) {
+    write!(text, "{number}");
 }
 
 /// Appends what stands between two notes, unless there is none yet.

@@ -10,6 +10,7 @@ mod forms;
 mod heads;
 mod joints;
 mod line_notes;
+mod members;
 mod objects;
 mod reasons;
 mod students;
