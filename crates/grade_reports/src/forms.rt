@@ -21,319 +21,230 @@ pub enum Part {
     Bytes(&'static str),
 }
 
-/// A line's word, and the words of its answers.
-#[derive(Clone, Copy)]
-struct Row {
-    word: &'static str,
-    answers: &'static [&'static str],
-}
-
-/// The words of the answers to each line, as docs/SCRIPTS.md has them.
-static ROWS: [Row; 26] = [
-    Row {
-        word: "boot",
-        answers: &["ok"],
-    },
-    Row {
-        word: "start",
-        answers: &["slot", "refused"],
-    },
-    Row {
-        word: "on",
-        answers: &["ok", "refused"],
-    },
-    Row {
-        word: "switch",
-        answers: &["ok", "refused"],
-    },
-    Row {
-        word: "enter",
-        answers: &["ok", "refused"],
-    },
-    Row {
-        word: "leave",
-        answers: &["ok", "refused"],
-    },
-    Row {
-        word: "fix",
-        answers: &["ready", "ended", "refused"],
-    },
-    Row {
-        word: "trap",
-        answers: &["ok", "refused"],
-    },
-    Row {
-        word: "next",
-        answers: &["ok", "refused"],
-    },
-    Row {
-        word: "serve",
-        answers: &["ready", "ended", "refused"],
-    },
-    Row {
-        word: "fetch",
-        answers: &["value", "fault", "refused"],
-    },
-    Row {
-        word: "load",
-        answers: &["value", "fault", "refused"],
-    },
-    Row {
-        word: "store",
-        answers: &["stored", "fault", "refused"],
-    },
-    Row {
-        word: "fill",
-        answers: &["entry", "nothing", "refused"],
-    },
-    Row {
-        word: "evict",
-        answers: &["ok", "refused"],
-    },
-    Row {
-        word: "tramp",
-        answers: &["frame", "fault", "refused"],
-    },
-    Row {
-        word: "fork",
-        answers: &["slot", "refused"],
-    },
-    Row {
-        word: "exec",
-        answers: &["ok", "refused"],
-    },
-    Row {
-        word: "sbrk",
-        answers: &["old", "refused"],
-    },
-    Row {
-        word: "mmap",
-        answers: &["at", "refused"],
-    },
-    Row {
-        word: "munmap",
-        answers: &["ok", "refused"],
-    },
-    Row {
-        word: "copyin",
-        answers: &["copied", "short", "refused"],
-    },
-    Row {
-        word: "copyout",
-        answers: &["copied", "short", "refused"],
-    },
-    Row {
-        word: "exit",
-        answers: &["exited", "refused"],
-    },
-    Row {
-        word: "show",
-        answers: &["file"],
-    },
-    Row {
-        word: "audit",
-        answers: &["free"],
-    },
-];
-
-/// An answer's word, and the parts after it.
+/// A form of answers: their word, and the parts after it.
 #[derive(Clone, Copy)]
 struct Form {
     word: &'static str,
     parts: &'static [Part],
+    /// The parts of such an answer if it has more of them; none if it never has.
+    longer: &'static [Part],
+    /// The words of the lines that can have such an answer, a blank between two.
+    lines: &'static str,
 }
 
-/// The forms of answers that are the same for all lines, but for those of `COUNTS`.
-static FORMS: [Form; 14] = [
+/// The forms of all answers, as docs/SCRIPTS.md has them. Those of a line stand in the order in which they are told.
+static FORMS: [Form; 20] = [
     Form {
         word: "ok",
         parts: &[],
-    },
-    Form {
-        word: "stored",
-        parts: &[],
-    },
-    Form {
-        word: "ready",
-        parts: &[],
-    },
-    Form {
-        word: "nothing",
-        parts: &[],
+        longer: &[],
+        lines: "boot on switch enter leave trap next evict exec munmap",
     },
     Form {
         word: "slot",
         parts: &[Part::Decimal("slot")],
+        longer: &[],
+        lines: "start fork",
     },
     Form {
-        word: "fault",
-        parts: &[Part::Decimal("cause")],
-    },
-    Form {
-        word: "entry",
-        parts: &[Part::Decimal("entry")],
-    },
-    Form {
-        word: "frame",
-        parts: &[Part::Decimal("frame")],
-    },
-    Form {
-        word: "value",
-        parts: &[Part::Hexadecimal("value")],
-    },
-    Form {
-        word: "old",
-        parts: &[Part::Hexadecimal("size")],
-    },
-    Form {
-        word: "at",
-        parts: &[Part::Hexadecimal("address")],
-    },
-    Form {
-        word: "exited",
-        parts: &[Part::Signed("status")],
+        word: "ready",
+        parts: &[],
+        longer: &[],
+        lines: "fix serve",
     },
     Form {
         word: "ended",
         parts: &[Part::Decimal("rule"), Part::Name("rule")],
+        longer: &[],
+        lines: "fix serve",
+    },
+    Form {
+        word: "value",
+        parts: &[Part::Hexadecimal("value")],
+        longer: &[],
+        lines: "fetch load",
+    },
+    Form {
+        word: "stored",
+        parts: &[],
+        longer: &[],
+        lines: "store",
+    },
+    Form {
+        word: "entry",
+        parts: &[Part::Decimal("entry")],
+        longer: &[],
+        lines: "fill",
+    },
+    Form {
+        word: "nothing",
+        parts: &[],
+        longer: &[],
+        lines: "fill",
+    },
+    Form {
+        word: "frame",
+        parts: &[Part::Decimal("frame")],
+        longer: &[],
+        lines: "tramp",
+    },
+    Form {
+        word: "old",
+        parts: &[Part::Hexadecimal("size")],
+        longer: &[],
+        lines: "sbrk",
+    },
+    Form {
+        word: "at",
+        parts: &[Part::Hexadecimal("address")],
+        longer: &[],
+        lines: "mmap",
+    },
+    Form {
+        word: "copied",
+        parts: &[Part::Decimal("length")],
+        longer: &[],
+        lines: "copyout",
+    },
+    Form {
+        word: "copied",
+        parts: &[Part::Decimal("length"), Part::Bytes("bytes")],
+        longer: &[],
+        lines: "copyin",
+    },
+    Form {
+        word: "short",
+        parts: &[
+            Part::Decimal("rule"),
+            Part::Name("rule"),
+            Part::Text("done"),
+            Part::Decimal("length"),
+        ],
+        longer: &[],
+        lines: "copyout",
+    },
+    Form {
+        word: "short",
+        parts: &[
+            Part::Decimal("rule"),
+            Part::Name("rule"),
+            Part::Text("done"),
+            Part::Decimal("length"),
+            Part::Bytes("bytes"),
+        ],
+        longer: &[],
+        lines: "copyin",
+    },
+    Form {
+        word: "exited",
+        parts: &[Part::Signed("status")],
+        longer: &[],
+        lines: "exit",
     },
     Form {
         word: "file",
         parts: &[Part::Decimal("length"), Part::Bytes("bytes")],
+        longer: &[],
+        lines: "show",
+    },
+    Form {
+        word: "free",
+        parts: &[
+            Part::Decimal("free"),
+            Part::Text("held"),
+            Part::Decimal("held"),
+            Part::Text("shared"),
+            Part::Decimal("shared"),
+            Part::Text("references"),
+            Part::Decimal("references"),
+        ],
+        longer: &[],
+        lines: "audit",
+    },
+    Form {
+        word: "fault",
+        parts: &[Part::Decimal("cause")],
+        longer: &[],
+        lines: "fetch load store tramp",
+    },
+    Form {
+        word: "refused",
+        parts: &[Part::Decimal("refusal"), Part::Name("refusal")],
+        longer: &[
+            Part::Decimal("refusal"),
+            Part::Name("refusal"),
+            Part::Name("detail"),
+        ],
+        lines: "start on switch enter leave fix trap next serve fetch load store fill evict tramp fork exec sbrk mmap munmap copyin copyout exit",
     },
 ];
 
-static REFUSAL: [Part; 2] = [Part::Decimal("refusal"), Part::Name("refusal")];
+/// Returns the forms of all answers.
+fn forms() -> &'static [Form] {
+    FORMS.as_slice()
+}
 
-static DETAIL: [Part; 3] = [
-    Part::Decimal("refusal"),
-    Part::Name("refusal"),
-    Part::Name("detail"),
-];
+impl Form {
+    /// Whether lines of a word can have such an answer.
+    fn is_of(&self, line: &str) -> bool {
+        'lines: for word in self.lines.split(' ') {
+            if word == line {
+                return true;
+            }
+        }
+        false
+    }
 
-static LENGTH: [Part; 1] = [Part::Decimal("length")];
-
-static BYTES: [Part; 2] = [Part::Decimal("length"), Part::Bytes("bytes")];
-
-static SHORT: [Part; 4] = [
-    Part::Decimal("rule"),
-    Part::Name("rule"),
-    Part::Text("done"),
-    Part::Decimal("length"),
-];
-
-static SHORT_BYTES: [Part; 5] = [
-    Part::Decimal("rule"),
-    Part::Name("rule"),
-    Part::Text("done"),
-    Part::Decimal("length"),
-    Part::Bytes("bytes"),
-];
-
-/// The parts of the answer to `audit`, after its word `free`.
-static COUNTS: [Part; 7] = [
-    Part::Decimal("free"),
-    Part::Text("held"),
-    Part::Decimal("held"),
-    Part::Text("shared"),
-    Part::Decimal("shared"),
-    Part::Text("references"),
-    Part::Decimal("references"),
-];
-
-/// Whether a word is one of some words.
-fn has_word(words: &[&str], word: &str) -> bool {
-    'words: for one in words {
-        if *one == word {
-            return true;
+    /// Returns the parts of an answer that has so many.
+    fn parts_of(&self, count: usize) -> &'static [Part] {
+        if count > self.parts.len() && !self.longer.is_empty() {
+            self.longer
+        } else {
+            self.parts
         }
     }
-    false
-}
-
-/// Returns the words of the answers that lines of a word can have.
-fn answers_of(line: &str) -> &'static [&'static str] {
-    'rows: for row in ROWS.as_slice() {
-        if row.word == line {
-            return row.answers;
-        }
-    }
-    &[]
-}
-
-/// Returns the parts of a refusal that has so many.
-fn refusal_of(count: usize) -> &'static [Part] {
-    if count > 2 {
-        DETAIL.as_slice()
-    } else {
-        REFUSAL.as_slice()
-    }
-}
-
-/// Returns the parts of the answer `copied`: with the bytes, if the line is `copyin`.
-fn copied_of(line: &str) -> &'static [Part] {
-    if line == "copyin" {
-        BYTES.as_slice()
-    } else {
-        LENGTH.as_slice()
-    }
-}
-
-/// Returns the parts of the answer `short`: with the bytes, if the line is `copyin`.
-fn short_of(line: &str) -> &'static [Part] {
-    if line == "copyin" {
-        SHORT_BYTES.as_slice()
-    } else {
-        SHORT.as_slice()
-    }
-}
-
-/// Returns the parts of an answer that are the same for all lines, by its word.
-fn parts_of(word: &str) -> &'static [Part] {
-    'forms: for form in FORMS.as_slice() {
-        if form.word == word {
-            return form.parts;
-        }
-    }
-    COUNTS.as_slice()
 }
 
 /// Returns the parts of an answer that has so many, by its word and that of its line; `None` if such a line has no such answer.
 pub fn form_of(line: &str, word: &str, count: usize) -> Option<&'static [Part]> {
-    if !has_word(answers_of(line), word) {
-        return None;
-    }
-    Some(match word {
-        "refused" => refusal_of(count),
-        "copied" => copied_of(line),
-        "short" => short_of(line),
-        _ => parts_of(word),
-    })
-}
-
-/// Whether all of some bytes are decimal digits.
-fn are_decimal(bytes: &[u8]) -> bool {
-    'bytes: for byte in bytes {
-        if !byte.is_ascii_digit() {
-            return false;
+    'forms: for form in forms() {
+        if form.word == word && form.is_of(line) {
+            return Some(form.parts_of(count));
         }
     }
-    true
+    None
 }
 
-/// Whether a byte is a hexadecimal digit in lower case.
-fn is_hex(digit: u8) -> bool {
-    matches!(digit, b'0'..=b'9' | b'a'..=b'f')
+/// What a text is made of.
+#[derive(Clone, Copy)]
+enum Signs {
+    /// Decimal digits.
+    Decimal,
+    /// Hexadecimal digits in lower case.
+    Hexadecimal,
+    /// Letters and digits.
+    Name,
 }
 
-/// Whether all of some bytes are hexadecimal digits in lower case.
-fn are_hex(bytes: &[u8]) -> bool {
-    'bytes: for byte in bytes {
-        if !is_hex(*byte) {
-            return false;
+impl Signs {
+    /// Whether a byte is one of these.
+    fn has(self, byte: u8) -> bool {
+        match self {
+            Signs::Decimal => byte.is_ascii_digit(),
+            Signs::Hexadecimal => matches!(byte, b'0'..=b'9' | b'a'..=b'f'),
+            Signs::Name => byte.is_ascii_alphanumeric(),
         }
     }
-    true
+
+    /// Whether each of some bytes is one of these.
+    fn are(self, bytes: &[u8]) -> bool {
+        'bytes: for byte in bytes {
+            if !self.has(*byte) {
+                return false;
+            }
+        }
+        true
+    }
 }
 
 /// Whether digits are those of a number; `zeros`: there may be some before it.
@@ -345,49 +256,48 @@ fn is_number(digits: &[u8], zeros: bool) -> bool {
     }
 }
 
-/// Whether a text is a number in decimal digits; `zeros`: there may be some before it.
-fn is_decimal(text: &str, zeros: bool) -> bool {
-    let digits = text.as_bytes();
-    is_number(digits, zeros) && are_decimal(digits)
+/// Whether some bytes are a number in decimal digits; `zeros`: there may be some before it.
+fn is_decimal(digits: &[u8], zeros: bool) -> bool {
+    is_number(digits, zeros) && Signs::Decimal.are(digits)
 }
 
-/// Whether a text is `0x` and a number in hexadecimal digits; `zeros`: there may be some before it.
-fn is_hexadecimal(text: &str, zeros: bool) -> bool {
-    match text.strip_prefix("0x") {
-        Some(digits) => is_number(digits.as_bytes(), zeros) && are_hex(digits.as_bytes()),
-        None => false,
+/// Whether some bytes are `0x` and a number in hexadecimal digits; `zeros`: there may be some before it.
+fn is_hexadecimal(text: &[u8], zeros: bool) -> bool {
+    match text {
+        [b'0', b'x', digits @ ..] => is_number(digits, zeros) && Signs::Hexadecimal.are(digits),
+        _ => false,
     }
 }
 
-/// Whether a text is letters and digits.
-fn is_name(text: &str) -> bool {
-    'bytes: for byte in text.as_bytes() {
-        if !byte.is_ascii_alphanumeric() {
-            return false;
-        }
+/// Whether some bytes are a number in decimal digits, with `-` before it if it is negative; `zeros`: there may be some before its digits.
+fn is_signed(text: &[u8], zeros: bool) -> bool {
+    match text {
+        [b'-', b'0'] => zeros,
+        [b'-', digits @ ..] => is_decimal(digits, zeros),
+        _ => is_decimal(text, zeros),
     }
-    !text.is_empty()
 }
 
-/// Whether a text is bytes in hexadecimal digits, or `-`.
-fn is_bytes(text: &str) -> bool {
-    let digits = text.as_bytes();
-    text == "-" || (!digits.is_empty() && digits.len() % 2 == 0 && are_hex(digits))
+/// Whether some bytes are bytes in hexadecimal digits, or `-`.
+fn is_bytes(text: &[u8]) -> bool {
+    match text {
+        [] => false,
+        [b'-'] => true,
+        _ => text.len() % 2 == 0 && Signs::Hexadecimal.are(text),
+    }
 }
 
 impl Part {
     /// Whether a text has the form of this part; `zeros`: there may be some before its number.
     pub fn fits(self, text: &str, zeros: bool) -> bool {
+        let bytes = text.as_bytes();
         match self {
             Part::Text(own) => text == own,
-            Part::Decimal(_) => is_decimal(text, zeros),
-            Part::Hexadecimal(_) => is_hexadecimal(text, zeros),
-            Part::Signed(_) => match text.strip_prefix('-') {
-                Some(digits) => (zeros || digits != "0") && is_decimal(digits, zeros),
-                None => is_decimal(text, zeros),
-            },
-            Part::Name(_) => is_name(text),
-            Part::Bytes(_) => is_bytes(text),
+            Part::Decimal(_) => is_decimal(bytes, zeros),
+            Part::Hexadecimal(_) => is_hexadecimal(bytes, zeros),
+            Part::Signed(_) => is_signed(bytes, zeros),
+            Part::Name(_) => !bytes.is_empty() && Signs::Name.are(bytes),
+            Part::Bytes(_) => is_bytes(bytes),
         }
     }
 
@@ -415,27 +325,34 @@ impl Part {
     }
 }
 
-/// Appends the form of an answer, by its word and that of its line, as `fault N`. After the name of a refusal there may be more.
-fn put_form(text: &mut Text, line: &str, word: &str) {
-    text.push_str(word);
-    if let Some(parts) = form_of(line, word, 0) {
-        'parts: for part in parts {
-            text.push_str(" ");
-            text.push_str(part.sign());
-        }
+/// Appends a form of answers, as `fault N`. After the parts of one that may have more there may be more.
+fn put_form(text: &mut Text, form: &Form) {
+    text.push_str("`");
+    text.push_str(form.word);
+    'parts: for part in form.parts {
+        text.push_str(" ");
+        text.push_str(part.sign());
     }
-    if word == "refused" {
-        text.push_str(" ..");
+    text.push_str(if form.longer.is_empty() { "`" } else { " ..`" });
+}
+
+/// Returns how many forms the answers to a line have, by its word.
+fn form_count(line: &str) -> usize {
+    let mut count = 0usize;
+    'forms: for form in forms() {
+        count = count.saturating_add(usize::from(form.is_of(line)));
     }
+    count
 }
 
 /// Appends the forms of the answers to a line, by its word.
 pub fn put_forms(text: &mut Text, line: &str) {
-    let words = answers_of(line);
-    'words: for (number, word) in words.iter().enumerate() {
-        text.push_str(joint(number, words.len(), " or "));
-        text.push_str("`");
-        put_form(text, line, word);
-        text.push_str("`");
+    let (count, mut number) = (form_count(line), 0usize);
+    'forms: for form in forms() {
+        if form.is_of(line) {
+            text.push_str(joint(number, count, " or "));
+            put_form(text, form);
+            number = number.saturating_add(1);
+        }
     }
 }
