@@ -56,42 +56,54 @@ pub fn word_of(line: &[u8]) -> &str {
 /// Returns an answer with one blank between its fields.
 fn joined(alloc: Global, answer: &[u8]) -> Result<Vec<u8>, AllocError> {
     let mut text = Vec::new(alloc);
-    let mut is_between = false;
+    // Whether a blank is the last so far; one before the first field is left out too.
+    let mut is_blank = true;
     'bytes: for byte in answer {
-        if *byte == b' ' || *byte == b'\t' {
-            is_between = !text.is_empty();
-            continue;
+        let byte = if *byte == b'\t' { b' ' } else { *byte };
+        if byte != b' ' || !is_blank {
+            text.push(byte)?;
         }
-        if is_between {
-            text.push(b' ')?;
-        }
-        text.push(*byte)?;
-        is_between = false;
+        is_blank = byte == b' ';
+    }
+    if is_blank {
+        text.pop();
     }
     Ok(text)
 }
 
-/// Splits an answer into its word and what comes after it.
-fn cut(answer: &str) -> (&str, Option<&str>) {
-    match answer.split_once(' ') {
-        Some((word, rest)) => (word, Some(rest)),
-        None => (answer, None),
-    }
+/// An answer: its word, and what comes after it.
+#[derive(Clone, Copy)]
+struct Words<'a> {
+    first: &'a str,
+    rest: &'a str,
+    /// How many parts there are after the word.
+    count: usize,
 }
 
-/// Returns how many parts there are after an answer's word.
-fn part_count(rest: Option<&str>) -> usize {
-    match rest {
-        Some(rest) => {
-            let mut parts = 1usize;
-            'bytes: for byte in rest.as_bytes() {
-                if *byte == b' ' {
-                    parts = parts.saturating_add(1);
-                }
-            }
-            parts
+/// Returns how many parts there are of what comes after an answer's word.
+fn part_count(rest: &str) -> usize {
+    let mut parts = 1usize;
+    'bytes: for byte in rest.as_bytes() {
+        if *byte == b' ' {
+            parts = parts.saturating_add(1);
         }
-        None => 0,
+    }
+    parts
+}
+
+/// Splits an answer into its word and what comes after it.
+fn cut(answer: &str) -> Words<'_> {
+    match answer.split_once(' ') {
+        Some((first, rest)) => Words {
+            first,
+            rest,
+            count: part_count(rest),
+        },
+        None => Words {
+            first: answer,
+            rest: "",
+            count: 0,
+        },
     }
 }
 
@@ -101,15 +113,12 @@ fn part_at(rest: &str, place: usize) -> Option<&str> {
 }
 
 /// Whether what comes after an answer's word has this form; `zeros`: there may be some before its numbers.
-fn fits(parts: &[Part], rest: Option<&str>, zeros: bool) -> bool {
-    let Some(rest) = rest else {
-        return parts.is_empty();
-    };
-    if part_count(Some(rest)) != parts.len() {
+fn fits(parts: &[Part], answer: Words<'_>, zeros: bool) -> bool {
+    if answer.count != parts.len() {
         return false;
     }
     'parts: for place in 0..parts.len() {
-        match part_at(rest, place) {
+        match part_at(answer.rest, place) {
             Some(text) if !parts[place].fits(text, zeros) => return false,
             _ => {}
         }
@@ -117,13 +126,17 @@ fn fits(parts: &[Part], rest: Option<&str>, zeros: bool) -> bool {
     true
 }
 
+/// Returns the form of an answer, if it is one that answers to a line have, by the line's word; `zeros`: there may be some before its numbers.
+fn parts_of(word: &str, answer: Words<'_>, zeros: bool) -> Option<&'static [Part]> {
+    match form_of(word, answer.first, answer.count) {
+        Some(parts) if fits(parts, answer, zeros) => Some(parts),
+        _ => None,
+    }
+}
+
 /// Whether answers to a line, by its word, have the form of this one; `zeros`: there may be some before its numbers.
 fn has_form(word: &str, answer: &str, zeros: bool) -> bool {
-    let (first, rest) = cut(answer);
-    match form_of(word, first, part_count(rest)) {
-        Some(parts) => fits(parts, rest, zeros),
-        None => false,
-    }
+    parts_of(word, cut(answer), zeros).is_some()
 }
 
 /// The quotes that keyboards and editors write.
@@ -153,30 +166,27 @@ fn without_remark(text: &str) -> &str {
     }
 }
 
-/// Returns an answer with a blank in place of what cannot be seen.
-fn with_blanks(alloc: Global, answer: &str) -> Result<String, AllocError> {
+/// Returns an answer with a blank in place of what cannot be seen, and one blank between its fields.
+fn seen(alloc: Global, answer: &str) -> Result<String, AllocError> {
     let mut text = String::new(alloc);
+    // Whether a blank is the last so far; one before the first field is left out too.
+    let mut is_blank = true;
     'characters: for character in answer.chars() {
-        text.push(if is_unseen(character) { ' ' } else { character })?;
+        let character = if is_unseen(character) { ' ' } else { character };
+        if character != ' ' || !is_blank {
+            text.push(character)?;
+        }
+        is_blank = character == ' ';
+    }
+    if is_blank {
+        text.pop();
     }
     Ok(text)
 }
 
-/// Returns an answer with a blank in place of what cannot be seen, and one blank between its fields.
-fn seen(alloc: Global, answer: &str) -> Result<String, AllocError> {
-    let text = with_blanks(alloc, answer)?;
-    let fields = joined(alloc, text.as_bytes())?;
-    String::from_utf8_lossy(alloc, fields.as_slice())
-}
-
-/// Returns an answer in small letters.
-fn in_small(alloc: Global, answer: &str) -> Result<String, AllocError> {
-    let letters = answer.as_bytes().to_ascii_lowercase(alloc)?;
-    String::from_utf8_lossy(alloc, letters.as_slice())
-}
-
-/// Returns what an answer that has no form has around it, if without that it has one; `word` is its line's.
-fn around(word: &str, answer: &str) -> Option<Excess> {
+/// Returns what an answer that has no form has too much, if without that it has one; `word` is its line's, `seen` and `small` are the answer
+/// without what cannot be seen and in small letters.
+fn excess_of(word: &str, answer: &str, seen: &str, small: &str) -> Option<Excess> {
     if has_form(word, without_question(answer), false) {
         Some(Excess::Question)
     } else if has_form(word, without_quotes(answer).trim_matches(' '), false) {
@@ -187,29 +197,22 @@ fn around(word: &str, answer: &str) -> Option<Excess> {
         Some(Excess::Remark)
     } else if has_form(word, answer, true) {
         Some(Excess::Zeros)
+    } else if has_form(word, seen, false) {
+        Some(Excess::Unseen)
+    } else if has_form(word, small, false) {
+        Some(Excess::Capitals)
     } else {
         None
     }
 }
 
-/// Returns what an answer that has no form has too much, if without that it has one; `word` is its line's.
-fn excess_of(alloc: Global, word: &str, answer: &str) -> Result<Option<Excess>, AllocError> {
-    if let Some(excess) = around(word, answer) {
-        return Ok(Some(excess));
-    }
-    if has_form(word, seen(alloc, answer)?.as_str(), false) {
-        return Ok(Some(Excess::Unseen));
-    }
-    if has_form(word, in_small(alloc, answer)?.as_str(), false) {
-        return Ok(Some(Excess::Capitals));
-    }
-    Ok(None)
-}
-
 /// Returns that no answer to a line has the form of this one; `word` is the line's.
 fn no_form(alloc: Global, word: &str, answer: &str) -> Result<Reason, AllocError> {
     let given = String::from_str(alloc, answer)?;
-    Ok(Reason::Form(given, excess_of(alloc, word, answer)?))
+    let seen = seen(alloc, answer)?;
+    let small = answer.to_ascii_lowercase(alloc)?;
+    let excess = excess_of(word, answer, seen.as_str(), small.as_str());
+    Ok(Reason::Form(given, excess))
 }
 
 /// Whether two answers with one word differ in a part that the first has.
@@ -221,33 +224,32 @@ fn is_wrong(given: &str, right: &str, place: usize) -> bool {
     }
 }
 
-/// Appends a name, unless it is the last already.
-fn put_name(names: &mut Vec<&'static str>, name: &'static str) -> Result<(), AllocError> {
-    if let Some(last) = names.last()
-        && *last == name
-    {
-        return Ok(());
+/// Whether a name is the last of some.
+fn is_last(names: &[&'static str], name: &str) -> bool {
+    match names.last() {
+        Some(last) => *last == name,
+        None => false,
     }
-    Ok(names.push(name)?)
 }
 
-/// Returns the names of the parts in which two answers with one word differ.
+/// Returns that the parts are wrong in which two answers with one word differ; `given` and `right` are what comes after it.
 fn wrong_parts(
     alloc: Global,
     parts: &[Part],
     given: &str,
     right: &str,
-) -> Result<Vec<&'static str>, AllocError> {
+) -> Result<Reason, AllocError> {
     let mut names: Vec<&'static str> = Vec::new(alloc);
     'parts: for place in 0..parts.len() {
-        if is_wrong(given, right, place) {
-            put_name(&mut names, parts[place].name())?;
+        let name = parts[place].name();
+        if is_wrong(given, right, place) && !is_last(names.as_slice(), name) {
+            names.push(name)?;
         }
     }
     if names.is_empty() {
         names.push("detail")?;
     }
-    Ok(names)
+    Ok(Reason::Parts(names))
 }
 
 /// Returns why an answer to a line, with one blank between its fields, is wrong, beside the right one; `word` is the line's.
@@ -257,16 +259,11 @@ fn reason_beside(
     given: &str,
     right: &str,
 ) -> Result<Reason, AllocError> {
-    let ((first, rest), (right_first, right_rest)) = (cut(given), cut(right));
-    match form_of(word, first, part_count(rest)) {
-        Some(parts) if fits(parts, rest, false) => {
-            if first != right_first {
-                return Ok(Reason::Word);
-            }
-            let names = wrong_parts(alloc, parts, rest.unwrap_or(""), right_rest.unwrap_or(""))?;
-            Ok(Reason::Parts(names))
-        }
-        _ => no_form(alloc, word, given),
+    let (words, right) = (cut(given), cut(right));
+    match parts_of(word, words, false) {
+        Some(_) if words.first != right.first => Ok(Reason::Word),
+        Some(parts) => wrong_parts(alloc, parts, words.rest, right.rest),
+        None => no_form(alloc, word, given),
     }
 }
 
@@ -282,10 +279,10 @@ pub fn reason_of_text(
 ) -> Result<Reason, AllocError> {
     let given = joined(alloc, given)?;
     let given = given.as_slice();
-    let (Ok(given), Ok(right)) = (std::str::from_utf8(given), std::str::from_utf8(right)) else {
-        return Ok(Reason::Form(String::from_utf8_lossy(alloc, given)?, None));
-    };
-    reason_beside(alloc, word, given, right)
+    match (std::str::from_utf8(given), std::str::from_utf8(right)) {
+        (Ok(given), Ok(right)) => reason_beside(alloc, word, given, right),
+        _ => Ok(Reason::Form(String::from_utf8_lossy(alloc, given)?, None)),
+    }
 }
 
 /// Returns what a student answered at a line.
@@ -334,16 +331,16 @@ pub fn reason_of(
 /// Whether names name more than one thing.
 fn is_plural(names: &[&'static str]) -> bool {
     match names {
-        [name] => *name == "bytes" || *name == "references",
+        [name] => matches!(*name, "bytes" | "references"),
         _ => true,
     }
 }
 
 /// Appends names, as `a, b and c`, and that they are wrong.
 fn put_names(text: &mut Text, names: &[&'static str]) {
-    'names: for (number, name) in names.iter().enumerate() {
+    'names: for number in 0..names.len() {
         text.push_str(joint(number, names.len(), " and "));
-        text.push_str(name);
+        text.push_str(names[number]);
     }
     text.push_str(if is_plural(names) {
         " are wrong"
