@@ -1,9 +1,10 @@
 // `students_of`: the students of a list, which has the columns `id` and `file`, and maybe others; `ids_of`: those of one that may have no
 // column `file`; `first_row` and `put_repeat`: ids that are there more than once.
 
-ghost use Rattle.std.specs.Prelude.{OnOk, ◌<◌, All, IfOk, IfSome, string_len};
+ghost use Rattle.std.specs.Prelude.{OnOk, ◌<◌, All, IfOk, string_len};
 
-use crate::visible::Visible;
+use crate::joints::put_number;
+use crate::visible::put_visible;
 use csv::{ByteRecord, Reader, ReaderBuilder};
 use handouts::without_mark;
 use memchr::memchr;
@@ -43,10 +44,9 @@ impl From<AllocError> for ListFault {
     }
 }
 
-/// Where the columns are, and which byte parts them.
+/// Where the columns are.
 #[derive(Clone, Copy)]
 struct Columns {
-    delimiter: u8,
     id: usize,
     file: Option<usize>,
 }
@@ -69,144 +69,72 @@ fn without_separator(text: &[u8]) -> &[u8] {
     }
 }
 
-/// Returns a reader of rows of any lengths.
-fn reader_of(alloc: Global, text: &[u8], delimiter: u8) -> Reader<&[u8]> {
-    ReaderBuilder::new()
-        .has_headers(false)
-        .flexible(true)
-        .delimiter(delimiter)
-        .from_reader(alloc, text)
+/// Returns a field of a row; nothing if there is none, or no column is read.
+fn field_at(row: &ByteRecord, place: Option<usize>) -> &[u8] {
+    match place {
+        Some(place) => row.get(place).unwrap_or(b""),
+        None => b"",
+    }
 }
 
 /// Returns the place of a column, by its name in capital or small letters.
 fn column(names: &ByteRecord, name: &str) -> Option<usize> {
     'places: for place in 0..names.len() {
-        if let Some(field) = names.get(place) {
-            if field.trim_ascii().eq_ignore_ascii_case(name.as_bytes()) {
-                return Some(place);
-            }
+        let field = field_at(names, Some(place)).trim_ascii();
+        if field.eq_ignore_ascii_case(name.as_bytes()) {
+            return Some(place);
         }
     }
     None
 }
 
-/// Returns a field of a row, without blanks around it; of bytes that are no text U+FFFD.
-fn field(alloc: Global, row: &ByteRecord, place: usize) -> Result<String, AllocError> {
-    let bytes = match row.get(place) {
-        Some(bytes) => bytes.trim_ascii(),
-        None => b"".as_slice(),
-    };
-    let text = String::from_utf8_lossy(alloc, bytes)?;
-    String::from_str(alloc, text.as_str().trim())
-}
-
-/// Whether a field of a row is UTF-8.
-fn is_text(row: &ByteRecord, place: usize) -> bool {
-    match row.get(place) {
-        Some(bytes) => std::str::from_utf8(bytes).is_ok(),
-        None => true,
-    }
-}
-
 /// Whether each field of a row is empty, as those below a table are.
 fn is_blank(row: &ByteRecord) -> bool {
     'places: for place in 0..row.len() {
-        if let Some(field) = row.get(place) {
-            if !field.trim_ascii().is_empty() {
-                return false;
-            }
+        if !field_at(row, Some(place)).trim_ascii().is_empty() {
+            return false;
         }
     }
     true
 }
 
-/// Reads the next row of a list, and returns whether there is one; without one the row is empty. Rows of any lengths are taken, from
-/// memory, so that no other error than of memory can come.
-fn next_row(reader: &mut Reader<&[u8]>, row: &mut ByteRecord) -> Result<bool, ListFault> {
-    match reader.read_byte_record(row) {
-        Ok(found) => Ok(found),
-        Err(_) => Err(ListFault::Memory),
-    }
-}
-
-/// Returns the student of a row, which has this number.
+/// Returns the student of a row, which has this number, without blanks around its fields.
 fn student_of(
     alloc: Global,
     row: &ByteRecord,
     columns: Columns,
     number: usize,
-) -> Result<Option<Student>, AllocError>
-    ensures { IfOk result (λ found. IfSome found (λ s. 0 < string_len s.id)) }
+) -> Result<Student, ListFault>
+    ensures { IfOk result (λ s. 0 < string_len s.id) }
 {
-    let id = field(alloc, row, columns.id)?;
-    if id.is_empty() {
-        return Ok(None);
-    }
-    let file = match columns.file {
-        Some(file) => field(alloc, row, file)?,
-        None => String::new(alloc),
-    };
-    Ok(Some(Student {
-        id,
-        file,
-        row: number,
-    }))
-}
-
-/// Returns what is wrong with a row, which has this number, if a field of it that is read is no UTF-8.
-fn text_fault(row: &ByteRecord, columns: Columns, number: usize) -> Result<(), ListFault> {
-    if !is_text(row, columns.id) {
+    let Ok(id) = std::str::from_utf8(field_at(row, Some(columns.id))) else {
         return Err(ListFault::NotText(number));
+    };
+    let Ok(file) = std::str::from_utf8(field_at(row, columns.file)) else {
+        return Err(ListFault::FileNotText(number));
+    };
+    let id = String::from_str(alloc, id.trim())?;
+    if id.is_empty() {
+        return Err(ListFault::NoId(number));
     }
-    match columns.file {
-        Some(file) if !is_text(row, file) => Err(ListFault::FileNotText(number)),
-        _ => Ok(()),
-    }
+    Ok(Student {
+        id,
+        file: String::from_str(alloc, file.trim())?,
+        row: number,
+    })
 }
 
-/// Adds a student with an id.
-fn keep(students: &mut Vec<Student>, student: Student) -> Result<(), AllocError>
-    requires { 0 < string_len student.id }
-    ensures { OnOk result (All (λ s. 0 < string_len s.id) students.old.items → All (λ s. 0 < string_len s.id) students.new.items) }
-{
-    students.push(student)?;
-    Ok(())
-}
-
-/// Returns where the columns of a list are, if this byte parts their names. `needs_file`: the column `file` is read.
-fn columns_by(
-    alloc: Global,
-    text: &[u8],
-    delimiter: u8,
-    needs_file: bool,
-) -> Result<Option<Columns>, ListFault> {
-    let mut reader = reader_of(alloc, text, delimiter);
-    let mut row = ByteRecord::new(alloc);
-    let _has_names = next_row(&mut reader, &mut row)?;
+/// Returns where the columns are that a row names, if it names those that are read. `needs_file`: the column `file` is.
+fn columns_of(names: &ByteRecord, needs_file: bool) -> Option<Columns> {
     let file = if needs_file {
-        column(&row, "file")
+        Some(column(names, "file")?)
     } else {
         None
     };
-    match column(&row, "id") {
-        Some(id) if file.is_some() || !needs_file => Ok(Some(Columns {
-            delimiter,
-            id,
-            file,
-        })),
-        _ => Ok(None),
-    }
-}
-
-/// Returns where the columns of a list are, by the first byte of `DELIMITERS` that parts their names. `needs_file`: the column `file` is read.
-fn columns_of(alloc: Global, text: &[u8], needs_file: bool) -> Result<Option<Columns>, ListFault> {
-    'delimiters: for delimiter in DELIMITERS.as_slice() {
-        let columns = columns_by(alloc, text, *delimiter, needs_file)?;
-        if columns.is_some() {
-            return Ok(columns);
-        }
-    }
-    Ok(None)
+    Some(Columns {
+        id: column(names, "id")?,
+        file,
+    })
 }
 
 /// Adds the student of a row, which has this number, unless it has no text.
@@ -222,36 +150,82 @@ fn keep_row(
     if is_blank(row) {
         return Ok(());
     }
-    text_fault(row, columns, number)?;
-    match student_of(alloc, row, columns, number)? {
-        Some(student) => Ok(keep(students, student)?),
-        None => Err(ListFault::NoId(number)),
+    match students.push(student_of(alloc, row, columns, number)?) {
+        Ok(()) => Ok(()),
+        Err(_) => Err(ListFault::Memory),
     }
 }
 
-/// Returns the students of the rows of a list below the first, which has the names. The rows have numbers below `end`.
-fn named_rows(
+/// The rows of a list.
+#[derive(Drop)]
+struct Rows<'a> {
+    reader: Reader<&'a [u8]>,
+    /// The last row that was read.
+    row: ByteRecord,
+}
+
+impl<'a> Rows<'a> {
+    /// Returns the rows of a list, which may have any lengths; this byte parts their fields.
+    fn of(alloc: Global, text: &'a [u8], delimiter: u8) -> Rows<'a> {
+        Rows {
+            reader: ReaderBuilder::new()
+                .has_headers(false)
+                .flexible(true)
+                .delimiter(delimiter)
+                .from_reader(alloc, text),
+            row: ByteRecord::new(alloc),
+        }
+    }
+
+    /// Reads the next row, and returns whether there is one; without one the row is empty. Rows of any lengths are taken, from memory, so
+    /// that no other error than of memory can come.
+    fn read(&mut self) -> Result<bool, ListFault> {
+        match self.reader.read_byte_record(&mut self.row) {
+            Ok(found) => Ok(found),
+            Err(_) => Err(ListFault::Memory),
+        }
+    }
+
+    /// Returns the students of all rows but the first, which has the names of the columns; `needs_file`: whether the column `file` is read. The
+    /// rows have numbers below `end`, and those without any text are passed over.
+    fn students(
+        &mut self,
+        alloc: Global,
+        needs_file: bool,
+        end: usize,
+    ) -> Result<Vec<Student>, ListFault>
+        ensures { IfOk result (λ students. All (λ s. 0 < string_len s.id) students.items) }
+    {
+        let _has_names = self.read()?;
+        let Some(columns) = columns_of(&self.row, needs_file) else {
+            return Err(ListFault::Columns);
+        };
+        let mut students = Vec::new(alloc);
+        'rows: for number in 2..end {
+            if !self.read()? {
+                break;
+            }
+            keep_row(alloc, &mut students, &self.row, columns, number)?;
+        }
+        Ok(students)
+    }
+}
+
+/// Returns the students of a list whose fields this byte parts; `needs_file`: whether the column `file` is read.
+fn rows_by(
     alloc: Global,
-    reader: &mut Reader<&[u8]>,
-    columns: Columns,
-    end: usize,
+    text: &[u8],
+    delimiter: u8,
+    needs_file: bool,
 ) -> Result<Vec<Student>, ListFault>
     ensures { IfOk result (λ students. All (λ s. 0 < string_len s.id) students.items) }
 {
-    let mut row = ByteRecord::new(alloc);
-    let _has_names = next_row(reader, &mut row)?;
-    let mut students = Vec::new(alloc);
-    'rows: for number in 2..end {
-        if !next_row(reader, &mut row)? {
-            break;
-        }
-        keep_row(alloc, &mut students, &row, columns, number)?;
-    }
-    Ok(students)
+    let mut rows = Rows::of(alloc, text, delimiter);
+    rows.students(alloc, needs_file, text.len().saturating_add(2))
 }
 
-/// Returns the students of a list, in its order; `needs_file`: whether it must have the column `file`, which is not read else. Rows without any
-/// text are passed over.
+/// Returns the students of a list, in its order, by the first byte of `DELIMITERS` that parts the names of its columns; `needs_file`: whether the
+/// column `file` is read.
 fn rows_of(alloc: Global, text: &[u8], needs_file: bool) -> Result<Vec<Student>, ListFault>
     ensures { IfOk result (λ students. All (λ s. 0 < string_len s.id) students.items) }
 {
@@ -259,11 +233,13 @@ fn rows_of(alloc: Global, text: &[u8], needs_file: bool) -> Result<Vec<Student>,
         return Err(ListFault::Wide);
     }
     let text = without_separator(text);
-    let Some(columns) = columns_of(alloc, text, needs_file)? else {
-        return Err(ListFault::Columns);
-    };
-    let mut reader = reader_of(alloc, text, columns.delimiter);
-    named_rows(alloc, &mut reader, columns, text.len().saturating_add(2))
+    'delimiters: for delimiter in DELIMITERS.as_slice() {
+        match rows_by(alloc, text, *delimiter, needs_file) {
+            Err(ListFault::Columns) => {}
+            read => return read,
+        }
+    }
+    Err(ListFault::Columns)
 }
 
 /// Returns the students of a list, in its order. Names of columns, in any case, and fields may have blanks around them; a byte order mark may
@@ -300,9 +276,11 @@ pub fn first_row(students: &[Student], id: &str) -> Option<usize> {
 
 /// Appends a line that says that two rows of a list have one id.
 pub fn put_repeat(out: &mut Text, first: usize, row: usize, id: &str) {
-    let id = Visible(id);
-    writeln!(
-        out,
-        "rows {first} and {row} have the id {id}; give each student another"
-    );
+    out.push_str("rows ");
+    put_number(out, first);
+    out.push_str(" and ");
+    put_number(out, row);
+    out.push_str(" have the id ");
+    put_visible(out, id);
+    out.push_str("; give each student another\n");
 }

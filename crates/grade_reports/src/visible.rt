@@ -35,7 +35,7 @@ impl fmt::Display for Shown {
             let number = u32::from(character);
             write!(f, "\\u{{{number:x}}}")
         } else {
-            write!(f, "{character}")
+            f.write_char(character)
         }
     }
 }
@@ -43,11 +43,16 @@ impl fmt::Display for Shown {
 impl fmt::Display for Visible<'_> {
     fn fmt<W: fmt::Write>(&self, f: &mut fmt::Formatter<W>) -> fmt::Result {
         'characters: for character in self.0.chars() {
-            let shown = Shown(character);
-            write!(f, "{shown}")?;
+            fmt::Display::fmt(&Shown(character), f)?;
         }
         Ok(())
     }
+}
+
+/// Appends a text as it is shown.
+pub(crate) fn put_visible(out: &mut Text, text: &str) {
+    let shown = Visible(text);
+    write!(out, "{shown}");
 }
 
 /// Appends a character as it is quoted.
@@ -78,8 +83,10 @@ fn put_place(out: &mut Text, place: usize, count: usize, character: char) {
 pub fn put_quoted(out: &mut Text, text: &str) {
     out.push_str("\"");
     let count = text.chars().count();
-    'characters: for (place, character) in text.chars().enumerate() {
+    let mut place = 0usize;
+    'characters: for character in text.chars() {
         put_place(out, place, count, character);
+        place = place.saturating_add(1);
     }
     out.push_str("\"");
 }

@@ -1,6 +1,6 @@
 use Rattle.std.proofs.Common.{◌<◌}
 use Rattle.std.specs.Prelude.{All, string_len}
-use Rattle.grade_reports.proofs.students.named_rows.Given as goal
+use Rattle.grade_reports.proofs.students.Rows.students.Given as goal
 
 -- each student so far has an id
 abbrev pub invariant-rows : goal.invariant-rows
