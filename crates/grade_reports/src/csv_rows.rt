@@ -3,7 +3,7 @@
 
 use crate::file_grade::FileGrade;
 use crate::table::notes_of;
-use csv::{ByteRecord, WriterBuilder};
+use csv::{ByteRecord, Writer};
 use std::alloc::{AllocError, Global};
 
 /// The names of the fields.
@@ -13,21 +13,6 @@ const HEAD: &str =
 /// Returns the row of names.
 pub fn csv_head() -> &'static str {
     HEAD
-}
-
-/// Returns a row of these fields.
-///
-/// # Errors
-/// `AllocError`: the host is out of memory. A writer to memory fails by nothing else.
-fn row_of(alloc: Global, fields: &ByteRecord) -> Result<Vec<u8>, AllocError> {
-    let mut writer = WriterBuilder::new().from_writer(Vec::new(alloc));
-    if writer.write_byte_record(fields).is_err() {
-        return Err(AllocError);
-    }
-    match writer.into_inner() {
-        Ok(row) => Ok(row),
-        Err(_) => Err(AllocError),
-    }
 }
 
 /// The fields of a row so far.
@@ -116,12 +101,13 @@ impl Row {
     /// Returns the row, with its line feed.
     ///
     /// # Errors
-    /// `AllocError`: the host is out of memory, or was for a field.
+    /// `AllocError`: the host is out of memory, or was for a field. A writer to memory fails by nothing else.
     fn finish(self) -> Result<Vec<u8>, AllocError> {
-        if self.is_whole {
-            row_of(self.alloc, &self.fields)
-        } else {
-            Err(AllocError)
+        let mut writer = Writer::from_writer(Vec::new(self.alloc));
+        let is_whole = self.is_whole && writer.write_byte_record(&self.fields).is_ok();
+        match writer.into_inner() {
+            Ok(row) if is_whole => Ok(row),
+            _ => Err(AllocError),
         }
     }
 }

@@ -5,7 +5,7 @@ ghost use Rattle.handouts.specs.Marks.{blanks_of, rights_of};
 
 use crate::line_notes::LineNotes;
 use crate::reasons::{Reason, put_reason, reason_of, word_of};
-use handouts::{Asked, BlankMark, Grade, Line, Mark, grade_lines};
+use handouts::{Asked, BlankMark, Line, Mark, grade_lines};
 use std::alloc::{AllocError, Global};
 use text_builder::Text;
 
@@ -102,17 +102,10 @@ pub struct FileGrade {
 }
 
 /// Returns why a blank is wrong, in words; `bare` is its line.
-fn words_of(
-    alloc: Global,
-    bare: &[u8],
-    reason: Option<Reason>,
-) -> Result<Option<String>, AllocError> {
-    let Some(reason) = reason else {
-        return Ok(None);
-    };
+fn words_of(alloc: Global, bare: &[u8], reason: &Reason) -> Result<String, AllocError> {
     let mut text = Text::new(alloc);
-    put_reason(&mut text, word_of(bare), &reason);
-    Ok(Some(text.finish()?))
+    put_reason(&mut text, word_of(bare), reason);
+    text.finish()
 }
 
 /// Returns the text of a blank.
@@ -126,8 +119,10 @@ fn text_of(
         Some(asked) => (asked.line.number, asked.line.bare.as_slice()),
         None => (0, b"".as_slice()),
     };
-    let reason = reason_of(alloc, handout, student, blank)?;
-    let reason = words_of(alloc, bare, reason)?;
+    let reason = match reason_of(alloc, handout, student, blank)? {
+        Some(reason) => Some(words_of(alloc, bare, &reason)?),
+        None => None,
+    };
     Ok(BlankText {
         line,
         bare: String::from_utf8_lossy(alloc, bare)?,
@@ -141,12 +136,12 @@ fn texts_of(
     alloc: Global,
     handout: &[Asked],
     student: &[Line],
-    grade: &Grade,
+    blanks: &[BlankMark],
 ) -> Result<Vec<BlankText>, AllocError>
-    ensures { IfOk result (λ v. vec_len v ≡ vec_len grade.now.blanks) }
+    ensures { IfOk result (λ v. vec_len v ≡ length blanks.now) }
 {
     let mut texts = Vec::new(alloc);
-    'blanks: for blank in grade.blanks.as_slice() {
+    'blanks: for blank in blanks {
         texts.push(text_of(alloc, handout, student, *blank)?)?;
     }
     Ok(texts)
@@ -169,7 +164,7 @@ impl FileGrade {
         ensures right { IfOk result (λ g. g.right ≤ vec_len g.blanks) }
     {
         let grade = grade_lines(alloc, handout, student)?;
-        let blanks = texts_of(alloc, handout, student, &grade)?;
+        let blanks = texts_of(alloc, handout, student, grade.blanks.as_slice())?;
         let noted = LineNotes::of(alloc, handout, student, grade.found.as_slice())?;
         Ok(FileGrade {
             file,

@@ -9,9 +9,9 @@ fn is_end(byte: u8) -> bool {
 
 /// Returns the digits that a text begins with.
 fn digits_of(text: &[u8]) -> &[u8] {
-    'bytes: for (place, byte) in text.iter().enumerate() {
-        if !byte.is_ascii_digit() {
-            return text.get(..place).unwrap_or(text);
+    'bytes: for place in 0..text.len() {
+        if !text[place].is_ascii_digit() {
+            return &text[..place];
         }
     }
     text
@@ -19,7 +19,9 @@ fn digits_of(text: &[u8]) -> &[u8] {
 
 /// Returns the number of the lab that a comment names, as `# Lab 4, copy-on-write fork.` does; there may be more behind the comment.
 fn lab_in(comment: &[u8]) -> Option<u32> {
-    let rest = comment.strip_prefix(b"# Lab ")?;
+    let Some(rest) = comment.strip_prefix(b"# Lab ") else {
+        return None;
+    };
     match std::str::from_utf8(digits_of(rest)) {
         Ok(digits) => digits.parse::<u32>().ok(),
         Err(_) => None,

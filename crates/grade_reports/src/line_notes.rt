@@ -1,6 +1,6 @@
 // `LineNotes`, a struct: which lines of a handout a student's file has changed, left out or answered more than once; `put_lines`: that in words.
 
-use crate::joints::{joint, put_note};
+use crate::joints::{joint, put_note, put_number};
 use handouts::{Answer, Asked, Found, Line, is_kept};
 use std::alloc::{AllocError, Global};
 use text_builder::Text;
@@ -23,21 +23,12 @@ pub struct LineNotes {
 /// Returns how many lines there are of the handout up to the last one that is kept or changed.
 fn end_of(found: &[Found]) -> usize {
     let mut end = 0usize;
-    'found: for (place, one) in found.iter().enumerate() {
-        match one {
-            Found::Kept(_) | Found::Changed(_) => end = place.saturating_add(1),
-            Found::Missing => {}
+    'found: for place in 0..found.len() {
+        if !matches!(found[place], Found::Missing) {
+            end = place.saturating_add(1);
         }
     }
     end
-}
-
-/// Appends the number of a line of the handout, unless it is a blank.
-fn put_plain(numbers: &mut Vec<usize>, asked: &Asked) -> Result<(), AllocError> {
-    if !asked.is_blank() {
-        numbers.push(asked.line.number)?;
-    }
-    Ok(())
 }
 
 /// Whether a line of the file is a line of the handout, or in the place of one.
@@ -84,18 +75,19 @@ struct Kept<'a> {
     place: usize,
 }
 
-/// Returns the blank of this place in the handout with the line of the file that is it; `None` if it is no blank, or not there.
+/// Returns a blank of the handout with the line of the file that is it; `None` if it is no blank, or not there. `found`: where it is.
 fn kept_blank<'a>(
-    handout: &'a [Asked],
+    asked: &'a Asked,
     student: &'a [Line],
-    found: &[Found],
-    place: usize,
+    found: Option<&Found>,
 ) -> Option<Kept<'a>> {
-    let asked = handout.get(place)?;
-    match found.get(place) {
-        Some(Found::Kept(place)) if asked.is_blank() => Some(Kept {
+    let Some(Found::Kept(place)) = found else {
+        return None;
+    };
+    match student.get(*place) {
+        Some(line) if asked.is_blank() => Some(Kept {
             asked,
-            line: student.get(*place)?,
+            line,
             place: *place,
         }),
         _ => None,
@@ -143,7 +135,7 @@ impl Copied<'_> {
     ) -> Option<usize> {
         let mut above = Above::NOTHING;
         'lines: for place in 0..handout.len() {
-            let Some(blank) = kept_blank(handout, student, found, place) else {
+            let Some(blank) = kept_blank(&handout[place], student, found.get(place)) else {
                 continue;
             };
             if self.is_below(blank) && self.takes(blank, numbers, &mut above) {
@@ -237,11 +229,9 @@ fn again_at(
         place,
         is_past: end <= place,
     };
-    let number = copied.blank_of(handout, student, found, numbers)?;
-    if has_number(numbers, number) {
-        None
-    } else {
-        Some(number)
+    match copied.blank_of(handout, student, found, numbers) {
+        Some(number) if !has_number(numbers, number) => Some(number),
+        _ => None,
     }
 }
 
@@ -274,20 +264,30 @@ impl LineNotes {
         student: &[Line],
         found: &[Found],
     ) -> Result<LineNotes, AllocError> {
-        let (mut changed, mut missing) = (Vec::new(alloc), Vec::new(alloc));
+        let mut notes = LineNotes {
+            changed: Vec::new(alloc),
+            missing: Vec::new(alloc),
+            again: again_of(alloc, handout, student, found)?,
+        };
+        notes.add_plain(handout, found)?;
+        Ok(notes)
+    }
+
+    /// Adds the lines that are no blanks and are changed or missing.
+    fn add_plain(&mut self, handout: &[Asked], found: &[Found]) -> Result<(), AllocError> {
         let end = end_of(found);
-        'lines: for (place, asked) in handout.iter().enumerate() {
-            match found.get(place) {
-                Some(Found::Changed(_)) => put_plain(&mut changed, asked)?,
-                Some(Found::Missing) if place < end => put_plain(&mut missing, asked)?,
-                _ => {}
+        'lines: for place in 0..handout.len() {
+            let numbers = match found.get(place) {
+                Some(Found::Changed(_)) => &mut self.changed,
+                Some(Found::Missing) if place < end => &mut self.missing,
+                _ => continue,
+            };
+            let asked = &handout[place];
+            if !asked.is_blank() {
+                numbers.push(asked.line.number)?;
             }
         }
-        Ok(LineNotes {
-            changed,
-            missing,
-            again: again_of(alloc, handout, student, found)?,
-        })
+        Ok(())
     }
 }
 
@@ -296,12 +296,14 @@ fn put_numbers(text: &mut Text, numbers: &[usize]) {
     let shown = numbers.get(..MOST_NUMBERS).unwrap_or(numbers);
     let more = numbers.len().saturating_sub(shown.len());
     let last = if more == 0 { " and " } else { ", " };
-    'numbers: for (place, number) in shown.iter().enumerate() {
-        let before = joint(place, shown.len(), last);
-        write!(text, "{before}{number}");
+    'numbers: for place in 0..shown.len() {
+        text.push_str(joint(place, shown.len(), last));
+        put_number(text, shown[place]);
     }
     if more > 0 {
-        write!(text, " and {more} more");
+        text.push_str(" and ");
+        put_number(text, more);
+        text.push_str(" more");
     }
 }
 

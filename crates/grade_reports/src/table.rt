@@ -1,9 +1,9 @@
 // `put_table`: a line for each graded file, in columns; `put_summary`: how many there were, and their mean.
 
 use crate::file_grade::{BlankText, FileGrade, Standing};
-use crate::joints::{put_joint, put_note};
+use crate::joints::{put_joint, put_note, put_number};
 use crate::line_notes::put_lines;
-use crate::visible::Visible;
+use crate::visible::put_visible;
 use std::alloc::{AllocError, Global};
 use text_builder::Text;
 
@@ -45,7 +45,7 @@ fn put_others(notes: &mut Text, grade: &FileGrade) {
     match grade.other_lab {
         Some(lab) => {
             put_note(notes, "made for lab ");
-            write!(notes, "{lab}");
+            put_number(notes, lab as usize);
         }
         None if grade.is_of_page => put_note(
             notes,
@@ -62,7 +62,8 @@ fn put_added(notes: &mut Text, added: usize) {
         1 => put_note(notes, "1 line added"),
         _ => {
             put_joint(notes);
-            write!(notes, "{added} lines added");
+            put_number(notes, added);
+            notes.push_str(" lines added");
         }
     }
 }
@@ -77,8 +78,9 @@ fn put_wrong(notes: &mut Text, grade: &FileGrade) {
                 ..
             },
         ) => {
-            put_joint(notes);
-            write!(notes, "line {line}, ");
+            put_note(notes, "line ");
+            put_number(notes, *line);
+            notes.push_str(", ");
             notes.push_str(reason.as_str());
         }
         _ => {}
@@ -105,24 +107,25 @@ pub fn notes_of(alloc: Global, grade: &FileGrade) -> Result<String, AllocError> 
 
 /// Appends how many of some there are, as `3/4`, and a tab.
 fn put_share(cells: &mut Text, some: usize, all: usize) {
-    write!(cells, "{some}/{all}\t");
+    put_number(cells, some);
+    cells.push_str("/");
+    put_number(cells, all);
+    cells.push_str("\t");
 }
 
 /// Appends the cells of a file, a tab between two, on a line of their own: students chose its name and what its head names, and `Visible` has
 /// no tab and no line end.
 fn put_cells(cells: &mut Text, grade: &FileGrade) {
-    let file = Visible(match &grade.id {
-        Some(id) => id.as_str(),
-        None => grade.file.as_str(),
-    });
-    write!(cells, "\n{file}\t");
+    cells.push_str("\n");
+    match &grade.id {
+        Some(id) => put_visible(cells, id.as_str()),
+        None => put_visible(cells, grade.file.as_str()),
+    }
+    cells.push_str("\t");
     put_share(cells, grade.kept, grade.lines());
     put_share(cells, grade.right, grade.blanks.len());
     match notes_of(cells.allocator(), grade) {
-        Ok(notes) => {
-            let notes = Visible(notes.as_str());
-            write!(cells, "{notes}");
-        }
+        Ok(notes) => put_visible(cells, notes.as_str()),
         Err(error) => cells.note(Err(error)),
     }
 }
@@ -130,20 +133,19 @@ fn put_cells(cells: &mut Text, grade: &FileGrade) {
 /// How wide the columns before the last are.
 type Widths = [usize; 3];
 
-/// Makes columns wide enough for a line of cells.
-fn widen(widths: &mut Widths, line: &str) {
-    'cells: for (column, cell) in line.split('\t').enumerate() {
-        if let Some(width) = widths.get_mut(column) {
-            *width = (*width).max(cell.chars().count());
-        }
-    }
-}
-
 /// Returns widths with room for each line of cells.
 fn widths_of(cells: &str) -> Widths {
     let mut widths: Widths = [0; 3];
-    'lines: for line in cells.split('\n') {
-        widen(&mut widths, line);
+    let (mut column, mut width) = (0usize, 0usize);
+    'characters: for character in cells.chars() {
+        match character {
+            '\n' => (column, width) = (0, 0),
+            '\t' => (column, width) = (column.saturating_add(1), 0),
+            _ => width = width.saturating_add(1),
+        }
+        if let Some(widest) = widths.get_mut(column) {
+            *widest = (*widest).max(width);
+        }
     }
     widths
 }
@@ -157,18 +159,18 @@ fn put_blanks(out: &mut Text, count: usize) {
 
 /// Appends a line of cells in columns; one whose last cell is empty ends behind the cell before.
 fn put_row(out: &mut Text, line: &str, widths: Widths) {
-    let mut blanks = 0usize;
-    'cells: for (column, cell) in line.split('\t').enumerate() {
+    let (mut blanks, mut column) = (0usize, 0usize);
+    'cells: for cell in line.split('\t') {
         if !cell.is_empty() {
             put_blanks(out, blanks);
             out.push_str(cell);
             blanks = 0;
         }
-        let width = match widths.get(column) {
-            Some(width) => width.saturating_add(GAP),
-            None => 0,
-        };
-        blanks = blanks.saturating_add(width.saturating_sub(cell.chars().count()));
+        if let Some(width) = widths.get(column) {
+            let room = width.saturating_add(GAP);
+            blanks = blanks.saturating_add(room.saturating_sub(cell.chars().count()));
+        }
+        column = column.saturating_add(1);
     }
     out.push_str("\n");
 }
@@ -208,48 +210,45 @@ pub fn put_table(alloc: Global, out: &mut Text, grades: &[FileGrade]) {
 /// What is counted of all files.
 #[derive(Clone, Copy)]
 struct Total {
-    files: u64,
-    full: u64,
-    right: u64,
-    blanks: u64,
+    full: usize,
+    right: usize,
+    blanks: usize,
 }
 
 /// Returns what is counted of all files.
 fn total_of(grades: &[FileGrade]) -> Total {
     let mut total = Total {
-        files: 0,
         full: 0,
         right: 0,
         blanks: 0,
     };
     'grades: for grade in grades {
-        total.files = total.files.saturating_add(1);
-        total.full = total.full.saturating_add(u64::from(grade.is_full()));
-        total.right = total.right.saturating_add(grade.right as u64);
-        total.blanks = total.blanks.saturating_add(grade.blanks.len() as u64);
+        total.full = total.full.saturating_add(usize::from(grade.is_full()));
+        total.right = total.right.saturating_add(grade.right);
+        total.blanks = total.blanks.saturating_add(grade.blanks.len());
     }
     total
 }
 
 /// Appends a sum over a count, with two digits after the point, rounded down; without these if the quotient is whole and `is_short`.
-fn put_mean(out: &mut Text, sum: u64, count: u64, is_short: bool) {
-    let hundredths = match sum.saturating_mul(100).checked_div(count) {
-        Some(hundredths) => hundredths,
-        None => 0,
-    };
-    let (whole, part) = (hundredths / 100, hundredths % 100);
-    write!(out, "{whole}");
+fn put_mean(out: &mut Text, sum: usize, count: usize, is_short: bool) {
+    let hundredths = sum.saturating_mul(100).checked_div(count).unwrap_or(0);
+    put_number(out, hundredths / 100);
+    let part = hundredths % 100;
     if !is_short || part != 0 {
-        write!(out, ".{part:02}");
+        out.push_str(if part < 10 { ".0" } else { "." });
+        put_number(out, part);
     }
 }
 
 /// Appends how many files there were, how many of them with full marks, and the mean.
 pub fn put_summary(out: &mut Text, grades: &[FileGrade]) {
     let total = total_of(grades);
-    let (files, full) = (total.files, total.full);
-    let word = if files == 1 { "file" } else { "files" };
-    write!(out, "{files} {word}, {full} with full marks");
+    let files = grades.len();
+    put_number(out, files);
+    out.push_str(if files == 1 { " file, " } else { " files, " });
+    put_number(out, total.full);
+    out.push_str(" with full marks");
     if files > 0 {
         out.push_str(", mean ");
         put_mean(out, total.right, files, false);
