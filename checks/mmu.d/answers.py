@@ -100,6 +100,19 @@ def wrong_leaf(seen, line, answer):
     return None
 
 
+def wrong_slip(seen, line, answer):
+    """What is wrong with an answer that one check stands against an outcome; None if nothing is."""
+    found = re.search(r"PTE (0x[0-9a-f]+) at level (\d) is on the way there, but is (.*?)(?:; or |\. Permitted: )", answer)
+    if found:
+        word, level, lack = int(found[1], 16), int(found[2]), found[3]
+        is_so = level > 0 and word & 15 == 1 and lack in INVALID and INVALID[lack](word, level) and kind_of(seen.profile, word, level) == "invalid"
+        return None if is_so else f"{word:#x} is a pointer"
+    found = re.search(r"it would be so under Sv(\d\d), but MODE in satp is Sv(\d\d)", answer)
+    if found:
+        return None if found[1] != found[2] and (int(found[2]) - 39) // 9 + 8 == seen.satp >> 60 else f"satp is {seen.satp:#x}"
+    return None
+
+
 def wrong_label(seen, line, answer):
     """What is wrong with what an outcome is said to be permitted by; None if nothing is."""
     claim = line.split(" => ")[1]
@@ -147,7 +160,9 @@ def wrong_words(wanted, line, answer):
     wrong = wrong_kind(seen, answer)
     if wanted.kind == "outcomes":
         return wrong or wrong_step(seen, answer)
-    return wrong or (wrong_label if wanted.kind == "permitted" else wrong_leaf)(seen, line, answer)
+    if wanted.kind == "permitted":
+        return wrong or wrong_label(seen, line, answer)
+    return wrong or wrong_leaf(seen, line, answer) or wrong_slip(seen, line, answer)
 
 
 def fault_in(wanted, line, answer, lines):

@@ -75,7 +75,7 @@ impl Telling<'_> {
                 if let Some(why) = self.no_pointer(&step) {
                     put_pte(out, self.extensions, &step);
                     let text = why.text;
-                    return write!(out, " leads there, but is {text}");
+                    return write!(out, " is on the way there, but is {text}");
                 }
             }
         }
