@@ -100,7 +100,7 @@ def wrong_leaf(seen, line, answer):
     return None
 
 
-def wrong_slip(seen, line, answer):
+def wrong_slip(seen, answer):
     """What is wrong with an answer that one check stands against an outcome; None if nothing is."""
     found = re.search(r"PTE (0x[0-9a-f]+) at level (\d) is on the way there, but is (.*?)(?:; or |\. Permitted: )", answer)
     if found:
@@ -162,7 +162,7 @@ def wrong_words(wanted, line, answer):
         return wrong or wrong_step(seen, answer)
     if wanted.kind == "permitted":
         return wrong or wrong_label(seen, line, answer)
-    return wrong or wrong_leaf(seen, line, answer) or wrong_slip(seen, line, answer)
+    return wrong or wrong_leaf(seen, line, answer) or wrong_slip(seen, answer)
 
 
 def fault_in(wanted, line, answer, lines):
