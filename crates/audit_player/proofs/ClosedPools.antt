@@ -6,9 +6,9 @@ use Rattle.std.specs.List.Sorted.{IsPermutation}
 use Rattle.atomic_table.specs.Seated.{TableId}
 use Rattle.frame_store.specs.View.{IsSole, View, opening_view, references}
 use Rattle.hart_calls.specs.declared.finished.Finished.{Finished}
-use Rattle.hart_threads.specs.RosterState.{ComesBack}
-use Rattle.hart_threads.specs.StartFrames.{ArePoolStarts}
-use Rattle.hart_threads.specs.Starts.{Lends}
+use Rattle.run_roster.specs.RosterState.{ComesBack}
+use Rattle.run_roster.specs.StartFrames.{ArePoolStarts}
+use Rattle.run_roster.specs.Starts.{Lends}
 use Rattle.process_model.specs.Files.{file_of}
 use Rattle.script_language.specs.ThreadScript.{ThreadScript}
 use Rattle.process_model.specs.declared.call.Call.{Call}

@@ -10,7 +10,7 @@ use Rattle.shared_frames.specs.declared.seat.SharedSeat.{SharedSeat}
 use Rattle.atomic_table.specs.Seated.{TableId}
 use Rattle.shared_frames.specs.Invariant.{one_at_zero}
 use Rattle.shared_frames.specs.Totals.{held_frames}
-use Rattle.hart_threads.specs.Starts.{Lends}
+use Rattle.run_roster.specs.Starts.{Lends}
 use Rattle.audit_player.specs.KernelFrames.{GainsCredits, HoldsOnce}
 
 -- views with the same references hold as many frames

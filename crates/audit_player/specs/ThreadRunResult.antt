@@ -7,8 +7,8 @@ use Rattle.std.specs.List.Sorted.{IsPermutation}
 use Rattle.atomic_table.specs.Seated.{TableId}
 use Rattle.frame_store.specs.View.{View}
 use Rattle.hart_calls.specs.declared.finished.Finished.{Finished}
-use Rattle.hart_threads.specs.RosterState.{ComesBack}
-use Rattle.hart_threads.specs.StartFrames.{ArePoolStarts}
+use Rattle.run_roster.specs.RosterState.{ComesBack}
+use Rattle.run_roster.specs.StartFrames.{ArePoolStarts}
 use Rattle.process_model.specs.Frames.{kernel_frames}
 use Rattle.process_model.specs.Files.{file_of}
 use Rattle.script_language.specs.ThreadScript.{ThreadScript, thread_script_of}

@@ -4,8 +4,8 @@
 ghost use Rattle.std.specs.Prelude.{◌≡◌, ◌↔◌, ◌||◌, ◌≤◌, ◌<◌, All, false, length, map, IfOk, IsTrue, IsErrOf};
 ghost use Rattle.atomic_table.specs.Seated.{TableId};
 ghost use Rattle.hart_calls.specs.Track.{NameLists};
-ghost use Rattle.hart_threads.specs.RosterState.{ComesBack};
-ghost use Rattle.hart_threads.specs.StartFrames.{ArePoolStarts};
+ghost use Rattle.run_roster.specs.RosterState.{ComesBack};
+ghost use Rattle.run_roster.specs.StartFrames.{ArePoolStarts};
 ghost use Rattle.process_model.specs.Files.{file_of};
 ghost use Rattle.script_language.specs.declared.limits.TheConstants.{MOST_LISTS};
 ghost use Rattle.script_reader.specs.ThreadsPlayable.{IsThreadPlayable};

@@ -2,11 +2,10 @@
 -- (`one_over`), a call with the shelf of the run is over files that it reached (`lent_turn`) and leaves the shelf's first files
 -- (`first_same`), one without a shelf needs none (`free_turn`, `free_over`), one made at once is over any (`kept_over`).
 use Rattle.std.proofs.Common.{◌≡◌, inl, inr, ℕ, suc, ◌+◌, List, [], ◌∷◌, ◌++◌, length, Option, refl, sym, ap, ◌∙◌, subst, arith}
-use Rattle.std.proofs.lemmas.Grind.{merely}
 use Rattle.atomic_table.specs.Seated.{TableId}
 use Rattle.file_shelf.specs.ShelfStates.{ShelfState}
 use Rattle.hart_calls.specs.Replay.{call_at, call_of, forked, forks, IsReplayStep}
-use Rattle.hart_calls.specs.Track.{AppendsEntry, calls_of, Track}
+use Rattle.hart_calls.specs.Track.{AppendsEntry, Track}
 use Rattle.hart_calls.specs.TurnCases.{ContinuesTurn, EndsBy, IsLastEntry, IsMmap, KeepsFilesByOutcome, KeepsFilesOn, NeedsFiles}
 use Rattle.hart_calls.specs.TurnResults.{HasFilesAfter, HasTurned}
 use Rattle.hart_calls.specs.declared.finished.Finished.{Finished}
@@ -14,7 +13,7 @@ use Rattle.hart_calls.specs.declared.fork_slot.ForkSlot.{ForkSlot}
 use Rattle.hart_calls.specs.declared.journal_entry.JournalEntry.{JournalEntry}
 use Rattle.hart_calls.specs.declared.turn.Turn.{Turn}
 use Rattle.hart_calls.specs.declared.turn.Turn.TheVariants as turn
-use Rattle.hart_threads.specs.FilesOfRun.{AreFilesFor, AreReached, EndsOver, GoesOver, HasEndedOver, HasGoneOver, ReplaysOver}
+use Rattle.run_roster.specs.FilesOfRun.{AreFilesFor, AreReached, EndsOver, GoesOver, HasEndedOver, HasGoneOver, ReplaysOver}
 use Rattle.process_model.specs.Files.{File}
 use Rattle.process_model.specs.Process.{Process}
 use Rattle.process_model.specs.declared.call.Call.{Call}
@@ -46,10 +45,6 @@ one_over first p calls es e q r replays next step =
     let here : length es ≡ 0 + length es = omega arith in
     let many : forks es ≡ 0 + forks es = omega arith in
     longer first p 0 0 calls es e q r replays (subst (λ (m : ℕ). call_of e ≡ call_at calls m) here next) (subst (λ (m : ℕ). IsStepOver first m q e r) many step)
-
--- a process that has made no call
-pub runs_new : (first : List File) (t : Track) → t.journal ≡ [] → t.state ≡ t.opening → ∥ ReplaysOver first t.opening 0 0 (calls_of t) t.journal t.state ∥₁
-runs_new first t none is = merely (subst (λ (es : List JournalEntry). ReplaysOver first t.opening 0 0 (calls_of t) es t.state) (sym none) is)
 
 -- the last entries of two lists are one
 

@@ -7,7 +7,7 @@ use Rattle.atomic_table.specs.Seated.{TableId}
 use Rattle.vouchers.specs.Entries.{Birth, birth, TokenEntry as Life, entry}
 use Rattle.hart_calls.specs.Replay.{call_of, forked, forks, list_at, Replays}
 use Rattle.hart_calls.specs.ProcessCodes.{code_of}
-use Rattle.hart_threads.specs.Births.{began, birth_of, births_of, fork_list, heir}
+use Rattle.run_roster.specs.Births.{began, birth_of, births_of, fork_list, heir}
 use Rattle.hart_calls.specs.Track.{AppendsEntry, calls_of, IsChild, SameButSeat, Track}
 use Rattle.hart_calls.specs.TurnCases.{BySlot, EndsBy, ContinuesTurn, LeavesRunning, LacksJournalRoom, IsOver, IsLastEntry}
 use Rattle.hart_calls.specs.declared.journal_entry.JournalEntry.{JournalEntry}
@@ -28,15 +28,15 @@ use Rattle.process_model.specs.declared.reply.Reply.TheVariants as reply
 use Rattle.process_model.specs.declared.reply.Refusal.{Refusal}
 use Rattle.process_model.specs.declared.reply.Refusal.TheVariants as refusal
 use Rattle.shared_frames.specs.SeatsOfTable.{view_of}
-use Rattle.hart_threads.proofs.Names.{no_start, some_name}
+use Rattle.run_roster.specs.Names.{no_start, some_name}
 use Rattle.hart_threads.specs.Due.{IsNone}
-use Rattle.hart_threads.specs.FilesOfRun.{EndsOver, GoesOver, HasEndedOver, ReplaysOver, RunsOver}
-use Rattle.hart_threads.proofs.Reaching.{one_over, runs_new}
+use Rattle.run_roster.specs.FilesOfRun.{EndsOver, GoesOver, HasEndedOver, ReplaysOver, runs_new, RunsOver}
+use Rattle.hart_threads.proofs.Reaching.{one_over}
 use Rattle.process_model.specs.Files.{File}
 use Rattle.std.proofs.Math.Logic.{∥∥₁_map}
-use Rattle.hart_threads.specs.Slots.{Unrefused}
+use Rattle.run_roster.specs.Slots.{Unrefused}
 use Rattle.std.proofs.lemmas.Bool.{and_parts}
-use Rattle.hart_threads.specs.RosterState.{all_go_on, AsEnded, EndsIn, GoOn, HasRun, IsEndedWithToken, IsBirth, IsOut, lets_go_on, BeginsAsImage}
+use Rattle.run_roster.specs.RosterState.{all_go_on, AsEnded, EndsIn, GoOn, HasRun, IsEndedWithToken, IsBirth, IsOut, lets_go_on, BeginsAsImage}
 
 -- a reply names a child, or none
 abbrev Names : Birth → Reply → Type 0

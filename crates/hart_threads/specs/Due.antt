@@ -1,13 +1,13 @@
 -- Predicates on a hart's step of a job (an unfinished process): before the call, it has no slot for a child (`IsNone`);
 -- after it, if the process has ended, the roster (list of processes) can take its end with its voucher (`IsDue`).
 use Rattle.hart_calls.specs.declared.run_brand.RunBrand.{Ghosts as RunBrand}
-use Rattle.hart_threads.specs.declared.plan.Plan.{Ghosts as Plan}
+use Rattle.run_roster.specs.declared.plan.Plan.{Ghosts as Plan}
 use Rattle.hart_calls.specs.declared.fork_slot.ForkSlot.{ForkSlot}
 use Rattle.hart_calls.specs.declared.fork_slot.ForkSlot.TheVariants as slot
-use Rattle.hart_threads.specs.RosterState.{IsEndedWithToken}
+use Rattle.run_roster.specs.RosterState.{IsEndedWithToken}
 use Rattle.vouchers.specs.IssuerSeats.{held_of}
-use Rattle.hart_threads.specs.declared.job.JobStep.{JobStep}
-use Rattle.hart_threads.specs.declared.job.JobStep.TheVariants as step
+use Rattle.hart_threads.specs.declared.job_step.JobStep.{JobStep}
+use Rattle.hart_threads.specs.declared.job_step.JobStep.TheVariants as step
 
 -- no slot is free for the call, for whichever reason
 abbrev pub IsNone : ForkSlot → Type 0

@@ -7,20 +7,18 @@ ghost use Rattle.hart_calls.specs.Track.{child_name};
 ghost use Rattle.hart_calls.specs.TurnResults.{HasTurned};
 ghost use Rattle.hart_calls.specs.TurnCases.{IsNamed};
 ghost use Rattle.hart_threads.specs.Due.{IsDue, IsNone};
-ghost use Rattle.hart_threads.specs.FilesOfRun.{HasGoneOver};
-ghost use Rattle.hart_threads.specs.RosterState.{IsEndedWithToken, IsOut};
+ghost use Rattle.run_roster.specs.FilesOfRun.{HasGoneOver};
+ghost use Rattle.run_roster.specs.RosterState.{IsEndedWithToken, IsOut};
 ghost use Rattle.vouchers.specs.Entries.{nameless};
 ghost use Rattle.vouchers.specs.IssuerSeats.{HoldsAt, held_of};
 
 use crate::gate::Gate;
-use crate::job::{EndedJob, Job, JobStep};
-use crate::plan::Plan;
-use crate::queue::{QueuePart, exchange, put, take};
-use crate::roster::{Admission, Roster};
+use crate::job_step::{EndedJob, JobStep, access_at_once, access_served};
+use crate::queue::{exchange, take};
 use crate::run_shelf::{RunFiles, RunShelf};
-use crate::start_outcomes::StartOutcomes;
 use hart_calls::{ChildRoom, ForkSlot, Tracked, Turn};
 use process_model::MOST_HARTS;
+use run_roster::{Admission, Job, Plan, QueuePart, Roster, StartOutcomes, put};
 use shared_frames::{SharedFrames, SharedSupply};
 use std::alloc::AllocError;
 use std::marker::PhantomData;
@@ -249,7 +247,7 @@ impl<'r, 'a, B: Plan, F: StartOutcomes, W: RunFiles, R: Wait, G: Gate> HartThrea
             'calls: for _ in 0..quantum {
                 let call = current.tracked.next();
                 self.gate.enter(self.number, current.tracked.name(), call);
-                if current.access_at_once(store) || current.access_served(store) {
+                if access_at_once(&mut current, store) || access_served(&mut current, store) {
                     self.gate.leave(self.number, current.tracked.name(), call);
                     continue;
                 }

@@ -1,18 +1,11 @@
-// The run queue: `QueuePart`, a queue of jobs (unfinished processes) under a lock, one for each hart; `parts_for` allocates them,
-// `take` pops a job from the hart's own part or else from another, `put` appends one to a part that has room, `exchange` puts
-// one back into the hart's own part and takes the next. No contract names what is in a part, since other harts change it as
-// soon as its lock is released: that no job is lost or doubled follows from the types, as a `Job` is neither `Drop` nor `Copy`.
+// What harts do with the run queue, whose parts are queues of jobs (unfinished processes) under locks, one for each hart:
+// `parts_for` allocates them, `take` pops a job from the hart's own part or else from another, `exchange` puts one back into
+// the hart's own part and takes the next. As of `put`, no contract names what is in a part.
 
-use crate::job::Job;
-use crate::job_queue::JobQueue;
-use crate::plan::Plan;
 use crossbeam_utils::CachePadded;
+use run_roster::{Job, JobQueue, Plan, QueuePart, put};
 use std::alloc::{AllocError, Global};
 use std::sync::{Mutex, Wait};
-
-/// One part of the run queue, under its lock. No other part is on its cache lines, so a hart that locks its own part does
-/// not slow down the others.
-pub(crate) type QueuePart<'a, B> = Mutex<CachePadded<JobQueue<'a, B>>>;
 
 /// Makes a part for each hart, at least one, each with room for `slots` jobs.
 ///
@@ -46,30 +39,6 @@ pub(crate) fn take<'a, B: Plan, R: Wait>(
         }
     }
     None
-}
-
-/// Puts a job into part `hart`, or the next one that has room; it tries until one has. Each part has room for as many jobs
-/// as there are slots.
-pub(crate) fn put<'a, B: Plan, R: Wait>(
-    rt: &R,
-    parts: &[QueuePart<'a, B>],
-    hart: usize,
-    job: Job<'a, B>,
-) {
-    let mut left = job;
-    let mut place = hart;
-    'tries: for _ in rt.forever() {
-        if parts.len() == 0 {
-            continue;
-        }
-        place %= parts.len();
-        match parts[place].lock(rt).push(left) {
-            Ok(()) => return,
-            Err(job) => left = job,
-        }
-        place += 1;
-    }
-    unreachable!()
 }
 
 /// Puts a job back into the hart's own part, behind its other jobs, and takes the first of these, under one lock. Returns the

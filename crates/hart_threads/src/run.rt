@@ -5,29 +5,25 @@
 ghost use Rattle.std.specs.Prelude.{◌≡◌, ◌+◌, ◌<◌, ◌≤◌, [], All, length, true, vec_len, vec_capacity, IfErr, IfOk};
 ghost use Rattle.frame_store.specs.View.{IsHeld};
 ghost use Rattle.hart_calls.specs.Track.{NameLists};
-ghost use Rattle.hart_threads.specs.StartEffects.{any_full, AreStartResults, slots_of};
-ghost use Rattle.hart_threads.specs.RosterState.{ComesBack};
-ghost use Rattle.hart_threads.specs.Settled.{MatchesSlots};
-ghost use Rattle.hart_threads.specs.Slots.{AreSlotted, HasReadFull, OnFull};
-ghost use Rattle.hart_threads.specs.StartFrames.{AreFramed, ArePoolStarts};
-ghost use Rattle.hart_threads.specs.Starts.{Lends};
+ghost use Rattle.run_roster.specs.StartEffects.{any_full, AreStartResults, slots_of};
+ghost use Rattle.run_roster.specs.RosterState.{ComesBack};
+ghost use Rattle.run_roster.specs.Settled.{MatchesSlots};
+ghost use Rattle.run_roster.specs.Slots.{AreSlotted, HasReadFull, OnFull};
+ghost use Rattle.run_roster.specs.StartFrames.{AreFramed, ArePoolStarts};
+ghost use Rattle.run_roster.specs.Starts.{Lends};
 ghost use Rattle.shared_frames.specs.SeatsOfTable.{FitsIn, view_of};
 ghost use Rattle.vouchers.specs.IssuerSeats.{KeepsAt, given_of};
 ghost use denote.Param.Send.{IsSend, IsSync};
 
-use crate::enlist::Enlister;
 use crate::gate::Gate;
 use crate::hart::HartThread;
-use crate::name_buffer::name_rooms;
-use crate::plan::Plan;
-use crate::queue::{QueuePart, parts_for};
-use crate::roster::Roster;
+use crate::queue::parts_for;
 use crate::run_shelf::{RunFiles, RunShelf};
-use crate::start::StartContext;
-use crate::start_outcomes::StartOutcomes;
-use crate::start_result::StartResult;
 use hart_calls::Finished;
 use process_model::{Call, Sequence, Start};
+use run_roster::{
+    Enlister, Plan, QueuePart, Roster, StartContext, StartOutcomes, StartResult, name_rooms,
+};
 use shared_frames::{SharedFrames, SharedSeat};
 use std::alloc::{AllocError, Global};
 use std::collections::VecDeque;

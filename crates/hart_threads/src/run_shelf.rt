@@ -5,7 +5,7 @@ ghost use Rattle.std.specs.Prelude.{◌≡◌};
 ghost use Rattle.hart_calls.specs.Track.{child_name};
 ghost use Rattle.hart_calls.specs.TurnCases.{IsNamed};
 ghost use Rattle.hart_calls.specs.TurnResults.{HasTurned};
-ghost use Rattle.hart_threads.specs.FilesOfRun.{HasGoneOver};
+ghost use Rattle.run_roster.specs.FilesOfRun.{HasGoneOver};
 
 use file_shelf::Shelf;
 use hart_calls::{ForkSlot, RunBrand, Tracked, Turn};
@@ -23,7 +23,7 @@ pub trait RunFiles {
 }
 
 impl RunFiles for Brand {
-    ghost use Rattle.hart_threads.specs.Plans.{no_files};
+    ghost use Rattle.run_roster.specs.Plans.{no_files};
 
     ghost files = { no_files };
 }

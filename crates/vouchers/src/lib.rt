@@ -1,5 +1,5 @@
 //! Vouchers: tokens that cannot be copied (`Token`), each for one entry on the list of an issuer (`TokenIssuer`), issued
-//! and redeemed at a table (`TokenTable`). `hart_threads` gives one to each unfinished process, so that none gets lost.
+//! and redeemed at a table (`TokenTable`). `run_roster` gives one to each unfinished process, so that none gets lost.
 //! The issuer may be kept under a lock; its list has the entry of each token that is issued and not yet redeemed. A token
 //! may be sent to any thread.
 //!

@@ -1,6 +1,6 @@
 use Rattle.std.proofs.Common.{List, arith, refl, subst}
 use Rattle.audit_player.proofs.ClosedPools.{pool_closed, pool_starts}
-use Rattle.hart_threads.specs.RosterState.{ComesBack}
+use Rattle.run_roster.specs.RosterState.{ComesBack}
 use Rattle.process_model.specs.Files.{File}
 use Rattle.audit_player.proofs.threads.run_files.Goals as goal
 

@@ -1,10 +1,10 @@
 -- What the search left open of `run_in`.
 use Rattle.std.proofs.Common.{◌≡◌, ◌∙◌, All, false, List, subst, sym, true}
 use Rattle.atomic_table.specs.Seated.{TableId}
-use Rattle.hart_threads.proofs.Slotting.{all_full, all_pooled, all_slotted}
-use Rattle.hart_threads.specs.StartEffects.{any_full, AreStartResults, slots_of}
-use Rattle.hart_threads.specs.Settled.{MatchesSlots}
-use Rattle.hart_threads.specs.Slots.{HasReadFull}
+use Rattle.hart_threads.proofs.Settling.{all_full, all_pooled, all_slotted}
+use Rattle.run_roster.specs.StartEffects.{any_full, AreStartResults, slots_of}
+use Rattle.run_roster.specs.Settled.{MatchesSlots}
+use Rattle.run_roster.specs.Slots.{HasReadFull}
 use Rattle.process_model.specs.declared.call.Start.{Start}
 use Rattle.shared_frames.specs.SeatsOfTable.{view_of}
 use Rattle.hart_threads.proofs.run.run_in.Goals as goal

@@ -1,5 +1,5 @@
 -- What `run_in` picks: the `StartOutcomes` of its starts, by what they have made.
-use Rattle.hart_threads.specs.StartEffects.{any_full, slots_of}
+use Rattle.run_roster.specs.StartEffects.{any_full, slots_of}
 use Rattle.hart_threads.proofs.run.run_in.Given as goal
 
 abbrev pub ghosts-run_made : goal.ghosts-run_made

@@ -1,7 +1,7 @@
 -- What the search left open of `call`.
 use Rattle.std.proofs.Common.{List, subst}
 use Rattle.hart_threads.proofs.Reaching.{free_turn}
-use Rattle.hart_threads.specs.FilesOfRun.{HasGoneOver}
+use Rattle.run_roster.specs.FilesOfRun.{HasGoneOver}
 use Rattle.process_model.specs.Files.{File}
 use Rattle.hart_threads.proofs.hart.HartThread.call.Goals as goal
 

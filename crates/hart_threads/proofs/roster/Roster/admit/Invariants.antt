@@ -1,6 +1,0 @@
--- What `admit` picks: the voucher of no name.
-use Rattle.vouchers.specs.Entries.{nameless}
-use Rattle.hart_threads.proofs.roster.Roster.admit.Given as goal
-
-abbrev pub ghosts-issue : goal.ghosts-issue
-ghosts-issue g a = record { entry = nameless }
