@@ -12,6 +12,8 @@ mod bounded_waits;
 #[cfg(test)]
 mod broken_streams;
 #[cfg(test)]
+mod command_lines;
+#[cfg(test)]
 mod gates;
 #[cfg(test)]
 mod handout_grades;

@@ -3,11 +3,6 @@
 //! fault on standard error and by its exit status. `--version` prints the version.
 #![tactic(auto)]
 
-mod command_line;
-mod fault;
-
-use crate::command_line::{CommandLine, Task};
-use crate::fault::Fault;
 use audit_player::{PlayError, Reader, Writer, play, play_threads};
 use std::alloc::Global;
 use std::io::{Read, Write};
@@ -16,6 +11,7 @@ use std::sync::Wait;
 use std::thread::Threads;
 use std::{fs, io};
 use version::VERSION;
+use xv6vm_words::{CommandLine, Fault, Task};
 
 /// Does the task with the bytes of a reader, and writes the answers. Input is read in blocks; answers are written in pieces
 /// of 64 KiB or more, the last of any length.
@@ -78,9 +74,6 @@ fn run<T: Threads + Wait + Sync>(rt: &HostRuntime, threads: &T) -> Result<(), Fa
         }
     }
 }
-
-#[cfg(test)]
-mod tests;
 
 fn main(rt: HostRuntime) -> ExitCode {
     match run(&rt, &rt) {

@@ -15,7 +15,7 @@ pub enum Fault {
 
 impl Fault {
     ghost use Rattle.std.specs.Prelude.{◌≡◌};
-    ghost use Rattle.xv6vm.specs.Status.{status_of};
+    ghost use Rattle.xv6vm_words.specs.Status.{status_of};
 
     /// Returns the exit status of the program: 2 for `Usage`, 1 for `Play`.
     pub fn status(&self) -> u8
