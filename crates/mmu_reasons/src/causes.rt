@@ -21,7 +21,7 @@ pub(crate) fn access_text(access: Access) -> &'static str {
 
 impl Telling<'_> {
     /// Whether the access may be refused at a physical address, by PMP as it is or was.
-    fn may_fail(&self, pa: u64) -> bool {
+    pub(crate) fn may_fail(&self, pa: u64) -> bool {
         let unit = &self.recorded.unit;
         let (kind, width) = (self.request.kind, self.request.width);
         !self.has_byte(pa) || unit.may_fail(unit.now(), self.privilege(), kind, pa, width)

@@ -286,6 +286,15 @@ impl Telling<'_> {
         }
     }
 
+    /// Appends that an access fault, which was told, is not the page fault that a client tells.
+    fn put_no_page_fault(&self, out: &mut Text) {
+        let (page, fault) = (
+            self.request.kind.page_fault_cause(),
+            self.request.kind.access_fault_cause(),
+        );
+        write!(out, ": that is access fault {fault}, not page fault {page}")
+    }
+
     /// Appends at which PTE the walk ends. `pa`: where a client tells that the access is granted, if it tells so.
     fn put_stop(&self, out: &mut Text, step: &Step, pa: Option<u64>) {
         if let (None, Some(why)) = (pa, self.wrong_in(step)) {
@@ -299,17 +308,33 @@ impl Telling<'_> {
             return;
         }
         if self.extensions.kind(step.entry, level) == Kind::Leaf {
-            return self.put_leads(out, step, pa);
+            return self.put_leaf(out, step, pa);
         }
         out.push_str("the walk ends at ");
         put_pte(out, self.extensions, step)
+    }
+
+    /// Appends where a leaf that is no page fault leads, or why the access is refused there. `pa`: where a client tells that it is granted, if
+    /// it tells so.
+    fn put_leaf(&self, out: &mut Text, step: &Step, pa: Option<u64>) {
+        let there = leads_to(step.entry, step.level.min(4), self.request.va);
+        if pa.is_none() && self.may_fail(there) {
+            self.put_fault_at(out, there);
+            return self.put_no_page_fault(out);
+        }
+        self.put_leads(out, step, pa)
     }
 
     /// Appends at what the walk ends. `pa`: where a client tells that the access is granted, if it tells so.
     fn put_end(&self, out: &mut Text, way: &Way, pa: Option<u64>) {
         match stop_of(self.extensions, way) {
             Some(Stop::At(step)) => self.put_stop(out, &step, pa),
-            Some(Stop::Unread { level, table }) => self.put_fault_below(out, level, table),
+            Some(Stop::Unread { level, table }) => {
+                self.put_fault_below(out, level, table);
+                if pa.is_none() {
+                    self.put_no_page_fault(out)
+                }
+            }
             None => {}
         }
     }

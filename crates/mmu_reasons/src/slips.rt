@@ -37,7 +37,7 @@ impl Telling<'_> {
             && claim.is_by(Some(step.entry.to_word()))
     }
 
-    /// The walk without a check, if by it a client may mean that the access is granted at a physical address.
+    /// The walk by a satp without a check, if by it a client may mean that the access is granted at a physical address.
     fn slipped(&self, satp: Satp, slip: Slip, claim: Claim, pa: u64) -> Option<Way> {
         let way = walk_without(self.recorded, self.extensions, self.request.va, satp, slip)?;
         if self.grants_at(&way, claim, pa) {
@@ -86,7 +86,7 @@ impl Telling<'_> {
         let satp = self.recorded.unit.satp();
         for (mode, name) in MODES.as_slice() {
             let other = Satp::from_word((mode << 60) + satp.to_word() % (1 << 60));
-            if self.slipped(other, Slip::Mode, claim, pa).is_some() {
+            if self.slipped(other, Slip::None, claim, pa).is_some() {
                 let present = mode_name(satp);
                 write!(
                     out,

@@ -21,8 +21,6 @@ pub(crate) enum Slip {
     Pmp,
     /// Which bits a pointer must not have.
     Pointer,
-    /// The MODE of satp.
-    Mode,
 }
 
 /// Reads the PTE for an address in a table, to which a global pointer led or not; `None`: it is outside the memory, or PMP refuses.
