@@ -155,7 +155,7 @@ LISTS = [
     ("docs/ARCHITECTURE.md", lambda sources: {it for it in sources.crates if not it.startswith("tests_of_")}),
     ("README.md", lambda sources: {it for it in sources.crates if not it.startswith("tests_of_")} - {"row_player", "walk_bench"}),
     ("docs/C_LIBRARY.md", lambda sources: set(re.findall(r"^(?!static|typedef)\w[\w ]* \**(xv6vm_\w+)\(", sources.text(HEADER), re.M))),
-    ("docs/SCRIPTS.md", lambda sources: set(re.findall(r'make_row\(b"(\w+)"', sources.text(TABLE)))),
+    ("docs/SCRIPTS.md", lambda sources: set(re.findall(r'row!\(\s*b"(\w+)"', sources.text(TABLE)))),
     ("docs/XV6.md", lambda sources: {it.name for it in sources.root.glob("examples/*.*")} - {"refused.script", "sv48.script"}),
     ("docs/labs/README.md", lambda sources: {it.name for it in sources.root.glob("labs/*.script")}),
 ]

@@ -6,6 +6,7 @@ pub mod Ends
 pub mod Faults
 pub mod FieldKinds
 pub mod FieldValues
+pub mod FirstBytes
 pub mod PrefixNumbers
 pub mod Kept
 pub mod OpenList

@@ -1,4 +1,4 @@
--- `owns_none`: a word of scripts whose item takes over no values, told from the four whose item does.
+-- `owns_none`: a word whose item takes over no values, told from the four whose item does.
 use Rattle.std.proofs.Common.{◌≡◌, false, refl}
 use Rattle.script_language.specs.declared.script.Keyword.{Keyword}
 use Rattle.script_language.specs.declared.script.Keyword.TheVariants as word

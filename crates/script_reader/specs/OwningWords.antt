@@ -1,4 +1,5 @@
--- `owns_values`: the words of scripts whose item takes over the values after the word, as bytes or segments.
+-- `owns_values`: the words whose item takes over the values after the word, as bytes or segments; in scripts and in files for
+-- threads alike.
 use Rattle.std.specs.Prelude.{Bool, true, false}
 use Rattle.script_language.specs.declared.script.Keyword.{Keyword}
 use Rattle.script_language.specs.declared.script.Keyword.TheVariants as word

@@ -1,6 +1,5 @@
-// Makers of the items of script lines that are a kernel call (`fork`, `sbrk`, `mmap`, `munmap`, `copyin`, `copyout`, `exit`) or
-// `serve`, the service of a fault, from the fields of the line; of `copyout`, from their values. The kernel call `exec` is in
-// `compound_commands`.
+// Makers of the items of the script lines `copyin` and `exit`, from the fields of the line, and `copyout`, from their values:
+// kernel calls with limits. The others are made in `items` and `fast_lines`, `exec` in `named`.
 
 ghost use Rattle.std.specs.Prelude.{◌≡◌, nat_le};
 ghost use Rattle.process_model.specs.declared.step.Step.TheVariants as step;
@@ -12,51 +11,6 @@ use crate::in_limits::{in_limits, one};
 use process_model::{LONGEST_COPY, Step};
 use script_language::{Cause, Command, FieldValue, Item, Keyword};
 use std::alloc::Global;
-
-/// Makes the item of `serve HART`, the service of a fault.
-pub fn serve(hart: usize) -> Item
-    ensures { result ≡ words.one (step.Serve hart) }
-{
-    one(Step::Serve { hart })
-}
-
-/// Makes the item of `fork HART`.
-pub fn fork(hart: usize) -> Item
-    ensures { result ≡ words.one (step.Fork hart) }
-{
-    one(Step::Fork { hart })
-}
-
-/// Makes the item of `sbrk HART DELTA`, with a signed number of bytes.
-pub fn sbrk(hart: usize, delta: i64) -> Item
-    ensures { result ≡ words.one (step.Sbrk hart delta) }
-{
-    one(Step::Sbrk { hart, delta })
-}
-
-/// Makes the item of `mmap HART LEN PROT FLAGS FILE`. The step checks the arguments.
-pub fn mmap(hart: usize, length: u64, protection: u64, flags: u64, file: usize) -> Item
-    ensures { result ≡ words.one (step.Mmap hart length protection flags file) }
-{
-    one(Step::Mmap {
-        hart,
-        length,
-        protection,
-        flags,
-        file,
-    })
-}
-
-/// Makes the item of `munmap HART ADDRESS LEN`.
-pub fn munmap(hart: usize, address: u64, length: u64) -> Item
-    ensures { result ≡ words.one (step.Munmap hart address length) }
-{
-    one(Step::Munmap {
-        hart,
-        address,
-        length,
-    })
-}
 
 /// Makes the item of `copyin HART ADDRESS COUNT`.
 ///

@@ -99,25 +99,8 @@ impl Model for Commands {
     ghost invariant = { λ c. All (model.IsWithin (length c.whole.items)) c.packed.items };
 }
 
-/// The number in two bytes, if it fits.
-fn small(number: usize) -> Option<u16>
-    ensures { IfSome result (λ it. it ≡ number) }
-{
-    if number > 0xffff {
-        return None;
-    }
-    Some(number as u16)
-}
-
-/// A width in one byte, if it fits.
-fn small_width(width: u64) -> Option<u8>
-    ensures { IfSome result (λ it. it ≡ width) }
-{
-    if width > 0xff {
-        return None;
-    }
-    Some(width as u8)
-}
+/// The greatest number that fits two bytes.
+const MOST_SMALL: usize = 0xffff;
 
 /// A slot or an entry, or none, in two bytes, if it fits.
 fn small_or_none(number: Option<usize>) -> Option<Option<u16>>
@@ -125,7 +108,8 @@ fn small_or_none(number: Option<usize>) -> Option<Option<u16>>
 {
     match number {
         None => Some(None),
-        Some(number) => Some(Some(small(number)?)),
+        Some(number) if number <= MOST_SMALL => Some(Some(number as u16)),
+        Some(_) => None,
     }
 }
 
@@ -143,7 +127,13 @@ fn wide_or_none(number: Option<u16>) -> Option<usize>
 fn small_both(hart: usize, number: Option<usize>) -> Option<(u16, Option<u16>)>
     ensures { IfSome result (λ it. (it.0 ≡ hart) × (it.1 ≡ number)) }
 {
-    Some((small(hart)?, small_or_none(number)?))
+    if hart > MOST_SMALL {
+        return None;
+    }
+    let Some(number) = small_or_none(number) else {
+        return None;
+    };
+    Some((hart as u16, number))
 }
 
 /// Packs an access to memory, if its numbers fit.
@@ -153,7 +143,9 @@ fn pack_access(step: &Step<'static>) -> Option<PackedCommand>
 {
     match *step {
         Step::Fetch { hart, address, via } => {
-            let (hart, via) = small_both(hart, via)?;
+            let Some((hart, via)) = small_both(hart, via) else {
+                return None;
+            };
             Some(PackedCommand::Fetch { hart, via, address })
         }
         Step::Load {
@@ -161,10 +153,12 @@ fn pack_access(step: &Step<'static>) -> Option<PackedCommand>
             address,
             width,
             via,
-        } => {
-            let (hart, via) = small_both(hart, via)?;
+        } if width <= 0xff => {
+            let Some((hart, via)) = small_both(hart, via) else {
+                return None;
+            };
             Some(PackedCommand::Load {
-                width: small_width(width)?,
+                width: width as u8,
                 hart,
                 via,
                 address,
@@ -176,10 +170,12 @@ fn pack_access(step: &Step<'static>) -> Option<PackedCommand>
             width,
             value,
             via,
-        } => {
-            let (hart, via) = small_both(hart, via)?;
+        } if width <= 0xff => {
+            let Some((hart, via)) = small_both(hart, via) else {
+                return None;
+            };
             Some(PackedCommand::Store {
-                width: small_width(width)?,
+                width: width as u8,
                 hart,
                 via,
                 address,
@@ -197,20 +193,22 @@ fn pack_step(step: &Step<'static>) -> Option<PackedCommand>
 {
     match *step {
         Step::Switch { hart, slot } => {
-            let (hart, slot) = small_both(hart, slot)?;
+            let Some((hart, slot)) = small_both(hart, slot) else {
+                return None;
+            };
             Some(PackedCommand::Switch { hart, slot })
         }
-        Step::Fill { hart, address } => Some(PackedCommand::Fill {
-            hart: small(hart)?,
+        Step::Fill { hart, address } if hart <= MOST_SMALL => Some(PackedCommand::Fill {
+            hart: hart as u16,
             address,
         }),
         Step::CopyIn {
             hart,
             address,
             count,
-        } => Some(PackedCommand::CopyIn {
-            hart: small(hart)?,
-            count: small(count)?,
+        } if hart <= MOST_SMALL && count <= MOST_SMALL => Some(PackedCommand::CopyIn {
+            hart: hart as u16,
+            count: count as u16,
             address,
         }),
         _ => pack_access(step),
@@ -225,23 +223,27 @@ fn pack(line: &Command) -> Option<PackedCommand>
     if let Command::One(step) = line {
         return pack_step(step);
     }
-    match line {
-        Command::Exec { hart, image } => Some(PackedCommand::Exec {
-            hart: small(*hart)?,
-            image: small(*image)?,
+    match *line {
+        Command::Exec { hart, image } if hart <= MOST_SMALL && image <= MOST_SMALL => {
+            Some(PackedCommand::Exec {
+                hart: hart as u16,
+                image: image as u16,
+            })
+        }
+        Command::On { hart, slot } if hart <= MOST_SMALL && slot <= MOST_SMALL => {
+            Some(PackedCommand::On {
+                hart: hart as u16,
+                slot: slot as u16,
+            })
+        }
+        Command::Enter { hart } if hart <= MOST_SMALL => Some(PackedCommand::Enter {
+            hart: hart as u16,
         }),
-        Command::On { hart, slot } => Some(PackedCommand::On {
-            hart: small(*hart)?,
-            slot: small(*slot)?,
+        Command::Leave { hart } if hart <= MOST_SMALL => Some(PackedCommand::Leave {
+            hart: hart as u16,
         }),
-        Command::Enter { hart } => Some(PackedCommand::Enter {
-            hart: small(*hart)?,
-        }),
-        Command::Leave { hart } => Some(PackedCommand::Leave {
-            hart: small(*hart)?,
-        }),
-        Command::Fix { hart } => Some(PackedCommand::Fix {
-            hart: small(*hart)?,
+        Command::Fix { hart } if hart <= MOST_SMALL => Some(PackedCommand::Fix {
+            hart: hart as u16,
         }),
         _ => None,
     }

@@ -6,6 +6,7 @@ ghost use Rattle.script_language.specs.declared.script.Item.TheVariants as item;
 ghost use Rattle.script_language.specs.Script as words;
 
 use crate::commands::Commands;
+use crate::push::push;
 use process_model::{Config, FileText, MOST_FILES};
 use script_language::{Command, Item, Keyword, MOST_COMMANDS, MOST_IMAGES, OwnedImage};
 use std::alloc::{AllocError, Global};
@@ -107,12 +108,14 @@ impl Draft {
         ensures kept { OnErr result (self.new ≡ self.old) }
     {
         match item {
-            Item::File(file) => self.files.push(file)?,
-            Item::Image(image) => self.images.push(image)?,
-            Item::Boot(config) => self.config = Some(config),
-            Item::Command(command) => self.commands.push(command)?,
+            Item::File(file) => push(&mut self.files, file),
+            Item::Image(image) => push(&mut self.images, image),
+            Item::Boot(config) => {
+                self.config = Some(config);
+                Ok(())
+            }
+            Item::Command(command) => self.commands.push(command),
         }
-        Ok(())
     }
 
     /// Whether `boot` was read, and the script may have one more line after it.
@@ -131,8 +134,7 @@ impl Draft {
         ensures added { OnOk result (self.new ≡ words.with_item self.old (item.Command command)) }
         ensures kept { OnErr result (self.new ≡ self.old) }
     {
-        self.commands.push(command)?;
-        Ok(())
+        self.commands.push(command)
     }
 
     /// Returns the files, the images, the configuration (`None` if no line was a `boot`) and the commands.

@@ -9,16 +9,15 @@ ghost use Rattle.script_reader.specs.FastPath.{SaysItem};
 ghost use Rattle.script_reader.specs.FastWords.{letters};
 
 use crate::accesses::{load, store};
-use crate::calls::{copy_in, exit, fork, mmap, munmap};
-use crate::compound_commands::{enter, fix, leave, on};
+use crate::calls::{copy_in, exit};
 use crate::draft::Draft;
 use crate::fast_path::{
     FastWord, five_numbers, four_via, number_slot, one_number, three_numbers, three_via,
     two_numbers, two_via, word_prefix,
 };
 use crate::number_prefixes::is_end;
-use crate::steps::{fetch, fill, next, switch, trap};
-use script_language::{Cause, Item, LONGEST_LINE};
+use process_model::Step;
+use script_language::{Cause, Command, Item, LONGEST_LINE};
 use std::alloc::AllocError;
 
 /// Adds the command that was made of a line. `None`: the line has a fault, and the draft is unchanged. Inlined, since the
@@ -71,14 +70,17 @@ fn exit_item(fields: &[u8]) -> Option<Result<Item, Cause>>
 fn hart_item(word: FastWord, fields: &[u8]) -> Option<Result<Item, Cause>>
     ensures { IfSome result (λ made. SaysItem (letters word) fields.now made) }
 {
-    let hart = one_number(fields)?;
+    let Some(hart) = one_number(fields) else {
+        return None;
+    };
+    let hart = hart as usize;
     match word {
-        FastWord::Fix => Some(Ok(fix(hart as usize))),
-        FastWord::Enter => Some(Ok(enter(hart as usize))),
-        FastWord::Leave => Some(Ok(leave(hart as usize))),
-        FastWord::Next => Some(Ok(next(hart as usize))),
-        FastWord::Trap => Some(Ok(trap(hart as usize))),
-        FastWord::Fork => Some(Ok(fork(hart as usize))),
+        FastWord::Fix => Some(Ok(Item::Command(Command::Fix { hart }))),
+        FastWord::Enter => Some(Ok(Item::Command(Command::Enter { hart }))),
+        FastWord::Leave => Some(Ok(Item::Command(Command::Leave { hart }))),
+        FastWord::Next => Some(Ok(Item::Command(Command::One(Step::Next { hart })))),
+        FastWord::Trap => Some(Ok(Item::Command(Command::One(Step::Trap { hart })))),
+        FastWord::Fork => Some(Ok(Item::Command(Command::One(Step::Fork { hart })))),
         _ => None,
     }
 }
@@ -91,11 +93,17 @@ fn numbers_item(word: FastWord, fields: &[u8]) -> Option<Result<Item, Cause>>
     match word {
         FastWord::On => {
             let (hart, slot) = two_numbers(fields)?;
-            Some(Ok(on(hart as usize, slot as usize)))
+            Some(Ok(Item::Command(Command::On {
+                hart: hart as usize,
+                slot: slot as usize,
+            })))
         }
         FastWord::Fill => {
             let (hart, address) = two_numbers(fields)?;
-            Some(Ok(fill(hart as usize, address)))
+            Some(Ok(Item::Command(Command::One(Step::Fill {
+                hart: hart as usize,
+                address,
+            }))))
         }
         FastWord::CopyIn => {
             let (hart, address, count) = three_numbers(fields)?;
@@ -103,11 +111,21 @@ fn numbers_item(word: FastWord, fields: &[u8]) -> Option<Result<Item, Cause>>
         }
         FastWord::Mmap => {
             let (hart, length, protection, flags, file) = five_numbers(fields)?;
-            Some(Ok(mmap(hart as usize, length, protection, flags, file as usize)))
+            Some(Ok(Item::Command(Command::One(Step::Mmap {
+                hart: hart as usize,
+                length,
+                protection,
+                flags,
+                file: file as usize,
+            }))))
         }
         FastWord::Munmap => {
             let (hart, address, length) = three_numbers(fields)?;
-            Some(Ok(munmap(hart as usize, address, length)))
+            Some(Ok(Item::Command(Command::One(Step::Munmap {
+                hart: hart as usize,
+                address,
+                length,
+            }))))
         }
         _ => None,
     }
@@ -122,11 +140,18 @@ fn fast_item(word: FastWord, fields: &[u8]) -> Option<Result<Item, Cause>>
         FastWord::Load | FastWord::Store => None,
         FastWord::Switch => {
             let (hart, slot) = number_slot(fields)?;
-            Some(Ok(switch(hart as usize, slot)))
+            Some(Ok(Item::Command(Command::One(Step::Switch {
+                hart: hart as usize,
+                slot,
+            }))))
         }
         FastWord::Fetch => {
             let (hart, address, via) = two_via(fields)?;
-            Some(Ok(fetch(hart as usize, address, via)))
+            Some(Ok(Item::Command(Command::One(Step::Fetch {
+                hart: hart as usize,
+                address,
+                via,
+            }))))
         }
         FastWord::Exit => exit_item(fields),
         FastWord::On | FastWord::Fill | FastWord::CopyIn | FastWord::Mmap | FastWord::Munmap =>

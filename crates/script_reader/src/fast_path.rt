@@ -43,11 +43,10 @@ fn last_entry(line: &[u8]) -> Option<Option<usize>>
 pub fn one_number(line: &[u8]) -> Option<u64>
     ensures { IfSome result (λ n. Reads line.now one_number (value.Number n ∷ [])) }
 {
-    let (a, line) = next_number(line)?;
-    if !is_over(line) {
+    let Some((a, line)) = next_number(line) else {
         return None;
-    }
-    Some(a)
+    };
+    if is_over(line) { Some(a) } else { None }
 }
 
 /// Parses one number, perhaps an address, after which no field is left.
@@ -55,11 +54,10 @@ pub fn one_number(line: &[u8]) -> Option<u64>
 pub fn one_address(line: &[u8]) -> Option<u64>
     ensures { IfSome result (λ n. Reads line.now one_number (value.Number n ∷ [])) }
 {
-    let (a, line) = next_address(line)?;
-    if !is_over(line) {
+    let Some((a, line)) = next_address(line) else {
         return None;
-    }
-    Some(a)
+    };
+    if is_over(line) { Some(a) } else { None }
 }
 
 /// Parses two numbers, after which no field is left.
@@ -67,11 +65,12 @@ pub fn one_address(line: &[u8]) -> Option<u64>
 pub fn two_numbers(line: &[u8]) -> Option<(u64, u64)>
     ensures { IfSome result (λ n. Reads line.now two_numbers (value.Number n.0 ∷ value.Number n.1 ∷ [])) }
 {
-    let (a, line) = next_address(line)?;
-    let (b, line) = next_address(line)?;
-    if !is_over(line) {
+    let Some((a, line)) = next_address(line) else {
         return None;
-    }
+    };
+    let Some(b) = one_address(line) else {
+        return None;
+    };
     Some((a, b))
 }
 
@@ -80,12 +79,12 @@ pub fn two_numbers(line: &[u8]) -> Option<(u64, u64)>
 pub fn three_numbers(line: &[u8]) -> Option<(u64, u64, u64)>
     ensures { IfSome result (λ n. Reads line.now three_numbers (value.Number n.0 ∷ value.Number n.1 ∷ value.Number n.2 ∷ [])) }
 {
-    let (a, line) = next_address(line)?;
-    let (b, line) = next_address(line)?;
-    let (c, line) = next_address(line)?;
-    if !is_over(line) {
+    let Some((a, line)) = next_address(line) else {
         return None;
-    }
+    };
+    let Some((b, c)) = two_numbers(line) else {
+        return None;
+    };
     Some((a, b, c))
 }
 
@@ -94,24 +93,46 @@ pub fn five_numbers(line: &[u8]) -> Option<(u64, u64, u64, u64, u64)>
     ensures { IfSome result (λ n. Reads line.now (kind.Number ∷ four_numbers) (value.Number n.0 ∷ value.Number n.1 ∷ value.Number n.2
         ∷ value.Number n.3 ∷ value.Number n.4 ∷ [])) }
 {
-    let (a, line) = next_number(line)?;
-    let (b, line) = next_address(line)?;
-    let (c, line) = next_number(line)?;
-    let (d, line) = next_number(line)?;
-    let (e, line) = next_number(line)?;
-    if !is_over(line) {
+    let Some((a, line)) = next_number(line) else {
         return None;
-    }
+    };
+    let Some((b, line)) = next_address(line) else {
+        return None;
+    };
+    let Some((c, d, e)) = three_numbers(line) else {
+        return None;
+    };
     Some((a, b, c, d, e))
 }
 
+/// Parses one number, and a buffer entry if one is left.
+#[inline(always)]
+fn one_via(line: &[u8]) -> Option<(u64, Option<usize>)>
+    ensures { IfSome result (λ n. ReadsVia line.now one_number (value.Number n.0 ∷ []) n.1) }
+{
+    let Some((a, line)) = next_number(line) else {
+        return None;
+    };
+    let Some(via) = last_entry(line) else {
+        return None;
+    };
+    Some((a, via))
+}
+
 /// Parses two numbers, and a buffer entry if one is left.
+#[inline(always)]
 pub fn two_via(line: &[u8]) -> Option<(u64, u64, Option<usize>)>
     ensures { IfSome result (λ n. ReadsVia line.now two_numbers (value.Number n.0 ∷ value.Number n.1 ∷ []) n.2) }
 {
-    let (a, line) = next_number(line)?;
-    let (b, line) = next_address(line)?;
-    let via = last_entry(line)?;
+    let Some((a, line)) = next_number(line) else {
+        return None;
+    };
+    let Some((b, line)) = next_address(line) else {
+        return None;
+    };
+    let Some(via) = last_entry(line) else {
+        return None;
+    };
     Some((a, b, via))
 }
 
@@ -120,10 +141,15 @@ pub fn two_via(line: &[u8]) -> Option<(u64, u64, Option<usize>)>
 pub fn three_via(line: &[u8]) -> Option<(u64, u64, u64, Option<usize>)>
     ensures { IfSome result (λ n. ReadsVia line.now three_numbers (value.Number n.0 ∷ value.Number n.1 ∷ value.Number n.2 ∷ []) n.3) }
 {
-    let (a, line) = next_number(line)?;
-    let (b, line) = next_address(line)?;
-    let (c, line) = next_number(line)?;
-    let via = last_entry(line)?;
+    let Some((a, line)) = next_number(line) else {
+        return None;
+    };
+    let Some((b, line)) = next_address(line) else {
+        return None;
+    };
+    let Some((c, via)) = one_via(line) else {
+        return None;
+    };
     Some((a, b, c, via))
 }
 
@@ -132,11 +158,15 @@ pub fn three_via(line: &[u8]) -> Option<(u64, u64, u64, Option<usize>)>
 pub fn four_via(line: &[u8]) -> Option<(u64, u64, u64, u64, Option<usize>)>
     ensures { IfSome result (λ n. ReadsVia line.now four_numbers (value.Number n.0 ∷ value.Number n.1 ∷ value.Number n.2 ∷ value.Number n.3 ∷ []) n.4) }
 {
-    let (a, line) = next_number(line)?;
-    let (b, line) = next_address(line)?;
-    let (c, line) = next_number(line)?;
-    let (d, line) = next_address(line)?;
-    let via = last_entry(line)?;
+    let Some((a, line)) = next_number(line) else {
+        return None;
+    };
+    let Some((b, line)) = next_address(line) else {
+        return None;
+    };
+    let Some((c, d, via)) = two_via(line) else {
+        return None;
+    };
     Some((a, b, c, d, via))
 }
 
@@ -144,8 +174,12 @@ pub fn four_via(line: &[u8]) -> Option<(u64, u64, u64, u64, Option<usize>)>
 pub fn number_slot(line: &[u8]) -> Option<(u64, Option<usize>)>
     ensures { IfSome result (λ n. Reads line.now (kind.Number ∷ kind.Slot ∷ []) (value.Number n.0 ∷ value.Optional n.1 ∷ [])) }
 {
-    let (a, line) = next_number(line)?;
-    let (slot, line) = next_slot(line)?;
+    let Some((a, line)) = next_number(line) else {
+        return None;
+    };
+    let Some((slot, line)) = next_slot(line) else {
+        return None;
+    };
     if !is_over(line) {
         return None;
     }

@@ -7,13 +7,14 @@ ghost use Rattle.script_reader.specs.OwningWords.{owns_values};
 ghost use Rattle.script_reader.specs.ReadResults.{GivesLine};
 
 use crate::accesses::{load, store};
-use crate::calls::{copy_in, copy_out, exit, fork, mmap, munmap, sbrk, serve};
-use crate::compound_commands::{enter, exec, fix, leave, on, show, start};
+use crate::calls::{copy_in, copy_out, exit};
 use crate::declarations::{boot, elf, file, image};
 use crate::draft::Draft;
 use crate::fault::LineFault;
 use crate::field_access::{index_at, number_at, optional_at, signed_at};
-use crate::steps::{evict, fetch, fill, next, switch, tramp, trap};
+use crate::in_limits::{of_line, one};
+use crate::named::{exec, show, start};
+use process_model::Step;
 use script_language::{Cause, Command, FieldValue, Item, Keyword};
 use std::alloc::Global;
 
@@ -25,49 +26,68 @@ use std::alloc::Global;
 fn number_item(draft: &Draft, word: Keyword, v: &[FieldValue]) -> Result<Item, Cause>
     ensures { owns_values word ≡ false → result ≡ words.item_of draft.now word v.now }
 {
+    let hart = index_at(v, 0);
+    let first = number_at(v, 1);
+    let second = number_at(v, 2);
     match word {
         Keyword::Boot => boot(v),
         Keyword::Start => start(draft, v),
-        Keyword::Switch => Ok(switch(index_at(v, 0), optional_at(v, 1))),
-        Keyword::Trap => Ok(trap(index_at(v, 0))),
-        Keyword::Next => Ok(next(index_at(v, 0))),
-        Keyword::Fill => Ok(fill(index_at(v, 0), number_at(v, 1))),
-        Keyword::Evict => Ok(evict(index_at(v, 0), index_at(v, 1))),
-        Keyword::Fetch => Ok(fetch(index_at(v, 0), number_at(v, 1), optional_at(v, 2))),
-        Keyword::Load => load(
-            index_at(v, 0),
-            number_at(v, 1),
-            number_at(v, 2),
-            optional_at(v, 3),
-        ),
-        Keyword::Store => store(
-            index_at(v, 0),
-            number_at(v, 1),
-            number_at(v, 2),
-            number_at(v, 3),
-            optional_at(v, 4),
-        ),
-        Keyword::Tramp => Ok(tramp(index_at(v, 0), number_at(v, 1), optional_at(v, 2))),
-        Keyword::Serve => Ok(serve(index_at(v, 0))),
-        Keyword::Fork => Ok(fork(index_at(v, 0))),
         Keyword::Exec => exec(draft, v),
-        Keyword::Sbrk => Ok(sbrk(index_at(v, 0), signed_at(v, 1))),
-        Keyword::Mmap => Ok(mmap(
-            index_at(v, 0),
-            number_at(v, 1),
-            number_at(v, 2),
-            number_at(v, 3),
-            index_at(v, 4),
-        )),
-        Keyword::Munmap => Ok(munmap(index_at(v, 0), number_at(v, 1), number_at(v, 2))),
-        Keyword::CopyIn => copy_in(index_at(v, 0), number_at(v, 1), index_at(v, 2)),
-        Keyword::Exit => exit(index_at(v, 0), signed_at(v, 1)),
         Keyword::Show => show(draft, v),
+        Keyword::Load => load(hart, first, second, optional_at(v, 3)),
+        Keyword::Store => store(hart, first, second, number_at(v, 3), optional_at(v, 4)),
+        Keyword::CopyIn => copy_in(hart, first, second as usize),
+        Keyword::Exit => exit(hart, signed_at(v, 1)),
+        Keyword::Switch => Ok(one(Step::Switch {
+            hart,
+            slot: optional_at(v, 1),
+        })),
+        Keyword::Trap => Ok(one(Step::Trap { hart })),
+        Keyword::Next => Ok(one(Step::Next { hart })),
+        Keyword::Fill => Ok(one(Step::Fill {
+            hart,
+            address: first,
+        })),
+        Keyword::Evict => Ok(one(Step::Evict {
+            hart,
+            entry: first as usize,
+        })),
+        Keyword::Fetch => Ok(one(Step::Fetch {
+            hart,
+            address: first,
+            via: optional_at(v, 2),
+        })),
+        Keyword::Tramp => Ok(one(Step::TrampolineFetch {
+            hart,
+            offset: first,
+            via: optional_at(v, 2),
+        })),
+        Keyword::Serve => Ok(one(Step::Serve { hart })),
+        Keyword::Fork => Ok(one(Step::Fork { hart })),
+        Keyword::Sbrk => Ok(one(Step::Sbrk {
+            hart,
+            delta: signed_at(v, 1),
+        })),
+        Keyword::Mmap => Ok(one(Step::Mmap {
+            hart,
+            length: first,
+            protection: second,
+            flags: number_at(v, 3),
+            file: index_at(v, 4),
+        })),
+        Keyword::Munmap => Ok(one(Step::Munmap {
+            hart,
+            address: first,
+            length: second,
+        })),
         Keyword::Audit => Ok(Item::Command(Command::Audit)),
-        Keyword::On => Ok(on(index_at(v, 0), index_at(v, 1))),
-        Keyword::Enter => Ok(enter(index_at(v, 0))),
-        Keyword::Leave => Ok(leave(index_at(v, 0))),
-        Keyword::Fix => Ok(fix(index_at(v, 0))),
+        Keyword::On => Ok(Item::Command(Command::On {
+            hart,
+            slot: first as usize,
+        })),
+        Keyword::Enter => Ok(Item::Command(Command::Enter { hart })),
+        Keyword::Leave => Ok(Item::Command(Command::Leave { hart })),
+        Keyword::Fix => Ok(Item::Command(Command::Fix { hart })),
         Keyword::File
         | Keyword::Image
         | Keyword::Elf
@@ -96,7 +116,7 @@ pub fn make_item(
         Keyword::File => Ok(Item::File(file(alloc, values)?)),
         Keyword::Image => Ok(Item::Image(image(alloc, values)?)),
         Keyword::Elf => Ok(Item::Image(elf(alloc, values))),
-        Keyword::CopyOut => Ok(copy_out(alloc, values)?),
-        _ => Ok(number_item(draft, word, values.as_slice())?),
+        Keyword::CopyOut => of_line(copy_out(alloc, values)),
+        _ => of_line(number_item(draft, word, values.as_slice())),
     }
 }

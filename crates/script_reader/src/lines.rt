@@ -75,7 +75,7 @@ pub fn first_field(line: &[u8]) -> Option<(&[u8], &[u8])>
 fn piece_len(field: &[u8]) -> usize
     ensures { result ≡ position_or_len words.is_colon field.now }
 {
-    field.iter().take_while(|byte| **byte != b':').count()
+    memchr(b':', field).unwrap_or(field.len())
 }
 
 /// Splits off the first piece of a field: returns it and what follows its colon, `None` after the last piece.

@@ -93,15 +93,15 @@ fn behind_zeros(text: &[u8]) -> &[u8]
     }
 }
 
-/// True only if each of four values is that of a hexadecimal digit.
-fn are_digits(a: u8, b: u8, c: u8, d: u8) -> bool
+/// Returns true only if each of four values is that of a hexadecimal digit.
+pub fn are_digits(a: u8, b: u8, c: u8, d: u8) -> bool
     ensures { result ≡ true → (a ≤ 15) × (b ≤ 15) × (c ≤ 15) × (d ≤ 15) }
 {
     a <= 15 && b <= 15 && c <= 15 && d <= 15
 }
 
-/// The first four bytes, and what follows them.
-fn first_four(text: &[u8]) -> Option<(u8, u8, u8, u8, &[u8])>
+/// Returns the first four bytes, and what follows them. `None`: there are fewer.
+pub fn first_four(text: &[u8]) -> Option<(u8, u8, u8, u8, &[u8])>
     ensures { IfSome result (λ found. text.now ≡ found.0 ∷ found.1 ∷ found.2 ∷ found.3 ∷ found.4.now) }
 {
     match text {

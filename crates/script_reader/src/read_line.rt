@@ -1,6 +1,6 @@
 // `add_line`: parses one script line: checks its length and its bytes, looks up its word, reads its fields, and adds its
-// item (what it declares or commands) to the draft of the lines before it. `read_word` (the checks, and the word), `is_ascii`
-// and `test` serve files for threads too.
+// item (what it declares or commands) to the draft of the lines before it. `read_word` (the checks, and the word) and `is_ascii`
+// serve files for threads too.
 
 ghost use Rattle.std.specs.Prelude.{◌≡◌};
 ghost use Rattle.std.specs.Option.{option_map};
@@ -14,34 +14,26 @@ use crate::fault::{LineFault, ScriptError};
 use crate::items::make_item;
 use crate::lines::first_field;
 use crate::table::Row;
-use crate::values::read_values;
+use crate::values::line_values;
 use script_language::{Cause, Item, LONGEST_LINE};
 use std::alloc::Global;
-
-/// Checks a condition of a line.
-///
-/// # Errors
-/// `Cause(cause)`: `holds` is false.
-pub fn test(holds: bool, cause: Cause) -> Result<(), LineFault>
-    ensures { GivesLine (λ u. tt) result (words.test holds cause) }
-{
-    if holds {
-        Ok(())
-    } else {
-        Err(LineFault::Cause(cause))
-    }
-}
 
 /// Parses a line whose first field is `text`, with the fields after it. Causes are tried in the order of `Cause`.
 #[tactic(auto, unfolding(script_language::specs::Script::item_line))]
 fn item_line(alloc: Global, draft: &Draft, text: &[u8], fields: &[u8]) -> Result<Item, LineFault>
     ensures { GivesLine (λ x. x) result (words.item_line draft.now text.now (fields_of fields.now)) }
 {
-    let row = Row::find(text).ok_or(LineFault::Cause(Cause::Word))?;
-    test(draft.in_order(row.word), Cause::Order)?;
-    let values = read_values(alloc, &row, fields)??;
+    let Some(row) = Row::find(text) else {
+        return Err(LineFault::Cause(Cause::Word));
+    };
+    if !draft.in_order(row.word) {
+        return Err(LineFault::Cause(Cause::Order));
+    }
+    let values = line_values(alloc, &row, fields)?;
     let item = make_item(alloc, draft, row.word, values)?;
-    test(draft.has_room(&item), Cause::TooMany)?;
+    if !draft.has_room(&item) {
+        return Err(LineFault::Cause(Cause::TooMany));
+    }
     Ok(item)
 }
 
@@ -77,8 +69,12 @@ fn word_of_fields(line: &[u8]) -> Option<(&[u8], &[u8])>
 pub fn read_word(line: &[u8]) -> Result<Option<(&[u8], &[u8])>, LineFault>
     ensures { GivesLine (option_map as_fields) result (word_of line.now) }
 {
-    test(line.len() <= LONGEST_LINE, Cause::TooLong)?;
-    test(is_ascii(line), Cause::NotAscii)?;
+    if line.len() > LONGEST_LINE {
+        return Err(LineFault::Cause(Cause::TooLong));
+    }
+    if !is_ascii(line) {
+        return Err(LineFault::Cause(Cause::NotAscii));
+    }
     Ok(word_of_fields(line))
 }
 

@@ -8,6 +8,7 @@ ghost use Rattle.script_language.specs.Fields.{command_table, row_among};
 ghost use Rattle.script_language.specs.ThreadScript.{thread_table};
 
 use script_language::FieldKind::{Entry, Hex, Mode, Number, Policy, Scheme, Segment, Signed, Slot};
+use script_language::Tail::{More, Nothing, Perhaps};
 use script_language::{FieldKind, Keyword, Tail};
 
 /// A word as it is written, its keyword, the kinds of the fields that must follow it, and what may follow these.
@@ -19,19 +20,86 @@ pub struct Row {
     pub tail: Tail,
 }
 
-fn make_row(text: &'static [u8], word: Keyword, kinds: &'static [FieldKind], tail: Tail) -> Row
-    ensures text { result.text.now ≡ text.now }
-    ensures word { result.word ≡ word }
-    ensures kinds { result.kinds.now ≡ kinds.now }
-    ensures tail { result.tail ≡ tail }
-{
-    Row {
-        text,
-        word,
-        kinds,
-        tail,
-    }
+/// Writes a row: the word's text, its keyword, and the kinds of the fields after it.
+macro_rules! row {
+    ($text:literal, $word:ident, $kinds:expr, $tail:expr) => {
+        Row {
+            text: $text,
+            word: Keyword::$word,
+            kinds: &$kinds,
+            tail: $tail,
+        }
+    };
 }
+
+/// The rows of all words of scripts.
+static ROWS: [Row; 29] = [
+    row!(b"file", File, [Number, Mode, Hex], Nothing),
+    row!(b"image", Image, [Segment], More(Segment)),
+    row!(b"elf", Elf, [Hex], Nothing),
+    row!(
+        b"boot",
+        Boot,
+        [Number, Number, Number, Policy],
+        Perhaps(Scheme)
+    ),
+    row!(b"start", Start, [Number], Nothing),
+    row!(b"switch", Switch, [Number, Slot], Nothing),
+    row!(b"trap", Trap, [Number], Nothing),
+    row!(b"next", Next, [Number], Nothing),
+    row!(b"fill", Fill, [Number, Number], Nothing),
+    row!(b"evict", Evict, [Number, Number], Nothing),
+    row!(b"fetch", Fetch, [Number, Number], Perhaps(Entry)),
+    row!(b"load", Load, [Number, Number, Number], Perhaps(Entry)),
+    row!(
+        b"store",
+        Store,
+        [Number, Number, Number, Number],
+        Perhaps(Entry)
+    ),
+    row!(b"tramp", Tramp, [Number, Number], Perhaps(Entry)),
+    row!(b"serve", Serve, [Number], Nothing),
+    row!(b"fork", Fork, [Number], Nothing),
+    row!(b"exec", Exec, [Number, Number], Nothing),
+    row!(b"sbrk", Sbrk, [Number, Signed], Nothing),
+    row!(
+        b"mmap",
+        Mmap,
+        [Number, Number, Number, Number, Number],
+        Nothing
+    ),
+    row!(b"munmap", Munmap, [Number, Number, Number], Nothing),
+    row!(b"copyin", CopyIn, [Number, Number, Number], Nothing),
+    row!(b"copyout", CopyOut, [Number, Number, Hex], Nothing),
+    row!(b"exit", Exit, [Number, Signed], Nothing),
+    row!(b"show", Show, [Number, Number, Number], Nothing),
+    row!(b"audit", Audit, [], Nothing),
+    row!(b"on", On, [Number, Number], Nothing),
+    row!(b"enter", Enter, [Number], Nothing),
+    row!(b"leave", Leave, [Number], Nothing),
+    row!(b"fix", Fix, [Number], Nothing),
+];
+
+/// The rows of all words of files for threads.
+static ROWS_FOR_THREADS: [Row; 17] = [
+    row!(b"file", File, [Number, Mode, Hex], Nothing),
+    row!(b"image", Image, [Segment], More(Segment)),
+    row!(b"elf", Elf, [Hex], Nothing),
+    row!(b"pool", Pool, [Number, Number], Nothing),
+    row!(b"list", List, [Number], Nothing),
+    row!(b"start", Start, [Number, Number], Nothing),
+    row!(b"fetch", Fetch, [Number], Nothing),
+    row!(b"load", Load, [Number, Number], Nothing),
+    row!(b"store", Store, [Number, Number, Number], Nothing),
+    row!(b"exec", Exec, [Number], Nothing),
+    row!(b"sbrk", Sbrk, [Signed], Nothing),
+    row!(b"mmap", Mmap, [Number, Number, Number, Number], Nothing),
+    row!(b"munmap", Munmap, [Number, Number], Nothing),
+    row!(b"copyin", CopyIn, [Number, Number], Nothing),
+    row!(b"copyout", CopyOut, [Number, Hex], Nothing),
+    row!(b"exit", Exit, [Signed], Nothing),
+    row!(b"fork", Fork, [Number], Nothing),
+];
 
 impl Row {
     ghost use Rattle.script_reader.specs.Rows.{seen, kind_at};
@@ -40,75 +108,13 @@ impl Row {
     pub fn all() -> [Row; 29]
         ensures { map seen result ≡ command_table }
     {
-        let none = Tail::Nothing;
-        let entry = Tail::Perhaps(Entry);
-        let scheme = Tail::Perhaps(Scheme);
-        let one: &'static [FieldKind] = &[Number];
-        let two: &'static [FieldKind] = &[Number, Number];
-        let three: &'static [FieldKind] = &[Number, Number, Number];
-        let four: &'static [FieldKind] = &[Number, Number, Number, Number];
-        let five: &'static [FieldKind] = &[Number, Number, Number, Number, Number];
-        let sizes: &'static [FieldKind] = &[Number, Number, Number, Policy];
-        [
-            make_row(b"file", Keyword::File, &[Number, Mode, Hex], none),
-            make_row(b"image", Keyword::Image, &[Segment], Tail::More(Segment)),
-            make_row(b"elf", Keyword::Elf, &[Hex], none),
-            make_row(b"boot", Keyword::Boot, sizes, scheme),
-            make_row(b"start", Keyword::Start, one, none),
-            make_row(b"switch", Keyword::Switch, &[Number, Slot], none),
-            make_row(b"trap", Keyword::Trap, one, none),
-            make_row(b"next", Keyword::Next, one, none),
-            make_row(b"fill", Keyword::Fill, two, none),
-            make_row(b"evict", Keyword::Evict, two, none),
-            make_row(b"fetch", Keyword::Fetch, two, entry),
-            make_row(b"load", Keyword::Load, three, entry),
-            make_row(b"store", Keyword::Store, four, entry),
-            make_row(b"tramp", Keyword::Tramp, two, entry),
-            make_row(b"serve", Keyword::Serve, one, none),
-            make_row(b"fork", Keyword::Fork, one, none),
-            make_row(b"exec", Keyword::Exec, two, none),
-            make_row(b"sbrk", Keyword::Sbrk, &[Number, Signed], none),
-            make_row(b"mmap", Keyword::Mmap, five, none),
-            make_row(b"munmap", Keyword::Munmap, three, none),
-            make_row(b"copyin", Keyword::CopyIn, three, none),
-            make_row(b"copyout", Keyword::CopyOut, &[Number, Number, Hex], none),
-            make_row(b"exit", Keyword::Exit, &[Number, Signed], none),
-            make_row(b"show", Keyword::Show, three, none),
-            make_row(b"audit", Keyword::Audit, &[], none),
-            make_row(b"on", Keyword::On, two, none),
-            make_row(b"enter", Keyword::Enter, one, none),
-            make_row(b"leave", Keyword::Leave, one, none),
-            make_row(b"fix", Keyword::Fix, one, none),
-        ]
+        ROWS
     }
 
     fn all_for_threads() -> [Row; 17]
         ensures { map seen result ≡ thread_table }
     {
-        let none = Tail::Nothing;
-        let one: &'static [FieldKind] = &[Number];
-        let two: &'static [FieldKind] = &[Number, Number];
-        let three: &'static [FieldKind] = &[Number, Number, Number];
-        let four: &'static [FieldKind] = &[Number, Number, Number, Number];
-        [
-            make_row(b"file", Keyword::File, &[Number, Mode, Hex], none),
-            make_row(b"image", Keyword::Image, &[Segment], Tail::More(Segment)),
-            make_row(b"elf", Keyword::Elf, &[Hex], none),
-            make_row(b"pool", Keyword::Pool, two, none),
-            make_row(b"list", Keyword::List, one, none),
-            make_row(b"start", Keyword::Start, two, none),
-            make_row(b"fetch", Keyword::Fetch, one, none),
-            make_row(b"load", Keyword::Load, two, none),
-            make_row(b"store", Keyword::Store, three, none),
-            make_row(b"exec", Keyword::Exec, one, none),
-            make_row(b"sbrk", Keyword::Sbrk, &[Signed], none),
-            make_row(b"mmap", Keyword::Mmap, four, none),
-            make_row(b"munmap", Keyword::Munmap, two, none),
-            make_row(b"copyin", Keyword::CopyIn, two, none),
-            make_row(b"copyout", Keyword::CopyOut, &[Number, Hex], none),
-            make_row(b"exit", Keyword::Exit, &[Signed], none),
-            make_row(b"fork", Keyword::Fork, one, none),
-        ]
+        ROWS_FOR_THREADS
     }
 
     fn find_among(rows: &[Row], text: &[u8]) -> Option<Row>

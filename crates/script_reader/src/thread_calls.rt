@@ -1,15 +1,15 @@
-// Makers of the items of calls in a file for threads that name no image and no list: `fetch`, `load`, `store`, `sbrk`, `mmap`,
-// `munmap`, `copyin`, `copyout`, `exit`, written as in scripts but without their hart. Each makes the item (what a line declares
-// or commands) from the fields of the line, or from their values.
+// Makers of the items of calls in a file for threads that have limits and name no image and no list: `load`, `store`, `copyin`,
+// `copyout`, `exit`, written as in scripts but without their hart. Each makes the item (what a line declares or commands) from
+// the fields of the line, or from their values. And `one`, the item of a call without limits.
 
-ghost use Rattle.std.specs.Prelude.{◌≡◌, Ok, nat_le};
+ghost use Rattle.std.specs.Prelude.{◌≡◌, nat_le};
 ghost use Rattle.process_model.specs.Bytes as bytes;
 ghost use Rattle.process_model.specs.declared.call.Call.TheVariants as call;
 ghost use Rattle.script_language.specs.ReadLines.{in_limits};
 ghost use Rattle.script_language.specs.ThreadScript as words;
 ghost use Rattle.script_reader.specs.CallAlone.{call_alone};
 
-use crate::field_access::{index_at, number_at, signed_at, take_bytes};
+use crate::field_access::{number_at, signed_at, take_bytes};
 use crate::in_limits::in_limits;
 use process_model::{Call, LONGEST_COPY, is_width};
 use script_language::{Cause, FieldValue, Keyword, ListedCall, ThreadItem};
@@ -21,13 +21,6 @@ pub fn one(call: Call<'static>) -> ThreadItem
     ensures { result ≡ words.one call.entry }
 {
     ThreadItem::Call(ListedCall::One(call))
-}
-
-/// Makes the item of `fetch ADDRESS`.
-pub fn fetch(address: u64) -> ThreadItem
-    ensures { result ≡ words.one (call.Fetch address) }
-{
-    one(Call::Fetch { address })
 }
 
 /// Makes the item of `load ADDRESS WIDTH`.
@@ -60,37 +53,6 @@ pub fn store(address: u64, width: u64, value: u64) -> Result<ThreadItem, Cause>
         width,
         value,
     }))
-}
-
-/// Makes the item of `sbrk DELTA`, with a signed number of bytes.
-pub fn sbrk(values: &[FieldValue]) -> ThreadItem
-    ensures { Ok result ≡ call_alone Keyword.Sbrk values.now }
-{
-    one(Call::Sbrk {
-        delta: signed_at(values, 0),
-    })
-}
-
-/// Makes the item of `mmap LEN PROT FLAGS FILE`. The call checks the arguments.
-pub fn mmap(values: &[FieldValue]) -> ThreadItem
-    ensures { Ok result ≡ call_alone Keyword.Mmap values.now }
-{
-    one(Call::Mmap {
-        length: number_at(values, 0),
-        protection: number_at(values, 1),
-        flags: number_at(values, 2),
-        file: index_at(values, 3),
-    })
-}
-
-/// Makes the item of `munmap ADDRESS LEN`.
-pub fn munmap(values: &[FieldValue]) -> ThreadItem
-    ensures { Ok result ≡ call_alone Keyword.Munmap values.now }
-{
-    one(Call::Munmap {
-        address: number_at(values, 0),
-        length: number_at(values, 1),
-    })
 }
 
 /// Makes the item of `copyin ADDRESS COUNT`.

@@ -8,6 +8,7 @@ ghost use Rattle.script_language.specs.declared.script.ThreadItem.TheVariants as
 ghost use Rattle.script_language.specs.ThreadScript as words;
 ghost use Rattle.script_reader.specs.ThreadFastLines.{takes_calls};
 
+use crate::push::push;
 use process_model::{FileText, MOST_FILES, Sequence};
 use script_language::{
     CallList, Keyword, ListedCall, ListedStart, MOST_CALLS, MOST_COMMANDS, MOST_IMAGES, MOST_LISTS,
@@ -108,7 +109,12 @@ impl ThreadDraft {
     pub fn has_list(&self, number: usize) -> bool
         ensures { result ≡ words.has_list (self.now).lists number }
     {
-        self.lists.iter().any(|list| list.number == number)
+        for list in &self.lists {
+            if list.number == number {
+                return true;
+            }
+        }
+        false
     }
 
     /// Whether some line of the file, read or not, begins a list of this number.
@@ -162,9 +168,8 @@ impl ThreadDraft {
         ensures { OnOk result (self.new ≡ words.with_item self.old (item.List number)) }
     {
         let calls = Sequence::from_vec(Vec::new(self.alloc));
-        self.lists.push(CallList { number, calls })?;
         self.lines += 1;
-        Ok(())
+        push(&mut self.lists, CallList { number, calls })
     }
 
     /// Appends a call to the open list. The caller must know that there is room for it (`has_room`, `takes_calls`). Inlined, so
@@ -177,18 +182,16 @@ impl ThreadDraft {
         requires { words.has_room self.old (item.Call call) ≡ true }
         ensures { OnOk result (self.new ≡ words.with_item self.old (item.Call call)) }
     {
-        push_call(&mut self.lists, call)?;
         self.lines += 1;
-        Ok(())
+        push_call(&mut self.lists, call)
     }
 
     fn add_start(&mut self, start: ListedStart) -> Result<(), AllocError>
         requires { words.has_room self.old (item.Start start) ≡ true }
         ensures { OnOk result (self.new ≡ words.with_item self.old (item.Start start)) }
     {
-        self.starts.push(start)?;
         self.lines += 1;
-        Ok(())
+        push(&mut self.starts, start)
     }
 
     /// Adds the item of a line after those of the lines before it. The caller must know that there is room for it
@@ -201,14 +204,16 @@ impl ThreadDraft {
         ensures { OnOk result (self.new ≡ words.with_item self.old item) }
     {
         match item {
-            ThreadItem::File(file) => self.files.push(file)?,
-            ThreadItem::Image(image) => self.images.push(image)?,
-            ThreadItem::Pool(pool) => self.pool = Some(pool),
-            ThreadItem::List(number) => self.add_list(number)?,
-            ThreadItem::Call(call) => self.add_call(call)?,
-            ThreadItem::Start(start) => self.add_start(start)?,
+            ThreadItem::File(file) => push(&mut self.files, file),
+            ThreadItem::Image(image) => push(&mut self.images, image),
+            ThreadItem::Pool(pool) => {
+                self.pool = Some(pool);
+                Ok(())
+            }
+            ThreadItem::List(number) => self.add_list(number),
+            ThreadItem::Call(call) => self.add_call(call),
+            ThreadItem::Start(start) => self.add_start(start),
         }
-        Ok(())
     }
 
     /// Returns what the lines declare.

@@ -13,9 +13,10 @@ use crate::fast_path::{
     FastWord, one_address, one_number, three_numbers, two_numbers, word_prefix,
 };
 use crate::number_prefixes::is_end;
-use crate::thread_calls::{copy_in, fetch, load, store};
+use crate::thread_calls::{copy_in, load, one, store};
 use crate::thread_draft::ThreadDraft;
 use crate::thread_named::fork;
+use process_model::Call;
 use script_language::{Cause, LONGEST_LINE, ThreadItem};
 use std::alloc::AllocError;
 
@@ -72,7 +73,7 @@ fn fast_item(
     match word {
         FastWord::Fetch => {
             let address = one_address(fields)?;
-            Some(Ok(fetch(address)))
+            Some(Ok(one(Call::Fetch { address })))
         }
         FastWord::CopyIn => {
             let (address, count) = two_numbers(fields)?;

@@ -12,12 +12,12 @@ ghost use Rattle.script_reader.specs.ThreadFastLines.{begins_with_list};
 use crate::fault::{LineFault, ScriptError};
 use crate::lines::{first_field, first_line, is_blank, trim_return};
 use crate::numbers::number;
-use crate::read_line::{is_ascii, read_word, test};
+use crate::read_line::{is_ascii, read_word};
 use crate::table::Row;
 use crate::thread_draft::ThreadDraft;
 use crate::thread_fast_lines::add_fast;
 use crate::thread_items::make_item;
-use crate::values::read_values;
+use crate::values::line_values;
 use script_language::{Cause, MOST_LISTS, ThreadItem};
 use std::alloc::Global;
 
@@ -31,11 +31,17 @@ fn item_line(
 ) -> Result<ThreadItem, LineFault>
     ensures { GivesLine (λ x. x) result (words.item_line draft.now text.now (fields_of fields.now)) }
 {
-    let row = Row::find_for_threads(text).ok_or(LineFault::Cause(Cause::Word))?;
-    test(draft.in_order(row.word), Cause::Order)?;
-    let values = read_values(alloc, &row, fields)??;
+    let Some(row) = Row::find_for_threads(text) else {
+        return Err(LineFault::Cause(Cause::Word));
+    };
+    if !draft.in_order(row.word) {
+        return Err(LineFault::Cause(Cause::Order));
+    }
+    let values = line_values(alloc, &row, fields)?;
     let item = make_item(alloc, draft, row.word, values)?;
-    test(draft.has_room(&item), Cause::TooMany)?;
+    if !draft.has_room(&item) {
+        return Err(LineFault::Cause(Cause::TooMany));
+    }
     Ok(item)
 }
 

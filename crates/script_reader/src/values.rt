@@ -5,9 +5,11 @@ ghost use Rattle.std.specs.Prelude.{◌≡◌, IfOk};
 ghost use Rattle.script_language.specs.Fields as words;
 ghost use Rattle.script_language.specs.Fields.{value_of, values_of};
 ghost use Rattle.script_language.specs.Lines.{fields_of};
+ghost use Rattle.script_reader.specs.ReadResults.{GivesLine};
 ghost use Rattle.script_reader.specs.ValueLists.{listed};
 ghost use Rattle.script_reader.specs.Rows.{seen};
 
+use crate::fault::LineFault;
 use crate::hex::hex;
 use crate::lines::first_field;
 use crate::numbers::{number, signed};
@@ -80,6 +82,44 @@ fn read_entry(field: &[u8]) -> Result<FieldValue, Cause>
     }
 }
 
+fn read_number(field: &[u8]) -> Result<FieldValue, Cause>
+    ensures { result ≡ value_of FieldKind.Number field.now }
+{
+    match number(field) {
+        Some(number) => Ok(FieldValue::Number(number)),
+        None => Err(Cause::Number),
+    }
+}
+
+fn read_signed(field: &[u8]) -> Result<FieldValue, Cause>
+    ensures { result ≡ value_of FieldKind.Signed field.now }
+{
+    match signed(field) {
+        Some(number) => Ok(FieldValue::Signed(number)),
+        None => Err(Cause::Number),
+    }
+}
+
+fn read_hex(alloc: Global, field: &[u8]) -> Result<Result<FieldValue, Cause>, AllocError>
+    ensures { IfOk result (λ read. read ≡ value_of FieldKind.Hex field.now) }
+{
+    match hex(alloc, field) {
+        Ok(Some(bytes)) => Ok(Ok(FieldValue::Hex(bytes))),
+        Ok(None) => Ok(Err(Cause::Field)),
+        Err(error) => Err(error),
+    }
+}
+
+fn read_one_segment(alloc: Global, field: &[u8]) -> Result<Result<FieldValue, Cause>, AllocError>
+    ensures { IfOk result (λ read. read ≡ value_of FieldKind.Segment field.now) }
+{
+    match read_segment(alloc, field) {
+        Ok(Some(segment)) => Ok(Ok(FieldValue::Segment(segment))),
+        Ok(None) => Ok(Err(Cause::Field)),
+        Err(error) => Err(error),
+    }
+}
+
 /// Parses a field of this kind. The outer error is the host's; the inner one is the fault of the field: `Number` for a number or a
 /// slot, and `Field` for every other kind.
 ///
@@ -92,20 +132,17 @@ pub fn read_value(
 ) -> Result<Result<FieldValue, Cause>, AllocError>
     ensures { IfOk result (λ read. read ≡ value_of kind field.now) }
 {
-    let value = match kind {
-        FieldKind::Number => number(field).map(FieldValue::Number).ok_or(Cause::Number),
-        FieldKind::Signed => signed(field).map(FieldValue::Signed).ok_or(Cause::Number),
-        FieldKind::Hex => hex(alloc, field)?.map(FieldValue::Hex).ok_or(Cause::Field),
-        FieldKind::Slot => read_slot(field),
-        FieldKind::Mode => read_mode(field),
-        FieldKind::Policy => read_policy(field),
-        FieldKind::Scheme => read_scheme(field),
-        FieldKind::Segment => read_segment(alloc, field)?
-            .map(FieldValue::Segment)
-            .ok_or(Cause::Field),
-        FieldKind::Entry => read_entry(field),
-    };
-    Ok(value)
+    match kind {
+        FieldKind::Number => Ok(read_number(field)),
+        FieldKind::Signed => Ok(read_signed(field)),
+        FieldKind::Hex => read_hex(alloc, field),
+        FieldKind::Slot => Ok(read_slot(field)),
+        FieldKind::Mode => Ok(read_mode(field)),
+        FieldKind::Policy => Ok(read_policy(field)),
+        FieldKind::Scheme => Ok(read_scheme(field)),
+        FieldKind::Segment => read_one_segment(alloc, field),
+        FieldKind::Entry => Ok(read_entry(field)),
+    }
 }
 
 /// Appends a value to those so far. Of two faults, `Number` is reported before `Field`.
@@ -156,4 +193,15 @@ pub fn read_values(
         return Ok(Err(Cause::Count));
     }
     Ok(so_far)
+}
+
+/// `read_values`, with the fault of the line and refused memory in one error.
+pub fn line_values(alloc: Global, row: &Row, fields: &[u8]) -> Result<Vec<FieldValue>, LineFault>
+    ensures { GivesLine (λ values. values.items) result (values_of (seen row.now) (fields_of fields.now)) }
+{
+    match read_values(alloc, row, fields) {
+        Ok(Ok(values)) => Ok(values),
+        Ok(Err(cause)) => Err(LineFault::Cause(cause)),
+        Err(_) => Err(LineFault::Memory),
+    }
 }

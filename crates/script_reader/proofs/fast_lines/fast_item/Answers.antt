@@ -10,9 +10,9 @@ use Rattle.script_reader.proofs.fast_lines.fast_item.Goals as goal
 
 pub returns-in_ok-hart-in-Switch : goal.returns-in_ok-hart-in-Switch
 returns-in_ok-hart-in-Switch c =
-    rw c.in-Switch.is (says c.in_ok-hart-in-Switch.ensures (codes "switch") (row (codes "switch") word.Switch (kind.Number ∷ kind.Slot ∷ []) tail.Nothing) (Ok c.switch.result) refl refl (λ s. ap (λ (i : Item). Ok i) (sym c.switch.ensures)) refl)
+    rw c.in-Switch.is (says c.in_ok-hart-in-Switch.ensures (codes "switch") (row (codes "switch") word.Switch (kind.Number ∷ kind.Slot ∷ []) tail.Nothing) _ refl refl (λ s. refl) refl)
 
 pub returns-in_ok-hart-in-Fetch : goal.returns-in_ok-hart-in-Fetch
 returns-in_ok-hart-in-Fetch c =
     let r = c.in_ok-hart-in-Fetch in
-    rw c.in-Fetch.is (says_fetch c.args.fields.now r.hart r.address r.via (Ok c.fetch.result) r.ensures (ap (λ (i : Item). Ok i) c.fetch.ensures))
+    rw c.in-Fetch.is (says_fetch c.args.fields.now r.hart r.address r.via _ r.ensures refl)

@@ -10,11 +10,11 @@ use Rattle.script_reader.proofs.fast_lines.numbers_item.Goals as goal
 
 pub returns-in_ok-hart-in-On : goal.returns-in_ok-hart-in-On
 returns-in_ok-hart-in-On c =
-    rw c.in-On.is (says c.in_ok-hart-in-On.ensures (codes "on") (row (codes "on") word.On two_numbers tail.Nothing) (Ok c.on.result) refl refl (λ s. ap (λ (i : Item). Ok i) (sym c.on.ensures)) refl)
+    rw c.in-On.is (says c.in_ok-hart-in-On.ensures (codes "on") (row (codes "on") word.On two_numbers tail.Nothing) _ refl refl (λ s. refl) refl)
 
 pub returns-in_ok-hart-in-Fill : goal.returns-in_ok-hart-in-Fill
 returns-in_ok-hart-in-Fill c =
-    rw c.in-Fill.is (says c.in_ok-hart-in-Fill.ensures (codes "fill") (row (codes "fill") word.Fill two_numbers tail.Nothing) (Ok c.fill.result) refl refl (λ s. ap (λ (i : Item). Ok i) (sym c.fill.ensures)) refl)
+    rw c.in-Fill.is (says c.in_ok-hart-in-Fill.ensures (codes "fill") (row (codes "fill") word.Fill two_numbers tail.Nothing) _ refl refl (λ s. refl) refl)
 
 pub returns-in_ok-hart-in-CopyIn : goal.returns-in_ok-hart-in-CopyIn
 returns-in_ok-hart-in-CopyIn c =
@@ -22,8 +22,8 @@ returns-in_ok-hart-in-CopyIn c =
 
 pub returns-in_ok-hart-in-Mmap : goal.returns-in_ok-hart-in-Mmap
 returns-in_ok-hart-in-Mmap c =
-    rw c.in-Mmap.is (says c.in_ok-hart-in-Mmap.ensures (codes "mmap") (row (codes "mmap") word.Mmap (kind.Number ∷ four_numbers) tail.Nothing) (Ok c.mmap.result) refl refl (λ s. ap (λ (i : Item). Ok i) (sym c.mmap.ensures)) refl)
+    rw c.in-Mmap.is (says c.in_ok-hart-in-Mmap.ensures (codes "mmap") (row (codes "mmap") word.Mmap (kind.Number ∷ four_numbers) tail.Nothing) _ refl refl (λ s. refl) refl)
 
 pub returns-in_ok-hart-in-Munmap : goal.returns-in_ok-hart-in-Munmap
 returns-in_ok-hart-in-Munmap c =
-    rw c.in-Munmap.is (says c.in_ok-hart-in-Munmap.ensures (codes "munmap") (row (codes "munmap") word.Munmap three_numbers tail.Nothing) (Ok c.munmap.result) refl refl (λ s. ap (λ (i : Item). Ok i) (sym c.munmap.ensures)) refl)
+    rw c.in-Munmap.is (says c.in_ok-hart-in-Munmap.ensures (codes "munmap") (row (codes "munmap") word.Munmap three_numbers tail.Nothing) _ refl refl (λ s. refl) refl)

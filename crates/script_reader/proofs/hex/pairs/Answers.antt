@@ -1,18 +1,16 @@
 use Rattle.std.proofs.Common.{arith, sym, ap, ◌∙◌}
-use Rattle.script_reader.proofs.Pairs.{onto, onto-four, onto-then}
+use Rattle.script_reader.proofs.Pairs.{onto, onto-two, onto-then}
 use Rattle.script_language.specs.Numbers.{pairs_of}
 use Rattle.script_reader.proofs.hex.pairs.Goals as goal
 
-pub fours-preserved : goal.fours-preserved
-fours-preserved c =
+pub twos-preserved : goal.twos-preserved
+twos-preserved c =
     let found = c.in-Some in
     let first = c.push_reserved.ensures in
     let second = c.push_reserved-in-Some.ensures in
-    let third = c.push_reserved-in-Some-2.ensures in
-    let fourth = c.push_reserved-in-Some-3.ensures in
     record {
-      says = rw (fourth.items, third.items, second.items, first.items) (sym (onto-four c.fours.items.items found.first found.second found.third found.fourth (pairs_of found.after.now)) ∙ ap (onto c.fours.items.items) (sym found.ensures.bytes) ∙ c.fours.invariant.says);
-      room = omega (arith, c.fours.invariant.room, found.ensures.eight, first.len, first.capacity, second.len, second.capacity, third.len, third.capacity, fourth.len, fourth.capacity);
+      says = rw (second.items, first.items) (sym (onto-two c.twos.items.items found.first found.second (pairs_of found.after.now)) ∙ ap (onto c.twos.items.items) (sym found.ensures.bytes) ∙ c.twos.invariant.says);
+      room = omega (arith, c.twos.invariant.room, found.ensures.four, first.len, first.capacity, second.len, second.capacity);
     }
 
 pub ones-preserved : goal.ones-preserved

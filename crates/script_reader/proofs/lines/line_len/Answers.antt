@@ -1,16 +1,6 @@
-use Rattle.std.proofs.Common.{◌≡◌, ℕ, not, eqb, Option, None, Some, length, List, get_or, sym, ◌∙◌, arith}
-use Rattle.std.specs.List.{position_or_len}
-use Rattle.std.specs.Option.{unwrap_or}
-use Rattle.std.proofs.lemmas.List.Sums.{prefix_len_is}
-use Rattle.std.proofs.lemmas.Bool.{not_from_false, not_from_true, false_from_ne_true}
-use Rattle.memchr.specs.Find.{IsFirstByte, is_byte}
-use Rattle.script_language.specs.Lines.{is_line_end}
+use Rattle.std.proofs.Common.{◌∙◌}
+use Rattle.script_reader.proofs.FirstBytes.{first_is}
 use Rattle.script_reader.proofs.lines.line_len.Goals as goal
 
-first_is : (text : List ℕ) (r : Option ℕ) → IsFirstByte (is_byte 10) text r → unwrap_or r (length text) ≡ position_or_len is_line_end text
-first_is text None h = sym (prefix_len_is (λ b. not (is_line_end b)) text (length text) 0 (omega arith) (λ k lt. not_from_false (eqb (get_or text k 0) 10) (false_from_ne_true _ (h k (omega arith) lt))) (λ lt. absurd (omega arith)))
-first_is text (Some n) h =
-    sym (prefix_len_is (λ b. not (is_line_end b)) text n 0 (omega (arith, h.0.high)) (λ k lt. not_from_false (eqb (get_or text k 0) 10) (false_from_ne_true _ (h.0.before k (omega arith) lt))) (λ lt. not_from_true (eqb (get_or text n 0) 10) h.1))
-
 pub returns : goal.returns
-returns c = c.unwrap_or.ensures ∙ first_is c.args.text.now c.memchr.result c.memchr.ensures
+returns c = c.unwrap_or.ensures ∙ first_is 10 c.args.text.now c.memchr.result c.memchr.ensures

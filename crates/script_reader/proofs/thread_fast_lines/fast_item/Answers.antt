@@ -8,7 +8,7 @@ use Rattle.script_language.specs.declared.script.ThreadItem.{ThreadItem}
 use Rattle.script_reader.proofs.thread_fast_lines.fast_item.Goals as goal
 
 pub returns-in_ok-address-in-Fetch : goal.returns-in_ok-address-in-Fetch
-returns-in_ok-address-in-Fetch c = rw c.in-Fetch.is (says c.in_ok-address-in-Fetch.ensures c.args.draft.now (codes "fetch") (row (codes "fetch") word.Fetch one_number tail.Nothing) (Ok c.fetch.result) refl refl (ap (λ (i : ThreadItem). Ok i) (sym c.fetch.ensures)) refl)
+returns-in_ok-address-in-Fetch c = rw c.in-Fetch.is (says c.in_ok-address-in-Fetch.ensures c.args.draft.now (codes "fetch") (row (codes "fetch") word.Fetch one_number tail.Nothing) (Ok c.one.result) refl refl (ap (λ (i : ThreadItem). Ok i) (sym c.one.ensures)) refl)
 
 pub returns-in_ok-address-in-CopyIn : goal.returns-in_ok-address-in-CopyIn
 returns-in_ok-address-in-CopyIn c = rw c.in-CopyIn.is (says c.in_ok-address-in-CopyIn.ensures c.args.draft.now (codes "copyin") (row (codes "copyin") word.CopyIn two_numbers tail.Nothing) c.copy_in.result refl refl (sym c.copy_in.ensures) refl)

@@ -1,10 +1,8 @@
-// Makers of the items of script lines that are several steps (`on`, `enter`, `leave`, `fix`), from the fields of the line, or
-// name a declared image or file (`start`, `exec`, `show`), from their values.
+// Makers of the items of script lines that name a declared image or file (`start`, `exec`, `show`), from the values of the
+// line's fields.
 
 ghost use Rattle.std.specs.Prelude.{◌≡◌};
 ghost use Rattle.script_language.specs.Script as words;
-ghost use Rattle.script_language.specs.declared.script.Command.TheVariants as command;
-ghost use Rattle.script_language.specs.declared.script.Item.TheVariants as item;
 
 use crate::draft::Draft;
 use crate::field_access::{index_at, number_at};
@@ -58,32 +56,4 @@ pub fn show(draft: &Draft, values: &[FieldValue]) -> Result<Item, Cause>
         count,
     };
     in_limits(within, Item::Command(command))
-}
-
-/// Makes the command of `on HART SLOT`.
-pub fn on(hart: usize, slot: usize) -> Item
-    ensures { result ≡ item.Command (command.On hart slot) }
-{
-    Item::Command(Command::On { hart, slot })
-}
-
-/// Makes the command of `enter HART`.
-pub fn enter(hart: usize) -> Item
-    ensures { result ≡ item.Command (command.Enter hart) }
-{
-    Item::Command(Command::Enter { hart })
-}
-
-/// Makes the command of `leave HART`.
-pub fn leave(hart: usize) -> Item
-    ensures { result ≡ item.Command (command.Leave hart) }
-{
-    Item::Command(Command::Leave { hart })
-}
-
-/// Makes the command of `fix HART`.
-pub fn fix(hart: usize) -> Item
-    ensures { result ≡ item.Command (command.Fix hart) }
-{
-    Item::Command(Command::Fix { hart })
 }
