@@ -159,27 +159,22 @@ fn print_findings<S: Screen>(alloc: Global, screen: &mut S, found: &[Finding]) {
 }
 
 /// Prints address spaces as JSON objects, one a line.
-fn put_spaces<S: Screen>(
-    alloc: Global,
-    screen: &mut S,
-    extensions: Extensions,
-    spaces: &[Space],
-) -> Result<(), Fault> {
+fn put_spaces<S: Screen>(alloc: Global, screen: &mut S, extensions: Extensions, spaces: &[Space]) {
     'spaces: for (number, space) in spaces.iter().enumerate() {
-        let object = SpaceObject::of(alloc, extensions, number, space)?;
+        let object = SpaceObject {
+            number,
+            space,
+            extensions,
+        };
         print_object(alloc, screen, &object);
     }
-    Ok(())
 }
 
 /// Prints what is suspicious as JSON objects, one a line.
-fn put_findings<S: Screen>(alloc: Global, screen: &mut S, found: &[Finding]) -> Result<(), Fault> {
+fn put_findings<S: Screen>(alloc: Global, screen: &mut S, found: &[Finding]) {
     'findings: for finding in found {
-        let line = FindingLine(finding);
-        let text = format!(in alloc; "{line}")?;
-        print_object(alloc, screen, &FindingObject::of(finding, text));
+        print_object(alloc, screen, &FindingObject(finding));
     }
-    Ok(())
 }
 
 impl Reading for InspectDump<'_> {
@@ -201,8 +196,9 @@ impl Reading for InspectDump<'_> {
         let spaces = self.spaces(alloc, screen, &dump)?;
         let found = self.findings(alloc, &dump, spaces.as_slice())?;
         if self.words.json {
-            put_spaces(alloc, screen, self.words.extensions, spaces.as_slice())?;
-            return put_findings(alloc, screen, found.as_slice());
+            put_spaces(alloc, screen, self.words.extensions, spaces.as_slice());
+            put_findings(alloc, screen, found.as_slice());
+            return Ok(());
         }
         print_spaces(alloc, screen, spaces.as_slice())?;
         print_findings(alloc, screen, found.as_slice());

@@ -5,9 +5,11 @@ use crate::listing::ValidEntry;
 use crate::reserved::Reserved;
 use crate::runs::{adjoins, last_address, size_name};
 use crate::space::Space;
+use serde::{Described, Serialize, Serializer};
 use std::alloc::{AllocError, Global};
 use std::fmt;
-use sv39_entry::{Entry, EntryFlags, PAGE_SIZE};
+use sv39_entry::{Entry, EntryFlags};
+use walk_lines::Hex;
 
 /// What is suspicious (own choice: most of it the standard permits).
 #[derive(Clone, Copy, PartialEq, Eq)]
@@ -209,32 +211,21 @@ impl fmt::Display for Short {
     }
 }
 
-/// The PTEs of a finding, as text.
+/// The PTEs of a finding from the first one on, as text.
 #[derive(Clone, Copy)]
-struct Where<'a>(&'a Finding);
+struct Where<'a>(&'a Finding, ValidEntry);
 
 impl fmt::Display for Where<'_> {
     fn fmt<W: fmt::Write>(&self, f: &mut fmt::Formatter<W>) -> fmt::Result {
-        let Finding {
-            subject,
-            count,
-            pages,
-            ..
-        } = *self.0;
-        let Subject {
-            space,
-            top,
-            entry,
-            ..
-        } = subject;
-        let Some(entry) = entry else {
-            return write!(f, "space {space}, its root");
-        };
-        let va = entry.first_address(top).0;
-        let (last, size) = (last_address(va, pages), size_name(entry.level));
+        let Where(finding, entry) = *self;
+        let (space, count) = (finding.subject.space, finding.count);
+        let va = entry.first_address(finding.subject.top).0;
+        let (last, size) = (last_address(va, finding.pages), size_name(entry.level));
         let (word, place) = (entry.word, entry.place());
-        write!(f, "space {space} 0x{va:x}-0x{last:x} ({count} x {size}, ")?;
-        write!(f, "pte 0x{word:x} at 0x{place:x})")
+        write!(
+            f,
+            "space {space} 0x{va:x}-0x{last:x} ({count} x {size}, pte 0x{word:x} at 0x{place:x})"
+        )
     }
 }
 
@@ -255,37 +246,47 @@ struct Because {
     top: u32,
 }
 
+impl Because {
+    /// Returns the text before the address in it, and the text after it.
+    fn texts(&self) -> (&'static str, &'static str) {
+        match self.reason {
+            Reason::TableOutside => ("its table ", " is outside the memory"),
+            Reason::TwoPlaces => ("its table ", " is also that of "),
+            Reason::TableWritable => ("user mode may write it, and it is the table of ", ""),
+            Reason::Reserved(reserved) => (
+                "V is set, but a walk takes it for invalid: ",
+                reserved.text(),
+            ),
+            Reason::WritableExecutable => ("user mode may write and execute it", ""),
+            Reason::AboveTrapframe => ("user mode may use it, at or above TRAPFRAME", ""),
+            Reason::SharedWritable => (
+                "user mode may write it, C is clear, and its frame is also mapped by ",
+                "",
+            ),
+            Reason::LeafOutside => ("it leads to ", ", outside the memory"),
+            Reason::Misaligned => ("a superpage at ", ", no multiple of its size"),
+            Reason::NeedsUpdate => (clear_bits(self.entry.word), " is a page fault"),
+        }
+    }
+
+    /// Returns the address in the text, or the physical page number of a table; `None` if the text has none.
+    fn address(&self) -> Option<Hex> {
+        let ppn = Entry::from_word(self.entry.word).ppn();
+        match self.reason {
+            Reason::TableOutside | Reason::TwoPlaces => Some(Hex(ppn)),
+            Reason::LeafOutside => Some(Hex(frame_of(self.entry, self.top) << 12)),
+            Reason::Misaligned => Some(Hex(ppn << 12)),
+            _ => None,
+        }
+    }
+}
+
 impl fmt::Display for Because {
     fn fmt<W: fmt::Write>(&self, f: &mut fmt::Formatter<W>) -> fmt::Result {
-        let Because { reason, entry, top } = *self;
-        let table = Entry::from_word(entry.word).ppn();
-        match reason {
-            Reason::TableOutside => write!(f, "its table 0x{table:x} is outside the memory"),
-            Reason::TwoPlaces => write!(f, "its table 0x{table:x} is also that of "),
-            Reason::TableWritable => write!(f, "user mode may write it, and it is the table of "),
-            Reason::Reserved(reserved) => {
-                write!(f, "V is set, but a walk takes it for invalid: {reserved}")
-            }
-            Reason::WritableExecutable => write!(f, "user mode may write and execute it"),
-            Reason::AboveTrapframe => { write!(f, "user mode may use it, at or above TRAPFRAME") }
-            Reason::SharedWritable => {
-                write!(
-                    f,
-                    "user mode may write it, C is clear, and its frame is also mapped by "
-                )
-            }
-            Reason::LeafOutside => {
-                let pa = frame_of(entry, top) << 12;
-                write!(f, "it leads to 0x{pa:x}, outside the memory")
-            }
-            Reason::Misaligned => {
-                let pa = table << 12;
-                write!(f, "a superpage at 0x{pa:x}, no multiple of its size")
-            }
-            Reason::NeedsUpdate => {
-                let clear = clear_bits(entry.word);
-                write!(f, "{clear} is a page fault")
-            }
+        let (before, after) = self.texts();
+        match self.address() {
+            Some(address) => write!(f, "{before}{address}{after}"),
+            None => write!(f, "{before}{after}"),
         }
     }
 }
@@ -294,22 +295,34 @@ impl fmt::Display for Because {
 #[derive(Clone, Copy)]
 pub struct FindingLine<'a>(pub &'a Finding);
 
+impl Described for FindingLine<'_> {}
+
+impl Serialize for FindingLine<'_> {
+    fn serialize<S: Serializer>(&self, out: &mut S) -> Result<(), S::Error> {
+        out.collect_str(self)
+    }
+}
+
 /// For example `space 0 0x1000-0x1fff (1 x 4 KiB, pte 0x200051df at 0x80012008): user mode may write and execute it`.
 impl fmt::Display for FindingLine<'_> {
     fn fmt<W: fmt::Write>(&self, f: &mut fmt::Formatter<W>) -> fmt::Result {
-        let finding = self.0;
-        let place = Where(finding);
-        let subject = finding.subject;
+        let Finding {
+            reason,
+            subject,
+            other,
+            ..
+        } = *self.0;
         let Some(entry) = subject.entry else {
-            let table = subject.root;
-            return write!(f, "{place}: table 0x{table:x} is outside the memory");
+            let (root, table) = (Short(subject), Hex(subject.root));
+            return write!(f, "{root}: table {table} is outside the memory");
         };
+        let place = Where(self.0, entry);
         let because = Because {
-            reason: finding.reason,
+            reason,
             entry,
             top: subject.top,
         };
-        match finding.other {
+        match other {
             Some(other) => {
                 let other = Short(other);
                 write!(f, "{place}: {because}{other}")

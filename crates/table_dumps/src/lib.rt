@@ -24,7 +24,7 @@ pub use laws::one_listing;
 pub use leaves::{Leaves, leaf_findings};
 pub use lines::{EntryLine, SpaceLine, TablesLine};
 pub use listing::{MOST_PTES, SpaceError, ValidEntry};
-pub use objects::{FindingObject, MappingObject, SpaceObject, SubjectObject, TableObject};
+pub use objects::{FindingObject, SpaceObject};
 pub use reserved::{Reserved, reserved_findings};
 pub use runs::{Run, RunLine, runs_of};
 pub use sharing::shared_findings;

@@ -29,8 +29,10 @@ impl fmt::Display for SpaceLine {
     fn fmt<W: fmt::Write>(&self, f: &mut fmt::Formatter<W>) -> fmt::Result {
         let (number, scheme) = (self.number, scheme_name(self.top));
         let (word, asid, root) = (self.satp.to_word(), self.satp.asid(), self.satp.ppn());
-        write!(f, "space {number}: satp 0x{word:x} ")?;
-        write!(f, "({scheme}, ASID {asid}, root 0x{root:x})")
+        write!(
+            f,
+            "space {number}: satp 0x{word:x} ({scheme}, ASID {asid}, root 0x{root:x})"
+        )
     }
 }
 
@@ -63,8 +65,10 @@ impl fmt::Display for EntryLine {
         let dots = dots(self.top.saturating_sub(entry.level));
         let (address, word) = (entry.first_address(self.top).0, entry.word);
         let physical = Entry::from_word(word).ppn() << 12;
-        write!(f, "{dots}0x{address:016x}: ")?;
-        write!(f, "pte 0x{word:016x} pa 0x{physical:016x}")
+        write!(
+            f,
+            "{dots}0x{address:016x}: pte 0x{word:016x} pa 0x{physical:016x}"
+        )
     }
 }
 

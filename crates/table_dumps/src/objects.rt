@@ -1,188 +1,151 @@
-// `SpaceObject`, an address space, and `FindingObject`, something suspicious, as they are in JSON; with `MappingObject` and `TableObject`.
+// `SpaceObject`, an address space, and `FindingObject`, something suspicious, which are written as JSON objects. Numbers in hexadecimal digits are
+// texts, `"0x.."`.
 
-use crate::findings::{Finding, Reason, Subject};
+use crate::findings::{Finding, FindingLine, Reason, Subject};
 use crate::frames::frame_of;
 use crate::lines::scheme_name;
 use crate::listing::ValidEntry;
 use crate::space::Space;
-use serde::Serialize;
-use std::alloc::{AllocError, Global};
+use json_objects::ObjectWriter;
+use serde::{Described, Serialize, Serializer};
 use sv39_entry::{Entry, Kind};
 use walk_lines::{Flags, Hex};
 use walk_rules::Extensions;
 
-/// A mapping: a leaf. Numbers in hexadecimal digits are texts, `"0x.."`.
-#[derive(Clone, Copy, Serialize)]
-pub struct MappingObject {
-    /// The first virtual address.
-    pub va: Hex,
-    /// The physical address to which it leads.
-    pub pa: Hex,
-    /// The level of the leaf: it maps 4,096 * 512^level bytes.
-    pub level: u32,
-    /// The word of the leaf.
-    pub pte: Hex,
-    /// Its flags, as `VRWXUGADC`, with a dash for each that is clear.
-    pub flags: Flags,
-    /// The physical address of the leaf's word.
-    pub place: Hex,
+/// A PTE of a space whose root's PTEs have level `top`: a mapping, or the pointer to a table.
+#[derive(Clone, Copy)]
+struct EntryObject {
+    entry: ValidEntry,
+    top: u32,
+    is_mapping: bool,
 }
 
-impl MappingObject {
-    /// Returns a mapping as it is in JSON.
-    fn of(mapping: ValidEntry, top: u32) -> MappingObject {
-        MappingObject {
-            va: Hex(mapping.first_address(top).0),
-            pa: Hex(frame_of(mapping, top) << 12),
-            level: mapping.level,
-            pte: Hex(mapping.word),
-            flags: Flags(mapping.word),
-            place: Hex(mapping.place()),
-        }
-    }
-}
-
-/// A page table to which a pointer leads.
-#[derive(Clone, Copy, Serialize)]
-pub struct TableObject {
-    /// The first virtual address that it maps.
-    pub va: Hex,
-    /// Its physical address.
-    pub pa: Hex,
-    /// The level of its PTEs.
-    pub level: u32,
-    /// The word of the pointer.
-    pub pte: Hex,
-    /// The physical address of the pointer's word.
-    pub place: Hex,
+/// The PTEs of one kind of a space: its mappings in ascending order of addresses, or the pointers to the tables below its root, in the order
+/// of their pages.
+#[derive(Clone, Copy)]
+struct EntryObjects<'a> {
+    space: &'a Space,
+    extensions: Extensions,
+    kind: Kind,
 }
 
 /// An address space: one object, on a line of its own.
-#[derive(Serialize, Drop)]
-pub struct SpaceObject {
+#[derive(Clone, Copy)]
+pub struct SpaceObject<'a> {
     /// Its number, in the order of the command line, from 0.
-    pub space: usize,
-    pub satp: Hex,
-    /// `"sv39"`, `"sv48"` or `"sv57"`.
-    pub scheme: &'static str,
-    pub asid: u16,
-    /// The physical address of the root table.
-    pub root: Hex,
-    /// The tables below the root, in the order of their pages.
-    pub tables: Vec<TableObject>,
-    /// All mappings, in ascending order of addresses.
-    pub mappings: Vec<MappingObject>,
-}
-
-/// Returns the tables below the root of a space.
-fn tables_of(
-    alloc: Global,
-    extensions: Extensions,
-    space: &Space,
-) -> Result<Vec<TableObject>, AllocError> {
-    let mut tables = Vec::new(alloc);
-    for entry in &space.entries {
-        let pte = Entry::from_word(entry.word);
-        if extensions.kind(pte, entry.level) == Kind::Pointer {
-            let table = TableObject {
-                va: Hex(entry.first_address(space.top).0),
-                pa: Hex(pte.ppn() << 12),
-                level: entry.level.saturating_sub(1),
-                pte: Hex(entry.word),
-                place: Hex(entry.place()),
-            };
-            tables.push(table)?;
-        }
-    }
-    Ok(tables)
-}
-
-impl SpaceObject {
-    /// Returns an address space as it is in JSON.
-    pub fn of(
-        alloc: Global,
-        extensions: Extensions,
-        number: usize,
-        space: &Space,
-    ) -> Result<SpaceObject, AllocError> {
-        let mut mappings = Vec::new(alloc);
-        for mapping in &space.mappings {
-            let mapping = MappingObject::of(*mapping, space.top);
-            mappings.push(mapping)?;
-        }
-        Ok(SpaceObject {
-            space: number,
-            satp: Hex(space.satp.to_word()),
-            scheme: scheme_name(space.top),
-            asid: space.satp.asid(),
-            root: Hex(space.satp.ppn() << 12),
-            tables: tables_of(alloc, extensions, space)?,
-            mappings,
-        })
-    }
+    pub number: usize,
+    pub space: &'a Space,
+    pub extensions: Extensions,
 }
 
 /// A PTE or a root that a finding names.
-#[derive(Clone, Copy, Serialize)]
-pub struct SubjectObject {
-    /// The number of the space.
-    pub space: usize,
-    /// The first virtual address; none for the root.
-    #[serde(skip_serializing_if = "Option::is_none")]
-    pub va: Option<Hex>,
-    /// The level of the PTE.
-    #[serde(skip_serializing_if = "Option::is_none")]
-    pub level: Option<u32>,
-    /// The word of the PTE.
-    #[serde(skip_serializing_if = "Option::is_none")]
-    pub pte: Option<Hex>,
-    /// The physical address of the PTE's word.
-    #[serde(skip_serializing_if = "Option::is_none")]
-    pub place: Option<Hex>,
-    /// The physical address that the PTE names, or that of the root table.
-    pub pa: Hex,
+#[derive(Clone, Copy)]
+struct SubjectObject(Subject);
+
+/// Something suspicious: one object, on a line of its own.
+#[derive(Clone, Copy)]
+pub struct FindingObject<'a>(pub &'a Finding);
+
+impl Described for EntryObject {}
+
+/// `va`: the first virtual address. `pa`: the physical address to which a mapping leads, or that of the table. `level`: of a mapping, which
+/// maps 4,096 * 512^level bytes, that of the leaf; of a table, that of its PTEs. `pte`: the PTE's word, and `place` its physical address.
+/// `flags`: of a mapping, as `VRWXUGADC`, with a dash for each that is clear.
+impl Serialize for EntryObject {
+    fn serialize<S: Serializer>(&self, out: &mut S) -> Result<(), S::Error> {
+        let EntryObject {
+            entry,
+            top,
+            is_mapping,
+        } = *self;
+        let (page, level, flags) = if is_mapping {
+            (frame_of(entry, top), entry.level, Some(Flags(entry.word)))
+        } else {
+            let table = Entry::from_word(entry.word).ppn();
+            (table, entry.level.saturating_sub(1), None)
+        };
+        let mut object = ObjectWriter::begin(out);
+        object.member("va", &Hex(entry.first_address(top).0));
+        object.member("pa", &Hex(page << 12));
+        object.member("level", &level);
+        object.member("pte", &Hex(entry.word));
+        object.maybe("flags", &flags);
+        object.member("place", &Hex(entry.place()));
+        object.finish()
+    }
 }
 
-impl SubjectObject {
-    /// Returns a PTE or a root as it is in JSON.
-    fn of(subject: Subject) -> SubjectObject {
-        let pa = Hex(subject.names() << 12);
-        let space = subject.space;
-        match subject.entry {
-            Some(entry) => SubjectObject {
-                space,
-                va: Some(Hex(entry.first_address(subject.top).0)),
-                level: Some(entry.level),
-                pte: Some(Hex(entry.word)),
-                place: Some(Hex(entry.place())),
-                pa,
-            },
-            None => SubjectObject {
-                space,
-                va: None,
-                level: None,
-                pte: None,
-                place: None,
-                pa,
-            },
+impl Described for EntryObjects<'_> {}
+
+impl Serialize for EntryObjects<'_> {
+    fn serialize<S: Serializer>(&self, out: &mut S) -> Result<(), S::Error> {
+        let EntryObjects {
+            space,
+            extensions,
+            kind,
+        } = *self;
+        out.begin_seq(None)?;
+        'entries: for entry in &space.entries {
+            if extensions.kind(Entry::from_word(entry.word), entry.level) == kind {
+                let object = EntryObject {
+                    entry: *entry,
+                    top: space.top,
+                    is_mapping: kind == Kind::Leaf,
+                };
+                object.serialize(out)?;
+            }
+        }
+        out.end_seq()
+    }
+}
+
+impl SpaceObject<'_> {
+    /// Returns the PTEs of one kind.
+    fn entries(&self, kind: Kind) -> EntryObjects<'_> {
+        EntryObjects {
+            space: self.space,
+            extensions: self.extensions,
+            kind,
         }
     }
 }
 
-/// Something suspicious: one object, on a line of its own.
-#[derive(Serialize, Drop)]
-pub struct FindingObject {
-    /// What it is, as `"writable and executable"`.
-    pub suspicious: &'static str,
-    /// The first PTE, or the root.
-    pub at: SubjectObject,
-    /// How many PTEs that follow one another it is about.
-    pub count: u64,
-    /// The first of the other PTEs that have a part in it.
-    #[serde(skip_serializing_if = "Option::is_none")]
-    pub with: Option<SubjectObject>,
-    /// The whole as text.
-    pub text: String,
+impl Described for SpaceObject<'_> {}
+
+/// `scheme`: `"sv39"`, `"sv48"` or `"sv57"`. `root`: the physical address of the root table. `tables`: those below the root.
+impl Serialize for SpaceObject<'_> {
+    fn serialize<S: Serializer>(&self, out: &mut S) -> Result<(), S::Error> {
+        let satp = self.space.satp;
+        let mut object = ObjectWriter::begin(out);
+        object.member("space", &self.number);
+        object.member("satp", &Hex(satp.to_word()));
+        object.member("scheme", &scheme_name(self.space.top));
+        object.member("asid", &satp.asid());
+        object.member("root", &Hex(satp.ppn() << 12));
+        object.member("tables", &self.entries(Kind::Pointer));
+        object.member("mappings", &self.entries(Kind::Leaf));
+        object.finish()
+    }
+}
+
+impl Described for SubjectObject {}
+
+/// `space`: the number of the space. Of a PTE, and not of a root, `va`: the first virtual address; `level`; `pte`: its word; `place`: the
+/// physical address of the word. `pa`: the physical address that the PTE names, or that of the root table.
+impl Serialize for SubjectObject {
+    fn serialize<S: Serializer>(&self, out: &mut S) -> Result<(), S::Error> {
+        let subject = self.0;
+        let mut object = ObjectWriter::begin(out);
+        object.member("space", &subject.space);
+        if let Some(entry) = subject.entry {
+            object.member("va", &Hex(entry.first_address(subject.top).0));
+            object.member("level", &entry.level);
+            object.member("pte", &Hex(entry.word));
+            object.member("place", &Hex(entry.place()));
+        }
+        object.member("pa", &Hex(subject.names() << 12));
+        object.finish()
+    }
 }
 
 /// Returns the name of a reason.
@@ -201,19 +164,21 @@ fn reason_name(reason: Reason) -> &'static str {
     }
 }
 
-impl FindingObject {
-    /// Returns a finding as it is in JSON, with its line.
-    pub fn of(finding: &Finding, text: String) -> FindingObject {
-        let with = match finding.other {
-            Some(other) => Some(SubjectObject::of(other)),
-            None => None,
-        };
-        FindingObject {
-            suspicious: reason_name(finding.reason),
-            at: SubjectObject::of(finding.subject),
-            count: finding.count,
-            with,
-            text,
+impl Described for FindingObject<'_> {}
+
+/// `suspicious`: what it is, as `"writable and executable"`. `at`: the first PTE, or the root. `count`: how many PTEs that follow one another it
+/// is about. `with`: the first of the other PTEs that have a part in it, if some have. `text`: the whole as text.
+impl Serialize for FindingObject<'_> {
+    fn serialize<S: Serializer>(&self, out: &mut S) -> Result<(), S::Error> {
+        let finding = self.0;
+        let mut object = ObjectWriter::begin(out);
+        object.member("suspicious", &reason_name(finding.reason));
+        object.member("at", &SubjectObject(finding.subject));
+        object.member("count", &finding.count);
+        if let Some(other) = finding.other {
+            object.member("with", &SubjectObject(other));
         }
+        object.member("text", &FindingLine(finding));
+        object.finish()
     }
 }

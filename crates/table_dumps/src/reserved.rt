@@ -5,7 +5,6 @@ use crate::findings::{Finding, Findings, Reason};
 use crate::listing::ValidEntry;
 use crate::space::Space;
 use crate::tables::Table;
-use std::fmt;
 use sv39_entry::{Entry, EntryFlags, Kind};
 use walk_rules::Extensions;
 
@@ -26,15 +25,16 @@ pub enum Reserved {
     NoTableBelow,
 }
 
-impl fmt::Display for Reserved {
-    fn fmt<W: fmt::Write>(&self, f: &mut fmt::Formatter<W>) -> fmt::Result {
+impl Reserved {
+    /// Returns its text.
+    pub fn text(self) -> &'static str {
         match self {
-            Reserved::WriteWithoutRead => write!(f, "W without R"),
-            Reserved::UpperBits => write!(f, "a bit of 60 to 54"),
-            Reserved::Napot => write!(f, "N, bit 63"),
-            Reserved::MemoryType => write!(f, "PBMT, bits 62 and 61"),
-            Reserved::PointerFlags => write!(f, "U, A or D in a pointer"),
-            Reserved::NoTableBelow => write!(f, "a pointer of level 0"),
+            Reserved::WriteWithoutRead => "W without R",
+            Reserved::UpperBits => "a bit of 60 to 54",
+            Reserved::Napot => "N, bit 63",
+            Reserved::MemoryType => "PBMT, bits 62 and 61",
+            Reserved::PointerFlags => "U, A or D in a pointer",
+            Reserved::NoTableBelow => "a pointer of level 0",
         }
     }
 }

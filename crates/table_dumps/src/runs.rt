@@ -87,8 +87,10 @@ impl fmt::Display for RunLine {
         let last = last_address(va, run.pages);
         let (pa, flags) = (run.frame << 12, Flags(run.first.word));
         let (count, size) = (run.count, size_name(run.first.level));
-        write!(f, "0x{va:016x}-0x{last:016x} pa 0x{pa:016x} ")?;
-        write!(f, "{flags} {count} x {size}")
+        write!(
+            f,
+            "0x{va:016x}-0x{last:016x} pa 0x{pa:016x} {flags} {count} x {size}"
+        )
     }
 }
 

@@ -28,6 +28,11 @@ impl Holding {
         }
     }
 
+    /// Whether another holding has a frame of it.
+    fn meets(&self, other: &Holding) -> bool {
+        other.end > self.start && other.start < self.end
+    }
+
     /// Whether user mode may write by it, and RSW bit 8, by which the kernel marks copy-on-write, is clear.
     fn is_open(&self) -> bool {
         is_writable(self.mapping) && !Entry::from_word(self.mapping.word).has(EntryFlags::COW)
@@ -64,8 +69,8 @@ pub fn held_frames(
     writable: bool,
 ) -> Result<Vec<Holding>, AllocError> {
     let mut held = Vec::new(alloc);
-    for (number, space) in spaces.iter().enumerate() {
-        hold(&mut held, number, space, writable)?;
+    'spaces: for number in 0..spaces.len() {
+        hold(&mut held, number, &spaces[number], writable)?;
     }
     held.sort_by_key(|holding| holding.start)?;
     Ok(held)
@@ -128,32 +133,25 @@ struct Pair {
     other: Holding,
 }
 
-/// Appends pairs of a mapping and one of another space whose first frame is as low or lower, and which has a frame of it.
-fn lower_pairs(held: &[Holding], pairs: &mut Vec<Pair>) -> Result<(), AllocError> {
+/// Appends pairs of a mapping and one of another space that has a frame of it: one whose first frame is as low or lower or, for `upper`, as high
+/// or higher.
+fn add_pairs(held: &[Holding], upper: bool, pairs: &mut Vec<Pair>) -> Result<(), AllocError> {
     let mut passed = Passed::NONE;
-    for one in held {
+    'held: for number in 0..held.len() {
+        let one = held[if upper {
+            held.len() - 1 - number
+        } else {
+            number
+        }];
         match passed.of_another(one.subject.space) {
-            Some(other) if one.is_open() && other.end > one.start => {
-                pairs.push(Pair { one: *one, other })?;
-            }
+            Some(other) if one.is_open() && one.meets(&other) => pairs.push(Pair { one, other })?,
             _ => {}
         }
-        passed.take_by_end(*one);
-    }
-    Ok(())
-}
-
-/// Appends pairs of a mapping and one of another space whose first frame is as high or higher, and which has a frame of it.
-fn upper_pairs(held: &[Holding], pairs: &mut Vec<Pair>) -> Result<(), AllocError> {
-    let mut passed = Passed::NONE;
-    for one in held.iter().rev() {
-        match passed.of_another(one.subject.space) {
-            Some(other) if one.is_open() && other.start < one.end => {
-                pairs.push(Pair { one: *one, other })?;
-            }
-            _ => {}
+        if upper {
+            passed.take_better(one);
+        } else {
+            passed.take_by_end(one);
         }
-        passed.take_better(*one);
     }
     Ok(())
 }
@@ -162,8 +160,8 @@ fn upper_pairs(held: &[Holding], pairs: &mut Vec<Pair>) -> Result<(), AllocError
 fn all_pairs(alloc: Global, spaces: &[Space]) -> Result<Vec<Pair>, AllocError> {
     let held = held_frames(alloc, spaces, false)?;
     let mut pairs = Vec::new(alloc);
-    lower_pairs(held.as_slice(), &mut pairs)?;
-    upper_pairs(held.as_slice(), &mut pairs)?;
+    add_pairs(held.as_slice(), false, &mut pairs)?;
+    add_pairs(held.as_slice(), true, &mut pairs)?;
     pairs.sort_by_key(|pair| (pair.one.subject.space, pair.one.mapping.page))?;
     Ok(pairs)
 }

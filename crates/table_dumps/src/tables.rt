@@ -72,8 +72,8 @@ fn all_tables(
     spaces: &[Space],
 ) -> Result<Vec<Table>, AllocError> {
     let mut tables = Vec::new(alloc);
-    for (number, space) in spaces.iter().enumerate() {
-        hold_tables(&mut tables, extensions, number, space)?;
+    'spaces: for number in 0..spaces.len() {
+        hold_tables(&mut tables, extensions, number, &spaces[number])?;
     }
     tables.sort_by_key(|table| table.number)?;
     Ok(tables)
