@@ -12,14 +12,12 @@ use std::io::{BufReader, Read};
 use text_builder::Text;
 
 /// Appends an answer, as text or as one JSON object, with a line feed.
-fn put(out: &mut Text, json: bool, line: u64, answer: Answer) -> Result<(), AllocError> {
+fn put(out: &mut Text, json: bool, line: u64, answer: &Answer) {
     if json {
-        let object = AnswerObject::of(out.allocator(), line, answer)?;
-        put_object(out, &object);
+        put_object(out, &AnswerObject { line, answer });
     } else {
-        put_answer(out, &answer);
+        put_answer(out, answer);
     }
-    Ok(())
 }
 
 /// Answers a line, with its line feed, if it is not empty and no comment. Returns whether it is faulty, or the outcome that it tells is not
@@ -34,9 +32,8 @@ fn answer_line(
     let Some(answer) = player.line(trim_return(without_feed(line)))? else {
         return Ok(false);
     };
-    let amiss = answer.is_amiss();
-    put(out, json, number, answer)?;
-    Ok(amiss)
+    put(out, json, number, &answer);
+    Ok(answer.is_amiss())
 }
 
 /// Answers the lines of a reader, to its end, unless printing fails. Answers are printed before more input is waited for. Returns whether

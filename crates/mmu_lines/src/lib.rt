@@ -10,8 +10,6 @@ mod search;
 mod writes;
 
 pub use line::Line;
-pub use mmu_reasons::{
-    Answer, AnswerObject, By, ErrorObject, Lock, OutcomeLine, OutcomeObject, SetObject, put_answer,
-};
+pub use mmu_reasons::{Answer, AnswerObject, By, Lock, OutcomeLine, put_answer};
 pub use player::MmuPlayer;
 pub use search::{Shrunk, shrink};

@@ -4,6 +4,8 @@ ghost use Rattle.mmu_reasons.specs.Answers.{IsError};
 
 use crate::outcomes::{OutcomeLine, put_outcome};
 use line_fields::Mistake;
+use serde::{Described, Serialize, Serializer};
+use std::fmt;
 use text_builder::Text;
 use walk_lines::Hex;
 
@@ -63,16 +65,35 @@ impl Answer {
     }
 }
 
+/// Why a fence has no effect, by its address.
+#[derive(Clone, Copy)]
+pub(crate) struct NoAddress(pub Hex);
+
+impl fmt::Display for NoAddress {
+    fn fmt<W: fmt::Write>(&self, f: &mut fmt::Formatter<W>) -> fmt::Result {
+        let address = self.0;
+        write!(f, "{address} is no address under the present MODE")
+    }
+}
+
+impl Described for NoAddress {}
+
+impl Serialize for NoAddress {
+    fn serialize<S: Serializer>(&self, out: &mut S) -> Result<(), S::Error> {
+        out.collect_str(self)
+    }
+}
+
 /// Appends outcomes, with `; ` between them.
 fn put_list(out: &mut Text, lines: &[OutcomeLine]) {
     if lines.is_empty() {
         return out.push_str("none");
     }
-    'lines: for (n, line) in lines.iter().enumerate() {
-        if n > 0 {
-            out.push_str("; ");
-        }
+    let mut before = "";
+    'lines: for line in lines {
+        out.push_str(before);
         put_outcome(out, line);
+        before = "; ";
     }
 }
 
@@ -108,7 +129,10 @@ fn put_text(out: &mut Text, answer: &Answer) {
         Answer::Satp(word) => write!(out, "satp {word}"),
         Answer::Locked(Lock::All) => out.push_str("locked"),
         Answer::Locked(Lock::Address) => out.push_str("address locked"),
-        Answer::NoEffect(va) => write!(out, "no effect: {va} is no address under the present MODE"),
+        Answer::NoEffect(va) => {
+            let reason = NoAddress(*va);
+            write!(out, "no effect: {reason}")
+        }
         Answer::Outcomes(outcomes) => put_list(out, outcomes.as_slice()),
         Answer::Permitted(line) => put_permitted(out, line),
         Answer::NotPermitted { reason, permitted } => {

@@ -20,7 +20,7 @@ mod ways;
 mod witness;
 
 pub use answers::{Answer, Lock, put_answer};
-pub use objects::{AnswerObject, ErrorObject, OutcomeObject, SetObject};
+pub use objects::AnswerObject;
 pub use outcomes::{By, OutcomeLine};
 pub use recorded::Recorded;
 pub use seeking::{seek, seek_by, seek_refusal};

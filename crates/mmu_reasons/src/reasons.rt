@@ -25,37 +25,36 @@ fn at(step: u32, text: &'static str) -> Option<Why> {
 fn why_reserved(extensions: Extensions, entry: Entry) -> Option<Why> {
     let word = entry.to_word();
     let pbmt = (word >> 61) % 4;
-    if (word >> 54) % 128 != 0 {
-        return at(3, "one of the bits 60 to 54 is set");
-    }
-    if word >= NAPOT && !extensions.svnapot {
-        return at(3, "bit 63 (N) is set, without Svnapot");
-    }
-    if pbmt != 0 && !extensions.svpbmt {
-        return at(3, "bits 62 and 61 (PBMT) are set, without Svpbmt");
-    }
-    if pbmt == 3 {
-        return at(3, "bits 62 and 61 (PBMT) are 3, which is reserved");
-    }
-    None
+    let text = if (word >> 54) % 128 != 0 {
+        "one of the bits 60 to 54 is set"
+    } else if word >= NAPOT && !extensions.svnapot {
+        "bit 63 (N) is set, without Svnapot"
+    } else if pbmt != 0 && !extensions.svpbmt {
+        "bits 62 and 61 (PBMT) are set, without Svpbmt"
+    } else if pbmt == 3 {
+        "bits 62 and 61 (PBMT) are 3, which is reserved"
+    } else {
+        return None;
+    };
+    at(3, text)
 }
 
 /// Why a PTE without reserved bits is neither a leaf nor a pointer at a level.
 fn why_no_kind(entry: Entry) -> Option<Why> {
     let word = entry.to_word();
-    if entry.has(EntryFlags::READ) || entry.has(EntryFlags::EXECUTE) {
-        return at(3, "bit 63 (N) is set, and this is no leaf of 64 KiB");
-    }
-    if word >= NAPOT || (word >> 61) % 4 != 0 {
-        return at(3, "a pointer with N or PBMT");
-    }
-    if entry.has(EntryFlags::USER)
+    let (step, text) = if entry.has(EntryFlags::READ) || entry.has(EntryFlags::EXECUTE) {
+        (3, "bit 63 (N) is set, and this is no leaf of 64 KiB")
+    } else if word >= NAPOT || (word >> 61) % 4 != 0 {
+        (3, "a pointer with N or PBMT")
+    } else if entry.has(EntryFlags::USER)
         || entry.has(EntryFlags::ACCESSED)
         || entry.has(EntryFlags::DIRTY)
     {
-        return at(3, "a pointer with U, A or D");
-    }
-    at(4, "a pointer at level 0")
+        (3, "a pointer with U, A or D")
+    } else {
+        (4, "a pointer at level 0")
+    };
+    at(step, text)
 }
 
 /// Why a PTE is invalid at a level.
@@ -74,28 +73,26 @@ fn why_invalid(extensions: Extensions, entry: Entry) -> Option<Why> {
 
 /// Why a leaf lacks the right for an access.
 fn why_no_right(status: Status, access: Access, entry: Entry) -> Option<Why> {
-    match access {
-        Access::Fetch if !entry.has(EntryFlags::EXECUTE) => at(5, "X is 0 at a fetch"),
+    let text = match access {
+        Access::Fetch if !entry.has(EntryFlags::EXECUTE) => "X is 0 at a fetch",
         Access::Load
-            if !entry.has(EntryFlags::READ) && !(status.mxr && entry.has(EntryFlags::EXECUTE)) => {
-            at(5, "R is 0 at a load")
-        }
-        Access::Store if !entry.has(EntryFlags::WRITE) => at(5, "W is 0 at a store"),
-        _ => None,
-    }
+            if !entry.has(EntryFlags::READ) && !(status.mxr && entry.has(EntryFlags::EXECUTE)) =>
+            "R is 0 at a load",
+        Access::Store if !entry.has(EntryFlags::WRITE) => "W is 0 at a store",
+        _ => return None,
+    };
+    at(5, text)
 }
 
 /// Why a leaf denies a mode.
 fn why_no_mode(status: Status, mode: Mode, access: Access, entry: Entry) -> Option<Why> {
-    match (mode, entry.has(EntryFlags::USER)) {
-        (Mode::User, false) => at(5, "U is 0, in U-mode"),
-        (Mode::Supervisor, true) if access == Access::Fetch => at(
-            5,
-            "U is 1, at a fetch in S-mode",
-        ),
-        (Mode::Supervisor, true) if !status.sum => at(5, "U is 1, in S-mode with SUM 0"),
-        _ => None,
-    }
+    let text = match (mode, entry.has(EntryFlags::USER)) {
+        (Mode::User, false) => "U is 0, in U-mode",
+        (Mode::Supervisor, true) if access == Access::Fetch => "U is 1, at a fetch in S-mode",
+        (Mode::Supervisor, true) if !status.sum => "U is 1, in S-mode with SUM 0",
+        _ => return None,
+    };
+    at(5, text)
 }
 
 /// Why a leaf that has the rights is a page fault.

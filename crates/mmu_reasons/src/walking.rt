@@ -66,7 +66,8 @@ fn steps_now(
 {
     let mut steps = [None; 5];
     let (mut table, mut global) = (recorded.unit.satp().ppn(), false);
-    'levels: for level in (0..top + 1).rev() {
+    'levels: for above in 0..top + 1 {
+        let level = top - above;
         let Some(step) = read(recorded, va, table, level, global, slip) else {
             return steps;
         };
