@@ -15,6 +15,8 @@ FENCE = re.compile(r"\(sfence ?([^ )]*) ?([^)]*)\)")
 OWN = [(r" (?:as before|of) line \d+", ""), (r"PTE 0x[0-9a-f]+", "PTE"), (r"ASID \d+", "ASID N"), (r"0x[0-9a-f]+", "ADDRESS")]
 EXCLUDED = re.compile(r"the fence \((sfence[^)]*)\) excludes (?:global )?(?:(leaf|pointer|invalid) PTE at level (\d)|.*)")
 LACKS = re.compile(r" leads there, but ([A-Z] is [01]|.*)")
+# What the walk comes to in place of a fault that a client tells, before an older cause.
+INSTEAD = re.compile(r"^[^;]*(?: grants the |: that is access fault |nothing refuses )[^;]*; or ")
 SATP_ASID = 0xFFFF << 44
 
 
@@ -26,7 +28,7 @@ def fence_form(found):
 
 def reason_of(answer):
     """The reason of an answer, without the numbers that only its transcript has."""
-    reason = FENCE.sub(fence_form, answer.removeprefix(DENIED).split(". Permitted: ")[0])
+    reason = FENCE.sub(fence_form, INSTEAD.sub("", answer.removeprefix(DENIED).split(". Permitted: ")[0]))
     for pattern, word in OWN:
         reason = re.sub(pattern, word, reason)
     return reason

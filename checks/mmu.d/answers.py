@@ -102,7 +102,7 @@ def wrong_leaf(seen, line, answer):
 
 def wrong_slip(seen, answer):
     """What is wrong with an answer that one check stands against an outcome; None if nothing is."""
-    found = re.search(r"PTE (0x[0-9a-f]+) at level (\d) is on the way there, but is (.*?)(?:; or |\. Permitted: )", answer)
+    found = re.search(r"PTE (0x[0-9a-f]+) at level (\d) is on the way there: (.*?)(?:; or |\. Permitted: )", answer)
     if found:
         word, level, lack = int(found[1], 16), int(found[2]), found[3]
         is_so = level > 0 and word & 15 == 1 and lack in INVALID and INVALID[lack](word, level) and kind_of(seen.profile, word, level) == "invalid"

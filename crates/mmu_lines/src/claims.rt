@@ -80,7 +80,7 @@ pub(crate) fn difference(told: Option<Update>, outcome: Outcome) -> &'static str
         (Some(_), None) if matches!(outcome, Outcome::Refused { .. }) => {
             "the access is refused before step 7, so the hart sets no PTE"
         }
-        (Some(_), None) => "the hart sets no PTE",
+        (Some(_), None) => "the PTE has what the access needs, so the hart sets nothing",
         (Some(told), Some(update)) if !is_at_place(told, update) => {
             "the PTE that the hart sets is at another place"
         }

@@ -305,9 +305,59 @@ impl MmuPlayer {
             return true;
         }
         if claim.by.is_some() {
-            return self.put_by(out, telling, request, claim);
+            return self.put_by(out, telling, request, claim)
+                || self.put_unknown(out, telling, request, claim);
         }
         self.put_difference(out, telling, claim) || self.put_refused(out, telling, request, claim)
+    }
+
+    /// Whether what a client tells is permitted by some PTE.
+    fn is_permitted(&self, claim: Claim) -> bool {
+        'found: for told in self.findings.found() {
+            if claim.is_outcome(told.outcome) {
+                return true;
+            }
+        }
+        false
+    }
+
+    /// Appends that no walk for the access ends or ended at the PTE that a client tells, if none does; returns whether it is so.
+    fn put_unknown(
+        &self,
+        out: &mut Text,
+        telling: &Telling<'_>,
+        request: access_history::Request,
+        claim: Claim,
+    ) -> bool
+        requires { 1 ≤ request.width }
+    {
+        let Some(word) = claim.by else {
+            return false;
+        };
+        if self
+            .witness
+            .has_word(self.profile.extensions, request, word)
+        {
+            return false;
+        }
+        let (va, word) = (Hex(request.va.0), Hex(word));
+        write!(out, "no walk for {va} ends or ended at a PTE {word}");
+        if self.is_permitted(claim) {
+            out.push_str("; ");
+            return self.put_other_pte(out, telling, claim);
+        }
+        true
+    }
+
+    /// Appends what is permitted in place of a fault that a client tells; returns whether the client tells one.
+    fn put_fault(&self, out: &mut Text, telling: &Telling<'_>, claim: Claim) -> bool {
+        if let End::Granted { .. } = claim.end {
+            return false;
+        }
+        if !self.put_other_pte(out, telling, claim) {
+            telling.put_walk(out, claim);
+        }
+        true
     }
 
     /// Appends why an outcome is not permitted.
@@ -318,9 +368,10 @@ impl MmuPlayer {
         if let Some(text) = by_address(&telling) {
             return out.push_str(text);
         }
-        let is_told = self.put_held(out, &telling, request, claim);
+        let is_held = self.put_held(out, &telling, request, claim);
+        let is_told = is_held || self.put_fault(out, &telling, claim);
         let extensions = self.profile.extensions;
-        let older = self.witness.older(extensions, request, claim, is_told);
+        let older = self.witness.older(extensions, request, claim, is_held);
         if older.is_nothing() {
             if !is_told && !self.put_other_pte(out, &telling, claim) {
                 telling.put_walk(out, claim);

@@ -38,7 +38,7 @@ impl Telling<'_> {
     }
 
     /// Appends why the access is an access fault by a leaf, in which the hart has set A and D or not.
-    fn put_fault_by(&self, out: &mut Text, step: &Step, is_set: bool) {
+    pub(crate) fn put_fault_by(&self, out: &mut Text, step: &Step, is_set: bool) {
         if step.level > 4 {
             return;
         }

@@ -295,45 +295,73 @@ impl Telling<'_> {
         write!(out, ": that is access fault {fault}, not page fault {page}")
     }
 
-    /// Appends at which PTE the walk ends. `pa`: where a client tells that the access is granted, if it tells so.
-    fn put_stop(&self, out: &mut Text, step: &Step, pa: Option<u64>) {
-        if let (None, Some(why)) = (pa, self.wrong_in(step)) {
-            out.push_str("the walk ends with a page fault: ");
-            put_pte(out, self.extensions, step);
-            let text = why.text;
-            return write!(out, ": {text}");
-        }
-        let level = step.level;
-        if level > 4 {
-            return;
-        }
-        if self.extensions.kind(step.entry, level) == Kind::Leaf {
-            return self.put_leaf(out, step, pa);
-        }
-        out.push_str("the walk ends at ");
-        put_pte(out, self.extensions, step)
+    /// Appends that the walk ends with a page fault, and why.
+    fn put_page_fault_at(&self, out: &mut Text, step: &Step, why: Why) {
+        out.push_str("the walk ends with a page fault: ");
+        put_pte(out, self.extensions, step);
+        let text = why.text;
+        write!(out, ": {text}")
     }
 
-    /// Appends where a leaf that is no page fault leads, or why the access is refused there. `pa`: where a client tells that it is granted, if
-    /// it tells so.
-    fn put_leaf(&self, out: &mut Text, step: &Step, pa: Option<u64>) {
-        let there = leads_to(step.entry, step.level.min(4), self.request.va);
-        if pa.is_none() && self.may_fail(there) {
-            self.put_fault_at(out, there);
-            return self.put_no_page_fault(out);
+    /// Appends at which PTE the walk ends, if a client tells that the access is granted at a physical address.
+    fn put_stop(&self, out: &mut Text, step: &Step, pa: u64) {
+        let level = step.level.min(4);
+        if self.extensions.kind(step.entry, level) != Kind::Leaf {
+            out.push_str("the walk ends at ");
+            return put_pte(out, self.extensions, step);
         }
-        self.put_leads(out, step, pa)
+        match self.wrong_in(step) {
+            Some(why) if leads_to(step.entry, level, self.request.va) == pa => {
+                self.put_page_fault_at(out, step, why)
+            }
+            _ => self.put_leads(out, step, Some(pa)),
+        }
     }
 
-    /// Appends at what the walk ends. `pa`: where a client tells that the access is granted, if it tells so.
-    fn put_end(&self, out: &mut Text, way: &Way, pa: Option<u64>) {
+    /// Appends at what the walk ends, if a client tells that the access is granted at a physical address.
+    fn put_end(&self, out: &mut Text, way: &Way, pa: u64) {
         match stop_of(self.extensions, way) {
             Some(Stop::At(step)) => self.put_stop(out, &step, pa),
+            Some(Stop::Unread { level, table }) => self.put_fault_below(out, level, table),
+            None => {}
+        }
+    }
+
+    /// Appends that a leaf grants an access for which a client tells a fault.
+    fn put_no_fault(&self, out: &mut Text, step: &Step, cause: u64) {
+        self.put_grants(out, step);
+        if self.request.privilege == Privilege::Machine {
+            out.push_str(", and MPRV is 1");
+        }
+        if cause == self.request.kind.access_fault_cause() {
+            let there = Hex(leads_to(step.entry, step.level.min(4), self.request.va));
+            write!(out, ", and nothing refuses it at {there}")
+        }
+    }
+
+    /// Appends to what the walk comes by the PTE at which it ends, in place of a fault that a client tells.
+    fn put_other_at(&self, out: &mut Text, way: &Way, step: &Step, cause: u64) {
+        if self.is_granted(way, step) {
+            return self.put_no_fault(out, step, cause);
+        }
+        match self.wrong_in(step) {
+            Some(why) if why.step != 7 || !self.extensions.ad.may_update() => {
+                self.put_page_fault_at(out, step, why)
+            }
+            _ => {
+                self.put_fault_by(out, step, false);
+                self.put_no_page_fault(out)
+            }
+        }
+    }
+
+    /// Appends what the walk comes to in place of a fault that a client tells.
+    fn put_other(&self, out: &mut Text, way: &Way, cause: u64) {
+        match stop_of(self.extensions, way) {
+            Some(Stop::At(step)) => self.put_other_at(out, way, &step, cause),
             Some(Stop::Unread { level, table }) => {
                 self.put_fault_below(out, level, table);
-                if pa.is_none() {
-                    self.put_no_page_fault(out)
-                }
+                self.put_no_page_fault(out)
             }
             None => {}
         }
@@ -368,25 +396,37 @@ impl Telling<'_> {
         write!(out, "the access isn't translated: {why}")
     }
 
-    /// Appends what the walk comes to in place of what a client tells.
-    pub fn put_walk(&self, out: &mut Text, claim: Claim) {
-        let pa = match claim.end {
-            End::Granted { pa, .. } => {
-                if self.put_translated(out, claim, pa) {
-                    return;
-                }
-                Some(pa)
+    /// Appends what the walk comes to in place of a fault that a client tells.
+    fn put_for_fault(&self, out: &mut Text, cause: u64) {
+        if self.put_other_cause(out, cause) {
+            return;
+        }
+        match self.walk() {
+            Some(way) => self.put_other(out, way, cause),
+            None if cause == self.request.kind.page_fault_cause() => self.put_bare(out, None),
+            None => {
+                let (access, pa) = (access_text(self.request.kind), Hex(self.request.va.0));
+                write!(out, "nothing refuses the {access} at {pa}")
             }
-            End::Refused(cause) => {
-                if self.put_other_cause(out, cause) {
-                    return;
-                }
-                None
-            }
-        };
+        }
+    }
+
+    /// Appends what the walk comes to in place of a grant at a physical address that a client tells.
+    fn put_for_grant(&self, out: &mut Text, claim: Claim, pa: u64) {
+        if self.put_translated(out, claim, pa) {
+            return;
+        }
         match self.walk() {
             Some(way) => self.put_end(out, way, pa),
-            None => self.put_bare(out, pa),
+            None => self.put_bare(out, Some(pa)),
+        }
+    }
+
+    /// Appends what the walk comes to in place of what a client tells.
+    pub fn put_walk(&self, out: &mut Text, claim: Claim) {
+        match claim.end {
+            End::Granted { pa, .. } => self.put_for_grant(out, claim, pa),
+            End::Refused(cause) => self.put_for_fault(out, cause),
         }
     }
 }

@@ -25,22 +25,30 @@ fn mode_name(satp: Satp) -> &'static str {
 }
 
 impl Telling<'_> {
-    /// Whether a way ends at a leaf, by which a client may mean that the access is granted there.
-    fn grants_at(&self, way: &Way, claim: Claim, pa: u64) -> bool {
+    /// Whether a leaf grants the access at a physical address.
+    fn grants_at(&self, step: &Step, pa: u64) -> bool {
+        step.level <= 4
+            && self.extensions.kind(step.entry, step.level) == Kind::Leaf
+            && self.wrong_in(step).is_none()
+            && leads_to(step.entry, step.level, self.request.va) == pa
+    }
+
+    /// Whether a client may mean the end of a way: a grant there, or a fault by the PTE that it tells.
+    fn is_meant(&self, way: &Way, claim: Claim) -> bool {
         let Some(step) = end_of(self.extensions, way) else {
             return false;
         };
-        step.level <= 4
-            && self.extensions.kind(step.entry, step.level) == Kind::Leaf
-            && self.wrong_in(&step).is_none()
-            && leads_to(step.entry, step.level, self.request.va) == pa
-            && claim.is_by(Some(step.entry.to_word()))
+        claim.is_by(Some(step.entry.to_word()))
+            && match claim.end {
+                End::Granted { pa, .. } => self.grants_at(&step, pa),
+                End::Refused(_) => claim.by.is_some(),
+            }
     }
 
-    /// The walk by a satp without a check, if by it a client may mean that the access is granted at a physical address.
-    fn slipped(&self, satp: Satp, slip: Slip, claim: Claim, pa: u64) -> Option<Way> {
+    /// The walk by a satp without a check, if a client may mean its end.
+    fn slipped(&self, satp: Satp, slip: Slip, claim: Claim) -> Option<Way> {
         let way = walk_without(self.recorded, self.extensions, self.request.va, satp, slip)?;
-        if self.grants_at(&way, claim, pa) {
+        if self.is_meant(&way, claim) {
             Some(way)
         } else {
             None
@@ -75,18 +83,18 @@ impl Telling<'_> {
                 if let Some(why) = self.no_pointer(&step) {
                     put_pte(out, self.extensions, &step);
                     let text = why.text;
-                    return write!(out, " is on the way there, but is {text}");
+                    return write!(out, " is on the way there: {text}");
                 }
             }
         }
     }
 
-    /// Appends by which other MODE of satp the access is granted at a physical address; returns whether it is by one.
-    fn put_other_mode(&self, out: &mut Text, claim: Claim, pa: u64) -> bool {
+    /// Appends by which other MODE of satp the walk ends as a client may mean; returns whether it does by one.
+    fn put_other_mode(&self, out: &mut Text, claim: Claim) -> bool {
         let satp = self.recorded.unit.satp();
         for (mode, name) in MODES.as_slice() {
             let other = Satp::from_word((mode << 60) + satp.to_word() % (1 << 60));
-            if self.slipped(other, Slip::None, claim, pa).is_some() {
+            if self.slipped(other, Slip::None, claim).is_some() {
                 let present = mode_name(satp);
                 write!(
                     out,
@@ -98,23 +106,23 @@ impl Telling<'_> {
         false
     }
 
-    /// Appends which one check of the walk stands against what a client tells to be granted, if one does; returns whether it does.
+    /// Appends which one check of the walk stands against what a client tells, if one does; returns whether it does.
     pub fn put_slip(&self, out: &mut Text, claim: Claim) -> bool {
-        let (End::Granted { pa, .. }, Some(walk)) = (claim.end, self.walk()) else {
+        let Some(walk) = self.walk() else {
             return false;
         };
-        if self.grants_at(walk, claim, pa) {
+        if self.is_meant(walk, claim) {
             return false;
         }
         let satp = self.recorded.unit.satp();
-        if let Some(way) = self.slipped(satp, Slip::Pmp, claim, pa) {
+        if let Some(way) = self.slipped(satp, Slip::Pmp, claim) {
             self.put_unread(out, &way);
             return true;
         }
-        if let Some(way) = self.slipped(satp, Slip::Pointer, claim, pa) {
+        if let Some(way) = self.slipped(satp, Slip::Pointer, claim) {
             self.put_no_pointer(out, &way);
             return true;
         }
-        self.put_other_mode(out, claim, pa)
+        self.put_other_mode(out, claim)
     }
 }

@@ -5,7 +5,7 @@ ghost use Rattle.std.specs.Prelude.{◌≤◌};
 
 use crate::fences::{Excluded, Fence, Fences, MOST_EVENTS};
 use crate::recorded::Recorded;
-use crate::seeking::{oldest, ways_to};
+use crate::seeking::{oldest, seek_by, ways_to};
 use crate::telling::Telling;
 use crate::ways::{LEVELS, ends_at_leaf, put_pte, step_at};
 use access_history::Request;
@@ -137,11 +137,24 @@ impl Witness {
         )
     }
 
-    /// Whether what a fence excludes is no PTE that was there only before addresses were translated.
-    fn was_walked(&self, what: &Excluded) -> bool {
+    /// Whether there was a fence of all before the one of this number.
+    fn had_fence(&self, number: usize) -> bool {
+        for before in 0..number.min(self.fences.len()) {
+            let fence = &self.fences[before];
+            if fence.va.is_none() && fence.asid.is_none() {
+                return true;
+            }
+        }
+        false
+    }
+
+    /// Whether what a fence excludes was there once all was set up: no PTE of the time before addresses were translated, and no PMP entries of the
+    /// time before the first fence.
+    fn was_used(&self, number: usize, what: &Excluded) -> bool {
         match what {
             Excluded::Pte(step) => self.unfenced.was_walked(step),
-            Excluded::Root | Excluded::Pmp => true,
+            Excluded::Pmp => self.had_fence(number),
+            Excluded::Root => true,
         }
     }
 
@@ -151,7 +164,7 @@ impl Witness {
             list: self.fences.as_slice(),
         };
         let (number, what) = fences.first_excluding(telling, told)?;
-        if !self.was_walked(&what) {
+        if !self.was_used(number, &what) {
             return None;
         }
         let (fence, told) = (*self.fences.get(number)?, *told);
@@ -276,6 +289,13 @@ impl Witness {
         )
     }
 
+    /// Whether a walk for the access ends at a PTE, by its word, or might end there without fences and with one ASID.
+    pub fn has_word(&self, extensions: Extensions, request: Request, word: u64) -> bool
+        requires { 1 ≤ request.width }
+    {
+        seek_by(&self.unspaced.unit, extensions, request, word).is_some()
+    }
+
     /// Returns why the outcome that a client tells is not permitted, if a fence or an ASID is the reason; `has_other`: there is one of another kind.
     pub fn older(
         &self,
@@ -292,28 +312,48 @@ impl Witness {
         Older { foreign, exclusion }
     }
 
-    /// Appends a PTE that a fence excludes, as before a line if memory has it no more, else by what older it was read, if by something.
+    /// The lowest of the pointers by which a PTE was read that memory has no more.
+    fn old_above(&self, va: Va, told: &Told, step: &Step) -> Option<Step> {
+        'levels: for level in step.level..LEVELS {
+            if let Some(above) = step_at(&told.way, level) {
+                if self.unfenced.is_old(va, &above) {
+                    return Some(above);
+                }
+            }
+        }
+        None
+    }
+
+    /// Appends a PTE that a fence excludes, as before a line if memory has it no more, else with what older it was read by, if by something: that
+    /// first where the fence is for no address, since it excludes pointers too.
     fn put_read_by(
         &self,
         out: &mut Text,
         extensions: Extensions,
         va: Va,
-        told: &Told,
+        exclusion: &Exclusion,
         step: &Step,
     ) {
+        let told = &exclusion.told;
         if self.unfenced.is_old(va, step) {
             return self.unfenced.put_step(out, extensions, step);
         }
-        put_pte(out, extensions, step);
-        'levels: for level in step.level..LEVELS {
-            if let Some(above) = step_at(&told.way, level) {
-                if self.unfenced.is_old(va, &above) {
-                    out.push_str(", read by ");
-                    return self.unfenced.put_step(out, extensions, &above);
-                }
+        match self.old_above(va, told, step) {
+            Some(above) if exclusion.fence.va.is_none() => {
+                self.unfenced.put_step(out, extensions, &above);
+                out.push_str(", which leads to ");
+                put_pte(out, extensions, step)
+            }
+            Some(above) => {
+                put_pte(out, extensions, step);
+                out.push_str(", read by ");
+                self.unfenced.put_step(out, extensions, &above)
+            }
+            None => {
+                put_pte(out, extensions, step);
+                self.unfenced.put_root(out, told, ", read by ")
             }
         }
-        self.unfenced.put_root(out, told, ", read by ")
     }
 
     /// Appends what a fence excludes.
@@ -323,7 +363,7 @@ impl Witness {
         let told = &exclusion.told;
         match &exclusion.what {
             Excluded::Root => self.unfenced.put_root(out, told, ""),
-            Excluded::Pte(step) => self.put_read_by(out, extensions, va, told, step),
+            Excluded::Pte(step) => self.put_read_by(out, extensions, va, exclusion, step),
             Excluded::Pmp => out.push_str("older PMP entries"),
         }
     }
