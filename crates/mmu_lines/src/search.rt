@@ -7,7 +7,7 @@ use crate::line::Line;
 use crate::player::MmuPlayer;
 use crate::playing::{denies, is_fine, play};
 use line_fields::field_at;
-use mmu_reasons::Answer;
+use mmu_reasons::{Answer, OutcomeLine};
 use std::alloc::{AllocError, Global};
 
 /// The most removals that are tried.
@@ -31,7 +31,7 @@ pub struct Shrunk {
 #[derive(Drop)]
 struct Search {
     found: Shrunk,
-    /// The numbers of the lines that are kept.
+    /// The numbers of the lines that are kept and may be removed.
     places: Vec<usize>,
     /// How many lines are tried to be removed at once.
     size: usize,
@@ -103,11 +103,11 @@ fn since_reset(alloc: Global, lines: &[Line], keeps: &[bool]) -> Result<Vec<bool
     Ok(kept)
 }
 
-/// The numbers of the lines that are kept.
-fn places_of(alloc: Global, keeps: &[bool]) -> Result<Vec<usize>, AllocError> {
+/// The numbers of the lines that are kept and may be removed: all but `profile`, without which the hart would be another.
+fn places_of(alloc: Global, lines: &[Line], keeps: &[bool]) -> Result<Vec<usize>, AllocError> {
     let mut places = Vec::new(alloc);
-    'keeps: for (n, keep) in keeps.iter().enumerate() {
-        if *keep {
+    'lines: for (n, line) in lines.iter().enumerate() {
+        if keeps.get(n) == Some(&true) && !begins_with(line, b"profile") {
             places.push(n)?;
         }
     }
@@ -130,6 +130,17 @@ fn is_same_text(one: &str, other: &str) -> bool {
     others.next().is_none()
 }
 
+/// Whether two outcomes are the same but for numbers of lines.
+fn is_same_outcome(one: Option<&OutcomeLine>, other: Option<&OutcomeLine>) -> bool {
+    match (one, other) {
+        (Some(one), Some(other)) => {
+            one.by == other.by && one.outcome == other.outcome && one.pte == other.pte
+        }
+        (None, None) => true,
+        _ => false,
+    }
+}
+
 /// Whether two answers are `NOT permitted` for the same reason, and the walk over memory comes to the same.
 fn is_same(one: &Answer, other: &Answer) -> bool {
     match (one, other) {
@@ -142,7 +153,8 @@ fn is_same(one: &Answer, other: &Answer) -> bool {
                 reason: other,
                 permitted: second,
             },
-        ) => is_same_text(one.as_str(), other.as_str()) && first.first() == second.first(),
+        ) => is_same_text(one.as_str(), other.as_str())
+            && is_same_outcome(first.first(), second.first()),
         _ => false,
     }
 }
@@ -212,7 +224,7 @@ impl Search {
             self.turn();
             return Ok(());
         };
-        self.places = places_of(alloc, found.keeps.as_slice())?;
+        self.places = places_of(alloc, lines, found.keeps.as_slice())?;
         self.take(found);
         self.turn();
         Ok(())
@@ -235,8 +247,8 @@ fn begun(alloc: Global, lines: &[Line], found: Shrunk) -> Result<Shrunk, AllocEr
     }
 }
 
-/// Returns the fewest lines by which the first line that is not permitted stays so, for the same reason: no single line more can be removed, unless
-/// the search was cut. `None` if no line is not permitted.
+/// Returns the fewest lines by which the first line that is not permitted stays so, for the same reason: no single line but `profile` can be
+/// removed, unless the search was cut. `None` if no line is not permitted.
 ///
 /// # Errors
 /// `AllocError`: the host is out of memory.
@@ -258,7 +270,7 @@ pub fn shrink(alloc: Global, lines: &[Line]) -> Result<Option<Shrunk>, AllocErro
             is_cut: false,
         },
     )?;
-    let places = places_of(alloc, found.keeps.as_slice())?;
+    let places = places_of(alloc, lines, found.keeps.as_slice())?;
     let mut search = Search {
         size: places.len() - places.len() / 2,
         is_done: places.is_empty(),
