@@ -1,4 +1,3 @@
 pub mod KernelSteps
 pub mod Living
 pub mod Opening
-pub mod SpaceSteps

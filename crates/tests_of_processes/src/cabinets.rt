@@ -1,69 +1,79 @@
-// `three_files`: the files that each story (test case) begins with. `changes_of`: which of their bytes differ in the end,
-// each as a `Change` (file, offset, value).
+// `cabinet`: makes the files of a test from a table (`Text`: length, mode and bytes). `changes_of`: which bytes of files differ
+// from their beginning, each as a `Change` (file, offset, value).
 
-use crate::file_pages::cabinet;
+ghost use Rattle.std.specs.Prelude.{◌≡◌};
+ghost use Rattle.process_model.specs.Files.{fits_file};
+
 use file_cabinet::Cabinet;
 use process_model::{Bytes, FileText};
 use std::alloc::{AllocError, Global};
 use std::test::Fail;
 
+/// A file: its length in bytes, whether it is writable, how many of its bytes are declared (zeros follow), and their values: the
+/// first one, and after how many bytes the next higher value comes, with 0 after 255.
+pub(crate) type Text = (usize, bool, usize, u8, usize);
+
 /// A byte of a file that differs from the beginning: the number of the file, the byte's offset, and its value.
 pub(crate) type Change = (usize, usize, u8);
 
-/// The length of each file in bytes, and whether it is writable.
-static FILES: [(usize, bool); 3] = [(5_000, true), (4_096, false), (10_003, true)];
-
-/// The byte of `file` at offset `place` in the beginning: `place / 256 + 64 * file`, modulo 256. It differs from one block
-/// of 256 bytes to the next, and from file to file.
-fn byte_at(file: usize, place: usize) -> u8 {
-    ((place / 256 + file % 4 * 64) % 256) as u8
+/// The byte of a declared file at offset `place` in the beginning.
+fn byte_at(text: Text, place: usize) -> u8 {
+    let (_, _, _, first, every) = text;
+    first.wrapping_add((place / every.max(1) % 256) as u8)
 }
 
-fn declared(
-    alloc: Global,
-    file: usize,
-    length: usize,
-    writable: bool,
-) -> Result<FileText, AllocError> {
+fn declared(alloc: Global, text: Text) -> Result<FileText, AllocError> {
     let mut bytes = Vec::new(alloc);
-    for place in 0..length {
-        bytes.push(byte_at(file, place))?;
+    for place in 0..text.2 {
+        bytes.push(byte_at(text, place))?;
     }
     Ok(FileText {
-        length,
-        writable,
+        length: text.0,
+        writable: text.1,
         bytes: Bytes::from_vec(bytes),
     })
 }
 
-/// A cabinet of the files of `FILES`: 5,000 bytes, writable; 4,096 bytes, read-only; 10,003 bytes, writable.
-///
-/// # Errors
-/// `Fail`: the host is out of memory.
-pub(crate) fn three_files(alloc: Global) -> Result<Cabinet, Fail> {
-    let mut texts = Vec::new(alloc);
-    for file in 0..FILES.len() {
-        let (length, writable) = FILES[file];
-        texts.push(declared(alloc, file, length, writable)?)?;
-    }
-    cabinet(alloc, &texts)
+/// Whether a file has at most 65,536 bytes, and declares no more bytes than its length.
+fn fits(text: &FileText) -> bool
+    ensures { result ≡ fits_file text.now }
+{
+    text.length <= 65_536 && text.bytes.as_slice().len() <= text.length
 }
 
-/// The bytes of the three files that differ from the beginning. A file whose length differs adds a change at its length,
-/// with value 0.
+/// A cabinet of these files.
+///
+/// # Errors
+/// `Fail`: there are more than 16 files, one does not fit (`fits`), or the host is out of memory.
+pub(crate) fn cabinet(alloc: Global, table: &[Text]) -> Result<Cabinet, Fail> {
+    let mut texts = Vec::new(alloc);
+    for number in 0..table.len() {
+        texts.push(declared(alloc, table[number])?)?;
+    }
+    if texts.len() > 16 || !texts.iter().all(fits) {
+        return Err(Fail::from("too large"));
+    }
+    Ok(Cabinet::new(alloc, &texts)?)
+}
+
+/// The bytes of files that differ from their beginning. A file whose length differs adds a change at its length, with value 0.
 ///
 /// # Errors
 /// `AllocError`: the host is out of memory.
-pub(crate) fn changes_of(alloc: Global, files: &Cabinet) -> Result<Vec<Change>, AllocError> {
+pub(crate) fn changes_of(
+    alloc: Global,
+    files: &Cabinet,
+    table: &[Text],
+) -> Result<Vec<Change>, AllocError> {
     let mut changes = Vec::new(alloc);
-    for file in 0..FILES.len() {
+    for file in 0..table.len() {
         let bytes = files.bytes(file).unwrap_or_default();
         for place in 0..bytes.len() {
-            if bytes[place] != byte_at(file, place) {
+            if bytes[place] != byte_at(table[file], place) {
                 changes.push((file, place, bytes[place]))?;
             }
         }
-        if bytes.len() != FILES[file].0 {
+        if bytes.len() != table[file].0 {
             changes.push((file, bytes.len(), 0))?;
         }
     }

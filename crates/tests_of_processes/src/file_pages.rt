@@ -1,74 +1,39 @@
 // Tests that `Cabinet` (the files of a machine) keeps the lengths and modes of sixteen files, and reads, lends and writes
-// pages at the ends of files, past them, and of files that do not exist: rows of file, offset, place and byte. And builders
-// of files for the tests of promises (`cabinet`, `three_files`).
+// pages at the ends of files, past them, and of files that do not exist: rows of file, offset, place and byte. `THREE_FILES`:
+// the files of these tests and of those of promises.
 
-ghost use Rattle.std.specs.Prelude.{◌≡◌};
-ghost use Rattle.process_model.specs.Files.{fits_file};
-
+use crate::cabinets::{Text, cabinet};
 use crate::rows::expect;
 use file_cabinet::{Cabinet, Files};
-use process_model::{Bytes, FileText};
-use std::alloc::{AllocError, Global};
 use std::test::Fail;
 
-/// A file of `length` bytes that declares the first `bytes` of them: 0, 1, 2 and so on, with 0 again after 255.
-fn declared(
-    alloc: Global,
-    length: usize,
-    writable: bool,
-    bytes: usize,
-) -> Result<FileText, AllocError> {
-    let mut kept = Vec::new(alloc);
-    for index in 0..bytes {
-        kept.push((index % 256) as u8)?;
-    }
-    Ok(FileText {
-        length,
-        writable,
-        bytes: Bytes::from_vec(kept),
-    })
-}
+/// Three files: 0 is writable, with 5,000 bytes of which 4,100 are declared; 1 is read-only and has no bytes; 2 is writable,
+/// with 65,536 bytes, all declared. Bytes are 0, 1, 2 and so on, with 0 again after 255.
+pub(crate) static THREE_FILES: [Text; 3] = [
+    (5_000, true, 4_100, 0, 1),
+    (0, false, 0, 0, 1),
+    (65_536, true, 65_536, 0, 1),
+];
 
-/// Files of these lengths that declare all their bytes. Those with an even number, counted from 0, are writable.
-fn filled(alloc: Global, lengths: &[usize]) -> Result<Vec<FileText>, AllocError> {
-    let mut texts = Vec::new(alloc);
-    for (number, length) in lengths.iter().enumerate() {
-        texts.push(declared(alloc, *length, number % 2 == 0, *length)?)?;
-    }
-    Ok(texts)
-}
-
-/// Whether a file has at most 65,536 bytes, and declares no more bytes than its length.
-fn fits(text: &FileText) -> bool
-    ensures { result ≡ fits_file text.now }
-{
-    text.length <= 65_536 && text.bytes.as_slice().len() <= text.length
-}
-
-/// A cabinet of these files.
-///
-/// # Errors
-/// `Fail`: there are more than 16 files, one does not fit (`fits`), or the host is out of memory.
-pub(crate) fn cabinet(alloc: Global, texts: &[FileText]) -> Result<Cabinet, Fail> {
-    if texts.len() > 16 || !texts.iter().all(fits) {
-        return Err(Fail::from("too large"));
-    }
-    Ok(Cabinet::new(alloc, texts)?)
-}
-
-/// A cabinet of three files: 0 is writable, with 5,000 bytes of which 4,100 are declared; 1 is read-only and has no bytes; 2
-/// is writable, with 65,536 bytes, all declared.
-///
-/// # Errors
-/// `Fail`: the host is out of memory.
-pub(crate) fn three_files(alloc: Global) -> Result<Cabinet, Fail> {
-    let texts = vec![in alloc;
-        declared(alloc, 5_000, true, 4_100)?,
-        declared(alloc, 0, false, 0)?,
-        declared(alloc, 65_536, true, 65_536)?,
-    ]?;
-    cabinet(alloc, &texts)
-}
+/// Sixteen files that declare all their bytes. Those with an even number are writable.
+static SIXTEEN_FILES: [Text; 16] = [
+    (0, true, 0, 0, 1),
+    (1, false, 1, 0, 1),
+    (100, true, 100, 0, 1),
+    (4_095, false, 4_095, 0, 1),
+    (4_096, true, 4_096, 0, 1),
+    (4_097, false, 4_097, 0, 1),
+    (5_000, true, 5_000, 0, 1),
+    (8_192, false, 8_192, 0, 1),
+    (12_288, true, 12_288, 0, 1),
+    (12_289, false, 12_289, 0, 1),
+    (20_000, true, 20_000, 0, 1),
+    (32_768, false, 32_768, 0, 1),
+    (40_000, true, 40_000, 0, 1),
+    (61_440, false, 61_440, 0, 1),
+    (65_535, true, 65_535, 0, 1),
+    (65_536, false, 65_536, 0, 1),
+];
 
 /// The length of a file, the number of its bytes, `None` if there is no such file; and whether it is writable.
 fn shape(files: &Cabinet, number: usize) -> (Option<usize>, Option<usize>, bool) {
@@ -79,23 +44,17 @@ fn shape(files: &Cabinet, number: usize) -> (Option<usize>, Option<usize>, bool)
     (files.length(number), bytes, files.writable(number))
 }
 
-static LENGTHS: [usize; 16] = [
-    0, 1, 100, 4_095, 4_096, 4_097, 5_000, 8_192, 12_288, 12_289, 20_000, 32_768, 40_000, 61_440,
-    65_535, 65_536,
-];
-
 #[test]
 fn keeps_sixteen_files(rt: HostRuntime) -> Result<(), Fail> {
-    let texts = filled(rt.alloc(), &LENGTHS)?;
-    let files = cabinet(rt.alloc(), &texts)?;
-    for number in 0..LENGTHS.len() {
-        let length = Some(LENGTHS[number]);
-        let wanted = (length, length, number % 2 == 0);
+    let files = cabinet(rt.alloc(), &SIXTEEN_FILES)?;
+    for number in 0..SIXTEEN_FILES.len() {
+        let length = Some(SIXTEEN_FILES[number].0);
+        let wanted = (length, length, SIXTEEN_FILES[number].1);
         expect(&rt, number, shape(&files, number), wanted);
     }
-    expect(&rt, 16, shape(&files, 16), (None, None, false));
-    let last = shape(&files, usize::MAX);
-    expect(&rt, usize::MAX, last, (None, None, false));
+    for number in [16, usize::MAX] {
+        expect(&rt, number, shape(&files, number), (None, None, false));
+    }
     Ok(())
 }
 
@@ -139,7 +98,7 @@ static READS: [(usize, usize, usize, u8); 22] = [
 
 #[test]
 fn reads_pages(rt: HostRuntime) -> Result<(), Fail> {
-    let mut files = three_files(rt.alloc())?;
+    let mut files = cabinet(rt.alloc(), &THREE_FILES)?;
     for number in 0..READS.len() {
         let (file, offset, place, byte) = READS[number];
         let mut page = [9; 4096];
@@ -189,7 +148,7 @@ fn writes_pages(rt: HostRuntime) -> Result<(), Fail> {
     page[4_095] = 9;
     for number in 0..WRITES.len() {
         let (file, offset, seen, at, byte) = WRITES[number];
-        let mut files = three_files(rt.alloc())?;
+        let mut files = cabinet(rt.alloc(), &THREE_FILES)?;
         files.write_page(file, offset, &page);
         let lengths = [files.length(0), files.length(1), files.length(2)];
         let kept = [Some(5_000), Some(0), Some(65_536)];

@@ -2,7 +2,8 @@
 // copies a page or is refused, by rows of files, offset, outcome and a byte then; and that each `PromiseError` becomes its
 // refusal.
 
-use crate::file_pages::{byte_at, three_files};
+use crate::cabinets::cabinet;
+use crate::file_pages::{THREE_FILES, byte_at};
 use crate::rows::expect;
 use file_cabinet::{Files, PromiseError};
 use process_model::Refusal;
@@ -13,7 +14,7 @@ static PAGES: [usize; 4] = [0, 1, 65_536, usize::MAX];
 
 #[test]
 fn promises_any_pages(rt: HostRuntime) -> Result<(), Fail> {
-    let mut files = three_files(rt.alloc())?;
+    let mut files = cabinet(rt.alloc(), &THREE_FILES)?;
     for number in 0..PAGES.len() {
         expect(&rt, number, files.promise(PAGES[number]), Ok(()));
     }
@@ -33,7 +34,7 @@ static COPIES: [PageCopy; 4] = [
 #[test]
 fn copies_over_any_files(rt: HostRuntime) -> Result<(), Fail> {
     let mut files = RefusingFiles {
-        files: three_files(rt.alloc())?,
+        files: cabinet(rt.alloc(), &THREE_FILES)?,
         until_refusal: Some(1),
     };
     for number in 0..COPIES.len() {

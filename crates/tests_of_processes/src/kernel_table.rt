@@ -1,50 +1,48 @@
 // Tests that `KernelTable`, xv6's `kvmmake`, leads addresses to the right frames (`Row`: an access, an address and its walk)
-// over both frame stores; maps each slot's kernel stack (slot: a place in the process table); takes the right number of
-// frames; and, if too few are free, returns its seat.
+// over both frame stores, and maps each slot's kernel stack (slot: a place in the process table); and, if too few frames are
+// free, returns its seat.
 
 ghost use Rattle.std.specs.Prelude.{◌≤◌, IfErr, IfOk};
 ghost use Rattle.address_space.specs.Agreement.{HoldsTrampoline};
 ghost use Rattle.frame_store.specs.Laws.{IsSeatOf, KeepsSeats};
 
-use crate::SCHEMES;
 use crate::rows::expect;
 use address_space::KernelTable;
 use frame_store::{FrameAccess, FrameSeat, FrameSupply, NoFrame, PlainFrames};
 use shared_frames::SharedFrames;
 use std::alloc::{AllocError, Global};
-use std::process::Abort;
 use std::sync::Wait;
 use sv39_entry::{Access, Scheme, Va};
 use table_walk::Walk;
 
-/// An access to an address, and the outcome of its walk.
-type Row = (Access, u64, Walk);
+/// An access to an address, and the outcome of its walk; `None`: it is a leaf, of another frame than that of the row before.
+type Row = (Access, u64, Option<Walk>);
 
 /// The outcomes of walks that end at a leaf of level 0: at byte 8 of frame 5, at the last eight bytes of frame 63, and at the
 /// first and the second instruction in frame 0, that of the trampoline.
-const AT_FRAME_5: Walk = Walk::Leaf {
+const AT_FRAME_5: Option<Walk> = Some(Walk::Leaf {
     word: 0x200014c7,
     level: 0,
     address: 0x80005008,
-};
+});
 
-const AT_FRAME_63: Walk = Walk::Leaf {
+const AT_FRAME_63: Option<Walk> = Some(Walk::Leaf {
     word: 0x2000fcc7,
     level: 0,
     address: 0x8003fff8,
-};
+});
 
-const AT_FRAME_0: Walk = Walk::Leaf {
+const AT_FRAME_0: Option<Walk> = Some(Walk::Leaf {
     word: 0x2000004b,
     level: 0,
     address: 0x80000000,
-};
+});
 
-const IN_TRAMPOLINE: Walk = Walk::Leaf {
+const IN_TRAMPOLINE: Option<Walk> = Some(Walk::Leaf {
     word: 0x2000004b,
     level: 0,
     address: 0x80000004,
-};
+});
 
 const FETCH: Access = Access::Fetch;
 
@@ -52,43 +50,71 @@ const LOAD: Access = Access::Load;
 
 const STORE: Access = Access::Store;
 
-const NO_LOAD: Walk = Walk::PageFault(13);
+const NO_LOAD: Option<Walk> = Some(Walk::PageFault(13));
+
+const NO_FETCH: Option<Walk> = Some(Walk::PageFault(12));
+
+const NO_STORE: Option<Walk> = Some(Walk::PageFault(15));
 
 /// For 64 frames and four stacks. The last address is not canonical in Sv39.
-static IN_SV39: [Row; 14] = [
+const IN_SV39: &[Row] = &[
     (LOAD, 0x80005008, AT_FRAME_5),
     (STORE, 0x80005008, AT_FRAME_5),
-    (FETCH, 0x80005008, Walk::PageFault(12)),
+    (FETCH, 0x80005008, NO_FETCH),
     (LOAD, 0x8003fff8, AT_FRAME_63),
     (LOAD, 0x80040000, NO_LOAD),
     (LOAD, 0x7ffffff8, NO_LOAD),
     (FETCH, 0x80000000, AT_FRAME_0),
-    (STORE, 0x80000000, Walk::PageFault(15)),
+    (STORE, 0x80000000, NO_STORE),
     (FETCH, 0x3ffffff004, IN_TRAMPOLINE),
     (LOAD, 0x3fffffe000, NO_LOAD),
     (LOAD, 0x3fffffc000, NO_LOAD),
     (LOAD, 0x3fffff5000, NO_LOAD),
+    (STORE, 0x3fffffd000, None),
+    (STORE, 0x3fffffb000, None),
+    (STORE, 0x3fffff9000, None),
+    (STORE, 0x3fffff7000, None),
     (LOAD, 0xffffffff80005008, NO_LOAD),
     (LOAD, 0x8080005008, NO_LOAD),
 ];
 
 /// The last address is canonical in Sv48, and another than that of frame 5.
-static IN_SV48: [Row; 14] = [
+const IN_SV48: &[Row] = &[
     (LOAD, 0x80005008, AT_FRAME_5),
     (STORE, 0x80005008, AT_FRAME_5),
-    (FETCH, 0x80005008, Walk::PageFault(12)),
+    (FETCH, 0x80005008, NO_FETCH),
     (LOAD, 0x8003fff8, AT_FRAME_63),
     (LOAD, 0x80040000, NO_LOAD),
     (LOAD, 0x7ffffff8, NO_LOAD),
     (FETCH, 0x80000000, AT_FRAME_0),
-    (STORE, 0x80000000, Walk::PageFault(15)),
+    (STORE, 0x80000000, NO_STORE),
     (FETCH, 0x7ffffffff004, IN_TRAMPOLINE),
     (LOAD, 0x7fffffffe000, NO_LOAD),
     (LOAD, 0x7fffffffc000, NO_LOAD),
     (LOAD, 0x7fffffff5000, NO_LOAD),
+    (STORE, 0x7fffffffd000, None),
+    (STORE, 0x7fffffffb000, None),
+    (STORE, 0x7fffffff9000, None),
+    (STORE, 0x7fffffff7000, None),
     (LOAD, 0xffffffff80005008, NO_LOAD),
     (LOAD, 0x8080005008, NO_LOAD),
 ];
+
+/// The physical address that a walk leads to; `None`: it faults.
+fn place(walk: Walk) -> Option<u64> {
+    match walk {
+        Walk::Leaf { address, .. } => Some(address),
+        _ => None,
+    }
+}
+
+/// Whether a walk has the outcome of a row, after one that led to the address `before`.
+fn is_right(walk: Walk, outcome: Option<Walk>, before: Option<u64>) -> bool {
+    match outcome {
+        Some(outcome) => walk == outcome,
+        None => place(walk).is_some() && place(walk) != before,
+    }
+}
 
 /// Builds the table for 64 frames and four stacks. Returns the first row whose walk has another outcome, and the table's
 /// seat; `NoFrame` with the seat if too few frames are free.
@@ -104,11 +130,14 @@ fn first_wrong<S: FrameSeat, F: FrameSupply<Seat = S>>(
     ensures keeps_dry { IfErr result (λ e. KeepsSeats F.invariant store.old seat store.new e.1) }
 {
     let mut kernel = KernelTable::build(store, seat, scheme, 64, 4)?;
+    let mut before = None;
     for row in rows {
         let (access, address, outcome) = *row;
-        if kernel.translate(store, Va(address), access) != outcome {
+        let walk = kernel.translate(store, Va(address), access);
+        if !is_right(walk, outcome, before) {
             return Ok((Some(*row), kernel.seat));
         }
+        before = place(walk);
     }
     Ok((None, kernel.seat))
 }
@@ -140,115 +169,44 @@ fn over_shared<R: Wait>(
     Ok((wrong, frames.close(seat).free))
 }
 
-/// Asserts that the table can be built over both stores, that it leaves so many frames free, and that no row is wrong.
-fn judge<R: Abort + Wait>(rt: &R, alloc: Global, scheme: Scheme, rows: &[Row], free: usize) {
-    expect(rt, 0, over_plain(alloc, scheme, rows), Ok((Ok(None), free)));
-    let shared = over_shared(rt, alloc, scheme, rows);
-    expect(rt, 1, shared, Ok((Ok(None), free)));
-}
-
-#[test]
-fn maps_alike_over_both_stores(rt: HostRuntime) {
-    judge(&rt, rt.alloc(), Scheme::Sv39, &IN_SV39, 54);
-    judge(&rt, rt.alloc(), Scheme::Sv48, &IN_SV48, 52);
-}
-
-/// Whether the table can be built, and each slot's kernel stack is mapped for stores, to another frame than that of the slot
-/// before.
-fn has_stacks(alloc: Global, scheme: Scheme) -> Result<bool, AllocError> {
-    let (mut store, seat) = PlainFrames::new(alloc, 64)?;
-    let Ok(mut kernel) = KernelTable::build(&mut store, seat, scheme, 64, 4) else {
-        return Ok(false);
-    };
-    let mut before = Some(0);
-    for slot in 0..4 {
-        let stack = scheme.kernel_stack(slot);
-        let walk = kernel.translate(&mut store, stack, Access::Store);
-        let found = match walk {
-            Walk::Leaf { address, .. } => Some(address),
-            _ => None,
-        };
-        if found.is_none() || found == before {
-            return Ok(false);
-        }
-        before = found;
-    }
-    Ok(true)
-}
-
-#[test]
-fn finds_stacks(rt: HostRuntime) {
-    for scheme in SCHEMES {
-        expect(&rt, 0, has_stacks(rt.alloc(), scheme), Ok(true));
-    }
-}
-
-/// The number of frames that the kernel's table leaves free; `None` if too few are free to build it.
-fn free_beside(
-    alloc: Global,
-    scheme: Scheme,
-    frames: u16,
-    slots: u16,
-) -> Result<Option<usize>, AllocError>
-    requires some_frames { 16 ≤ frames }
-    requires few_frames { frames ≤ 1024 }
-    requires some_slots { 1 ≤ slots }
-    requires few_slots { slots ≤ 64 }
-{
-    let (mut store, seat) = PlainFrames::new(alloc, usize::from(frames))?;
-    match KernelTable::build(&mut store, seat, scheme, frames, slots) {
-        Ok(_) => Ok(Some(store.report().free)),
-        Err(_) => Ok(None),
-    }
-}
-
 const SV39: Scheme = Scheme::Sv39;
 
 const SV48: Scheme = Scheme::Sv48;
 
-/// A scheme, a number of frames, one of slots, and the number of frames that the table leaves free.
-static FREE: [(Scheme, u16, u16, Option<usize>); 16] = [
-    (SV39, 64, 1, Some(57)),
-    (SV39, 64, 4, Some(54)),
-    (SV39, 64, 64, None),
-    (SV39, 70, 64, Some(0)),
-    (SV39, 512, 1, Some(505)),
-    (SV39, 512, 4, Some(502)),
-    (SV39, 512, 64, Some(442)),
-    (SV39, 513, 1, Some(505)),
-    (SV39, 513, 4, Some(502)),
-    (SV39, 513, 64, Some(442)),
-    (SV48, 64, 1, Some(55)),
-    (SV48, 71, 64, None),
-    (SV48, 72, 64, Some(0)),
-    (SV48, 512, 4, Some(500)),
-    (SV48, 513, 4, Some(500)),
-    (SV48, 513, 64, Some(440)),
-];
+/// A scheme, its rows, and the number of frames that the table leaves free.
+static TABLES: [(Scheme, &'static [Row], usize); 2] = [(SV39, IN_SV39, 54), (SV48, IN_SV48, 52)];
 
 #[test]
-fn takes_its_frames(rt: HostRuntime) {
-    for number in 0..FREE.len() {
-        let (scheme, frames, slots, told) = FREE[number];
-        // changes no row; it shows the limits to the proof
-        let (frames, slots) = (frames.clamp(16, 1024), slots.clamp(1, 64));
-        let free = free_beside(rt.alloc(), scheme, frames, slots);
-        expect(&rt, number, free, Ok(told));
+fn maps_alike_over_both_stores(rt: HostRuntime) {
+    for number in 0..TABLES.len() {
+        let (scheme, rows, free) = TABLES[number];
+        let plain = over_plain(rt.alloc(), scheme, rows);
+        expect(&rt, number, plain, Ok((Ok(None), free)));
+        let shared = over_shared(&rt, rt.alloc(), scheme, rows);
+        expect(&rt, number, shared, Ok((Ok(None), free)));
     }
 }
 
 /// Numbers of free frames, held frames and references, after a refusal.
 type Accounts = (usize, usize, usize);
 
-/// Builds a table that lacks one frame, and then a smaller one with the same seat. Returns the refusal, the accounts after
-/// it, and the number of free frames in the end; `None` if the first is not refused or the second is.
-fn built_after_refusal(alloc: Global) -> Result<Option<(NoFrame, Accounts, usize)>, AllocError> {
+/// Builds a table that lacks one frame, with a stack more than there is room for in 16 frames, and then with the same seat one
+/// of `slots` stacks. Returns the refusal, the accounts after it, and the number of free frames in the end; `None` if the first
+/// is not refused or the second is.
+fn built_after_refusal(
+    alloc: Global,
+    scheme: Scheme,
+    slots: u16,
+) -> Result<Option<(NoFrame, Accounts, usize)>, AllocError>
+    requires some { 1 ≤ slots }
+    requires few { slots ≤ 63 }
+{
     let (mut store, seat) = PlainFrames::new(alloc, 16)?;
-    let Err((refusal, seat)) = KernelTable::build(&mut store, seat, Scheme::Sv39, 16, 11) else {
+    let Err((refusal, seat)) = KernelTable::build(&mut store, seat, scheme, 16, slots + 1) else {
         return Ok(None);
     };
     let report = store.report();
-    match KernelTable::build(&mut store, seat, Scheme::Sv39, 16, 10) {
+    match KernelTable::build(&mut store, seat, scheme, 16, slots) {
         Ok(_) => Ok(Some((
             refusal,
             (report.free, report.held, report.references),
@@ -260,6 +218,7 @@ fn built_after_refusal(alloc: Global) -> Result<Option<(NoFrame, Accounts, usize
 
 #[test]
 fn gives_the_seat_back(rt: HostRuntime) {
-    let told = built_after_refusal(rt.alloc());
-    expect(&rt, 0, told, Ok(Some((NoFrame, (15, 1, 1), 0))));
+    let wanted = Ok(Some((NoFrame, (15, 1, 1), 0)));
+    expect(&rt, 0, built_after_refusal(rt.alloc(), SV39, 10), wanted);
+    expect(&rt, 1, built_after_refusal(rt.alloc(), SV48, 8), wanted);
 }

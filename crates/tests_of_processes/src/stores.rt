@@ -1,13 +1,13 @@
 // `play`: plays a story (a test case of one process: rows of an operation and its reply) over plain frames and over shared
-// frames, with files that may refuse one promise (a reservation of page I/O). `Story`, a struct: the frames, the page, the
-// promises, the rows and the changed bytes of a story; `End`, a struct: how it ended.
+// frames, with files that may refuse one promise (a reservation of page I/O). `Story`, a struct: the scheme, the frames, the
+// page, the promises, the rows, the changed bytes and the end of a story.
 
 ghost use Rattle.std.specs.Prelude.{IfErr, IfOk};
 ghost use Rattle.address_space.specs.Agreement.{HoldsTrampoline};
 ghost use Rattle.address_space.specs.Steps.{IsBare};
 ghost use Rattle.frame_store.specs.Laws.{IsSeatOf, KeepsSeats};
 
-use crate::cabinets::{Change, changes_of, three_files};
+use crate::cabinets::{Change, Text, cabinet, changes_of};
 use crate::initial_parts::one_page;
 use crate::operation::Row;
 use crate::perform::{Wrong, first_wrong};
@@ -22,31 +22,34 @@ use std::test::Fail;
 use sv39_entry::Scheme;
 use tests_of_files::RefusingFiles;
 
+/// The files that each story begins with. The byte of file n at offset k is k / 256 + 64 * n.
+static FILES: [Text; 3] = [
+    (5_000, true, 5_000, 0, 256),
+    (4_096, false, 4_096, 64, 256),
+    (10_003, true, 10_003, 128, 256),
+];
+
 /// What a process that begins with one page does.
 #[derive(Clone, Copy)]
 pub(crate) struct Story {
+    pub scheme: Scheme,
     /// The number of frames of the store, 1 to 256.
     pub frames: usize,
-    /// The number of the page, below that of TRAPFRAME. The heap begins after it, empty.
-    pub page: u64,
     /// How many promises the files make before they refuse one; `None`: they refuse none.
     pub promises: Option<usize>,
     pub rows: &'static [Row],
     /// The bytes of the three files that differ in the end.
     pub changes: &'static [Change],
+    /// How the story ends.
+    pub end: End,
 }
 
-/// How a story ended. `wrong`: its first wrong reply, `Some(None)` if there is none, `None` if the process could not be
-/// built. `free`: the number of free frames, once the process is destroyed.
-#[derive(Drop)]
-struct End {
-    wrong: Option<Wrong>,
-    free: usize,
-}
+/// How a story ends: its first wrong reply, `Some(None)` if there is none, `None` if the process could not be built; and the
+/// number of free frames, once the process is destroyed.
+pub(crate) type End = (Option<Wrong>, usize);
 
-/// Plays a story over plain frames and over shared frames, with the three files. Asserts that no reply is wrong, that the
-/// files differ in the bytes of the story in the end, and that all frames are free then. `number` is that of the story, for a
-/// failed assertion.
+/// Plays a story over plain frames and over shared frames, with the three files. Asserts that it ends as it must, and that the
+/// files differ in its bytes then. `number` is that of the story, for a failed assertion.
 ///
 /// # Errors
 /// `Fail`: the host is out of memory.
@@ -58,7 +61,7 @@ pub(crate) fn play<R: Abort + Wait>(
 ) -> Result<(), Fail> {
     for is_shared in [false, true] {
         let mut files = RefusingFiles {
-            files: three_files(alloc)?,
+            files: cabinet(alloc, &FILES)?,
             until_refusal: story.promises,
         };
         let end = if is_shared {
@@ -66,31 +69,16 @@ pub(crate) fn play<R: Abort + Wait>(
         } else {
             over_plain(alloc, story, &mut files)?
         };
-        let changed = changes_of(alloc, &files.files)?;
+        let changes = changes_of(alloc, &files.files, &FILES)?;
         let key = (number, is_shared);
-        let told = (key, end.wrong, end.free, changed.as_slice());
-        assert_eq!(rt; told, (key, Some(None), story.frames, story.changes));
+        let told = (key, end, changes.as_slice());
+        assert_eq!(rt; told, (key, story.end, story.changes));
     }
     Ok(())
 }
 
-/// Plays stories, one after another.
-///
-/// # Errors
-/// `Fail`: the host is out of memory.
-pub(crate) fn play_all<R: Abort + Wait>(
-    rt: &R,
-    alloc: Global,
-    stories: &[Story],
-) -> Result<(), Fail> {
-    for number in 0..stories.len() {
-        play(rt, alloc, number, &stories[number])?;
-    }
-    Ok(())
-}
-
-/// Builds the process, performs the rows and destroys it. Returns the first wrong reply and the seat, which holds nothing;
-/// `NoFrame` with the seat if too few frames are free to build it.
+/// Builds a process of page 0, performs the rows and destroys it. Returns the first wrong reply and the seat, which holds
+/// nothing; `NoFrame` with the seat if too few frames are free to build it.
 fn lived<S: FrameSeat, F: FrameSupply<Seat = S>, C: Files>(
     store: &mut F,
     seat: S,
@@ -103,9 +91,7 @@ fn lived<S: FrameSeat, F: FrameSupply<Seat = S>, C: Files>(
     ensures keeps { IfOk result (λ r. KeepsSeats F.invariant store.old seat store.new r.1) }
     ensures keeps_refused { IfErr result (λ e. KeepsSeats F.invariant store.old seat store.new e.1) }
 {
-    // changes no story; it shows the limit to the proof
-    let page = story.page.min(Scheme::Sv39.trapframe().page().number() - 1);
-    let mut space = Space::build(store, seat, Scheme::Sv39, &one_page(page))?;
+    let mut space = Space::build(store, seat, story.scheme, &one_page(story.scheme))?;
     let wrong = first_wrong(&mut space, store, files, story.rows);
     Ok((wrong, space.destroy(store)))
 }
@@ -117,8 +103,7 @@ fn over_plain<C: Files>(alloc: Global, story: &Story, files: &mut C) -> Result<E
         Ok((wrong, _)) => Some(wrong),
         Err(_) => None,
     };
-    let free = store.report().free;
-    Ok(End { wrong, free })
+    Ok((wrong, store.report().free))
 }
 
 fn over_shared<R: Wait, C: Files>(
@@ -134,6 +119,5 @@ fn over_shared<R: Wait, C: Files>(
         Ok((wrong, seat)) => (Some(wrong), seat),
         Err((_, seat)) => (None, seat),
     };
-    let free = frames.close(seat).free;
-    Ok(End { wrong, free })
+    Ok((wrong, frames.close(seat).free))
 }

@@ -5,18 +5,18 @@ use Rattle.tests_of_processes.proofs.kernel_table.first_wrong.Goals as goal
 pub loop-row-init : goal.loop-row-init
 loop-row-init g c = record { built = c.in_ok-kernel.ensures.built; keeps = c.in_ok-kernel.ensures.keeps }
 
-pub translate-requires-clause-fits : goal.translate-requires-clause-fits
-translate-requires-clause-fits g c = fits_after g.F.FrameAccess.invariant c.loop-row.invariant.keeps c.requires.fits
+pub translate-walk-requires-clause-fits : goal.translate-walk-requires-clause-fits
+translate-walk-requires-clause-fits g c = fits_after g.F.FrameAccess.invariant c.loop-row.invariant.keeps c.requires.fits
 
-pub translate-requires-clause-built : goal.translate-requires-clause-built
-translate-requires-clause-built g c = let built = c.loop-row.invariant.built in (64, 4, built.0, built.1, built.2)
+pub translate-walk-requires-clause-built : goal.translate-walk-requires-clause-built
+translate-walk-requires-clause-built g c = let built = c.loop-row.invariant.built in (64, 4, built.0, built.1, built.2)
 
-pub returns-then-ne-clause-keeps : goal.returns-then-ne-clause-keeps
-returns-then-ne-clause-keeps g c = λ others r. c.translate.ensures.keeps others (c.loop-row.invariant.keeps others r)
+pub returns-then-not-is_right-clause-keeps : goal.returns-then-not-is_right-clause-keeps
+returns-then-not-is_right-clause-keeps g c = λ others r. c.translate-walk.ensures.keeps others (c.loop-row.invariant.keeps others r)
 
 pub loop-row-preserved : goal.loop-row-preserved
 loop-row-preserved g c =
-    let walk = c.translate.ensures in
+    let walk = c.translate-walk.ensures in
     record {
       built = built_still _ _ _ _ _ _ 64 4 walk.view walk.root walk.scheme c.loop-row.invariant.built;
       keeps = λ others r. walk.keeps others (c.loop-row.invariant.keeps others r);

@@ -1,4 +1,4 @@
-use Rattle.tests_of_processes.proofs.KernelSteps.{opens}
+use Rattle.tests_of_processes.proofs.Opening.{opens}
 use Rattle.tests_of_processes.proofs.kernel_table.over_plain.Goals as goal
 
 pub first_wrong-requires-clause-opening : goal.first_wrong-requires-clause-opening

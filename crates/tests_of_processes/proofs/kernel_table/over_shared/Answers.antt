@@ -1,5 +1,5 @@
 use Rattle.shared_frames.specs.SeatsOfTable.{fits_still, may_step}
-use Rattle.tests_of_processes.proofs.KernelSteps.{opens}
+use Rattle.tests_of_processes.proofs.Opening.{opens}
 use Rattle.tests_of_processes.proofs.kernel_table.over_shared.Goals.{in-Ok, in-Err}
 use Rattle.tests_of_processes.proofs.kernel_table.over_shared.Goals as goal
 

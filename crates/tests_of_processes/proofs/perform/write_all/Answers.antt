@@ -3,8 +3,8 @@ use Rattle.frame_store.specs.Laws.{fits_after}
 use Rattle.tests_of_processes.proofs.Living.{alive_still, space_still}
 use Rattle.tests_of_processes.proofs.perform.write_all.Goals as goal
 
-pub returns-in_err-promise_write_back-clause-alive : goal.returns-in_err-promise_write_back-clause-alive
-returns-in_err-promise_write_back-clause-alive g c =
+pub returns-in-Err-clause-alive : goal.returns-in-Err-clause-alive
+returns-in-Err-clause-alive g c =
     let asked = c.promise_write_back.ensures in alive_still _ _ _ _ _ _ _ _ asked.reads.view asked.reads.root asked.reads.trapframe asked.reads.layout c.requires.alive
 
 pub write_back-requires-clause-fits : goal.write_back-requires-clause-fits
@@ -15,14 +15,14 @@ write_back-requires-clause-ready g c =
     let alive = c.requires.alive in
     let asked = c.promise_write_back.ensures in
     let still = space_still _ _ _ _ _ _ _ _ asked.reads.view asked.reads.root asked.reads.trapframe asked.reads.layout alive.0 alive.1 alive.2 in
-    (alive.0, alive.1, space_in_call still, c.in_ok-promise_write_back.ensures.promised alive.0 alive.1 alive.2)
+    (alive.0, alive.1, space_in_call still, c.in-Ok.ensures.promised alive.0 alive.1 alive.2)
 
-pub returns-clause-alive : goal.returns-clause-alive
-returns-clause-alive g c =
+pub returns-in-Ok-clause-alive : goal.returns-in-Ok-clause-alive
+returns-in-Ok-clause-alive g c =
     let asked = c.promise_write_back.ensures in
     let written = c.write_back.ensures in
     alive_still _ _ _ _ _ _ _ _ written.reads.view written.reads.root written.reads.trapframe written.reads.layout
     (alive_still _ _ _ _ _ _ _ _ asked.reads.view asked.reads.root asked.reads.trapframe asked.reads.layout c.requires.alive)
 
-pub returns-clause-keeps : goal.returns-clause-keeps
-returns-clause-keeps g c others r = c.write_back.ensures.keeps others (c.promise_write_back.ensures.keeps others r)
+pub returns-in-Ok-clause-keeps : goal.returns-in-Ok-clause-keeps
+returns-in-Ok-clause-keeps g c others r = c.write_back.ensures.keeps others (c.promise_write_back.ensures.keeps others r)

@@ -9,8 +9,8 @@ lived-requires-clause-fits g c = may_step _ _ c.in_ok-frames.seat c.supply-suppl
 pub lived-requires-clause-opening : goal.lived-requires-clause-opening
 lived-requires-clause-opening g c = opens _ c.in_ok-frames.ensures.view
 
-pub close-free-requires : goal.close-free-requires
-close-free-requires g c =
+pub close-requires : goal.close-requires
+close-requires g c =
     let before = c.in_ok-frames.ensures.fits in
     elim c.match-lived.branch [
       | in-Ok w ↦ rw w.wrong-is (fits_still _ _ _ c.in_ok-frames.seat w.in-Ok.seat c.supply-supply.ensures w.in-Ok.ensures.keeps before).1

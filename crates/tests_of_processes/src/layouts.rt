@@ -1,20 +1,18 @@
-// Tests that `frames_needed` returns how many frames a process with two runs of pages takes, and that `Space::build` builds
-// a space with exactly the frames that it needs and refuses with one fewer.
+// Tests that `frames_needed` returns how many frames a process with two runs of pages takes; and that `Layout::grant` denies
+// an access to the guard page by that rule, whatever rights its region has.
 
-ghost use Rattle.std.specs.Prelude.{◌≡◌, ◌+◌, ◌<◌, ◌≤◌, false, IsTrue, true};
+ghost use Rattle.std.specs.Prelude.{◌≡◌, ◌+◌, ◌≤◌, false, IsTrue, true};
 ghost use Rattle.address_space.specs.Layouts.{region_of};
-ghost use Rattle.address_space.specs.Parts.{AreParts};
 ghost use Rattle.process_model.specs.Order.{is_file};
 ghost use Rattle.process_model.specs.Regions.{makes_leaf};
 
+use crate::SCHEMES;
 use crate::rows::expect;
-use address_space::{Part, Region, RegionKind, Source, Space, frames_needed};
-use frame_store::PlainFrames;
-use std::alloc::{AllocError, Global};
+use address_space::{Layout, Part, Region, RegionKind, Source, frames_needed};
 use sv39_entry::{Access, Rights, Rule, Scheme, Va};
 
-/// A readable segment of `pages` pages from page `first` on, which begins with `bytes`.
-fn readable<'a>(first: u64, pages: u64, bytes: &'a [u8]) -> Part<'a>
+/// A readable segment of `pages` pages from page `first` on.
+fn readable<'a>(first: u64, pages: u64) -> Part<'a>
     ensures first { result.region.first ≡ first }
     ensures pages { result.region.pages ≡ pages }
     ensures leafy { makes_leaf (region_of result.region) ≡ true }
@@ -27,7 +25,7 @@ fn readable<'a>(first: u64, pages: u64, bytes: &'a [u8]) -> Part<'a>
         kind: RegionKind::Segment,
         source: Source::Image,
     };
-    Part { region, bytes }
+    Part { region, bytes: &[] }
 }
 
 /// A run of pages: its first page, and the number of pages.
@@ -48,8 +46,8 @@ fn needed(scheme: Scheme, lower: Run, upper: Run) -> Option<usize> {
         return None;
     }
     let parts = [
-        readable(lower.0, u64::from(lower.1), &[]),
-        readable(upper.0, u64::from(upper.1), &[]),
+        readable(lower.0, u64::from(lower.1)),
+        readable(upper.0, u64::from(upper.1)),
     ];
     Some(frames_needed(scheme, &parts))
 }
@@ -89,49 +87,19 @@ fn counts_frames(rt: HostRuntime) {
     }
 }
 
-/// Two pages from page 0 on, which begin with 5,000 bytes, and page 4.
-fn parts<'a>() -> [Part<'a>; 2]
-    ensures { (s : Scheme) → AreParts s result }
-{
-    [readable(0, 2, &[7; 5000]), readable(4, 1, &[])]
-}
-
-/// If a space could be built, the rules that deny a load in its second page and one in the page after it, `None` for a
-/// granted load; and the number of free frames then.
-type Built = (Option<(Option<Rule>, Option<Rule>)>, usize);
-
-fn built_over(alloc: Global, scheme: Scheme, frames: usize) -> Result<Built, AllocError>
-    requires some { 0 < frames }
-    requires few { frames ≤ 256 }
-{
-    let (mut store, seat) = PlainFrames::new(alloc, frames)?;
-    let refused = match Space::build(&mut store, seat, scheme, &parts()) {
-        Ok(space) => Some((
-            space.grant(Access::Load, Va(0x1ff8), 8).err(),
-            space.grant(Access::Load, Va(0x2000), 8).err(),
-        )),
-        Err(_) => None,
-    };
-    Ok((refused, store.report().free))
-}
-
-const LOADED: Option<(Option<Rule>, Option<Rule>)> = Some((None, Some(Rule::NoRegion)));
-
-/// A scheme, a number of frames, and what is built then. Beside frame 0 the space takes three pages, the trapframe, and five
-/// page tables, seven under Sv48.
-static BUILT: [(Scheme, usize, Built); 4] = [
-    (SV39, 10, (LOADED, 0)),
-    (SV39, 9, (None, 8)),
-    (SV48, 12, (LOADED, 0)),
-    (SV48, 11, (None, 10)),
-];
-
+/// The guard is page 5, and its region grants loads.
 #[test]
-fn builds_a_space(rt: HostRuntime) {
-    for number in 0..BUILT.len() {
-        let (scheme, frames, built) = BUILT[number];
-        // changes no row; it shows the limits to the proof
-        let told = built_over(rt.alloc(), scheme, frames.clamp(1, 256));
-        expect(&rt, number, told, Ok(built));
+fn guards_a_readable_page(rt: HostRuntime) {
+    for scheme in SCHEMES {
+        let region = Region {
+            first: 5,
+            pages: 1,
+            rights: Rights::READ,
+            kind: RegionKind::Guard,
+            source: Source::Image,
+        };
+        let layout = Layout::new(scheme, &[Part { region, bytes: &[] }]);
+        let told = layout.grant(Access::Load, Va(0x5000), 1);
+        expect(&rt, 0, told, Err(Rule::GuardPage));
     }
 }

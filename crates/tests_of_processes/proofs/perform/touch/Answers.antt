@@ -1,6 +1,6 @@
 use Rattle.frame_store.specs.Laws.{fits_after}
 use Rattle.tests_of_processes.proofs.Living.{space_still}
-use Rattle.tests_of_processes.proofs.perform.access.Goals as goal
+use Rattle.tests_of_processes.proofs.perform.touch.Goals as goal
 
 pub user_access-requires-clause-fits : goal.user_access-requires-clause-fits
 user_access-requires-clause-fits g c = fits_after g.F.FrameAccess.invariant c.translate-walk.ensures.keeps c.requires.fits
