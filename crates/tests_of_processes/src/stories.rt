@@ -141,6 +141,52 @@ const FRAME_GIVEN_BACK: &[Row] = &[
     (Serve(LOAD, 0x3fffffd000), Ready),
 ];
 
+/// File 0 has 5,000 bytes, 904 (0x388) of them in the second page.
+const TO_THE_END: &[Row] = &[
+    (Map(6_000, 3, 1, 0), MappedAt(0x3fffffc000)),
+    (Serve(STORE, 0x3fffffc000), Ready),
+    (Serve(STORE, 0x3fffffd000), Ready),
+    (
+        Touch(LOAD, 0x3fffffcff8, 8, 0),
+        Value(0x0f0f_0f0f_0f0f_0f0f),
+    ),
+    (
+        Touch(LOAD, 0x3fffffd000, 8, 0),
+        Value(0x1010_1010_1010_1010),
+    ),
+    (
+        Touch(LOAD, 0x3fffffd380, 8, 0),
+        Value(0x1313_1313_1313_1313),
+    ),
+    (Touch(LOAD, 0x3fffffd388, 8, 0), Value(0)),
+    (Touch(STORE, 0x3fffffd384, 4, 0xa1a2_a3a4), Stored),
+    (Touch(STORE, 0x3fffffd388, 4, 0xb1b2_b3b4), Stored),
+    (
+        Touch(LOAD, 0x3fffffd380, 8, 0),
+        Value(0xa1a2_a3a4_1313_1313),
+    ),
+    (Touch(LOAD, 0x3fffffd388, 8, 0), Value(0xb1b2_b3b4)),
+    (Look(0, 4_992), Value(0x1313_1313_1313_1313)),
+    (Unmap(0x3fffffc000, 6_000), Done),
+    (Look(0, 4_992), Value(0xa1a2_a3a4_1313_1313)),
+    (Look(0, 5_000), Value(0)),
+    (Touch(LOAD, 0x3fffffd380, 8, 0), Fault(13)),
+];
+
+/// Of three pages the first is unmapped, then the last; the middle one has the bytes of file 2 from offset 4,096 on.
+const PLACES: &[Row] = &[
+    (Map(12_288, 3, 1, 2), MappedAt(0x3fffffb000)),
+    (Unmap(0x3fffffb000, 4_096), Done),
+    (Unmap(0x3fffffd000, 4_096), Done),
+    (Serve(STORE, 0x3fffffc000), Ready),
+    (
+        Touch(LOAD, 0x3fffffc000, 8, 0),
+        Value(0x9090_9090_9090_9090),
+    ),
+    (Touch(STORE, 0x3fffffc000, 2, 0xc1c2), Stored),
+    (Unmap(0x3fffffc000, 4_096), Done),
+];
+
 const ONLY_LOADED: &[Row] = &[
     (Map(4_096, 3, 1, 0), MappedAt(0x3fffffd000)),
     (Map(4_096, 3, 1, 0), MappedAt(0x3fffffc000)),
@@ -168,7 +214,7 @@ const ONLY_LOADED: &[Row] = &[
     (Unmap(0x3fffffb000, 4_096), Done),
 ];
 
-/// File 0 has 5,000 bytes, 904 of them in the second page; file 2 has 10,003 bytes, 1,811 (0x713) of them in the third page.
+/// File 2 has 10,003 bytes, 1,811 (0x713) of them in the third page.
 const ALL_MAPPINGS: &[Row] = &[
     (Map(5_000, 3, 1, 0), MappedAt(0x3fffffc000)),
     (Map(10_003, 3, 1, 2), MappedAt(0x3fffff9000)),
@@ -263,7 +309,7 @@ const UNSERVED: &[Row] = &[
 ];
 
 /// Beside a process that cannot be built frame 0 is taken.
-static STORIES: [Story; 17] = [
+static STORIES: [Story; 19] = [
     Story {
         scheme: SV39,
         frames: 7,
@@ -351,6 +397,27 @@ static STORIES: [Story; 17] = [
         rows: FRAME_GIVEN_BACK,
         changes: &[],
         end: (Some(None), 9),
+    },
+    Story {
+        scheme: SV39,
+        frames: 12,
+        promises: None,
+        rows: TO_THE_END,
+        changes: &[
+            (0, 4_996, 0xa4),
+            (0, 4_997, 0xa3),
+            (0, 4_998, 0xa2),
+            (0, 4_999, 0xa1),
+        ],
+        end: (Some(None), 12),
+    },
+    Story {
+        scheme: SV39,
+        frames: 12,
+        promises: None,
+        rows: PLACES,
+        changes: &[(2, 4_096, 0xc2), (2, 4_097, 0xc1)],
+        end: (Some(None), 12),
     },
     Story {
         scheme: SV39,
