@@ -1,7 +1,6 @@
 //! Tests that `script_reader`, `audit_player` and the texts of replies are right where rows (scripts with their answers,
 //! `row_player`) cannot show it: long scripts and texts, scripts cut at each byte, readers and writers that fail, limits of files
-//! for threads, what a script declares. That `handouts` finds the lines of a handout in a student's file, and that
-//! `grade_reports` says what is wrong. And for `hart_threads`, `hart_calls` and `file_shelf`: that harts are threads, that a hook
+//! for threads, what a script declares. And for `hart_threads`, `hart_calls` and `file_shelf`: that harts are threads, that a hook
 //! (`Gate`) sees each call with no lock held, and eight calls of a process before those of the next, which calls lock the shelf
 //! (the files that threads share), when it is full, that journals (a process's calls with their replies) are right, and that no
 //! frame is lost. No crate depends on it.
@@ -15,8 +14,6 @@ mod broken_streams;
 mod command_lines;
 #[cfg(test)]
 mod gates;
-#[cfg(test)]
-mod handout_grades;
 #[cfg(test)]
 mod journals;
 #[cfg(test)]
