@@ -1,11 +1,16 @@
-// `FailingReader` and `FailingWriter`, structs that fail after a number of bytes; and tests that `play` returns `Io` when a
-// read or a write fails after each such number, and has then written nothing, or the beginning of the text.
+// `FailingReader` and `FailingWriter`, structs that fail after a number of bytes; and tests that `play` and `play_threads` return
+// `Io` when a read or a write fails after each such number, and have then written nothing, or the beginning of the text.
+
+ghost use Rattle.std.specs.Prelude.{◌≤◌, length};
 
 use crate::mapped_file::script_and_text;
-use audit_player::{PlayError, Reader, Writer, play};
+use audit_player::{PlayError, Reader, Sink, Source, Writer, play, play_threads};
+use std::alloc::Global;
 use std::io;
 use std::io::{Read, Write};
+use std::sync::Wait;
 use std::test::Fail;
+use std::thread::Threads;
 
 /// A reader that gives one byte in each call, and an error after the last byte.
 #[derive(Drop)]
@@ -53,43 +58,98 @@ impl Write for FailingWriter {
     }
 }
 
-/// Each read fails in turn, the one that would find the end of the script too: many of the prefixes before it are whole
-/// scripts.
+/// A file for threads with a parent and its child, and (`FAMILY_TEXT`) the text that is written for it.
+const FAMILY: &str =
+    "image 0x1000:0x1000:rw:-\npool 64 4\nlist 0\nfork 1\nstore 0x1000 8 1\nlist 1\nload 0x1000 8\nstart 0 0\n";
+
+const FAMILY_TEXT: &str = "process 0 calls 3 exit 0\nprocess 0.0 calls 2 exit 0\nfree 54 of 54\n";
+
+/// Plays a script, or, with `on_threads`, a file for threads on two harts.
+fn play_one<T: Threads + Wait + Sync, R: Source, W: Sink>(
+    rt: &T,
+    alloc: Global,
+    on_threads: bool,
+    reader: &mut R,
+    writer: &mut W,
+) -> Result<(), PlayError> {
+    if on_threads {
+        play_threads(rt, alloc, reader, writer, 2)
+    } else {
+        play(alloc, reader, writer)
+    }
+}
+
+/// Lets each read fail in turn, also the one that would find the end of the file. Returns after how many bytes the first failure
+/// came that was not told: the result is not `Io`, or some text was written. `None`: each was told.
+fn first_untold_read<T: Threads + Wait + Sync>(
+    rt: &T,
+    alloc: Global,
+    on_threads: bool,
+    file: &[u8],
+) -> Option<usize> {
+    for count in 0..=file.len() {
+        let mut text = Vec::new(alloc);
+        let bytes = &file[..count];
+        let mut reader = Reader::new(FailingReader { bytes });
+        let mut writer = Writer::new(&mut text);
+        let result = play_one(rt, alloc, on_threads, &mut reader, &mut writer);
+        if result != Err(PlayError::Io) || !text.is_empty() {
+            return Some(count);
+        }
+    }
+    None
+}
+
+/// Lets each write fail in turn; with room for the whole text none does. Returns the least room, in bytes, for which the result is
+/// wrong, or other bytes were written than the first ones of `text`, as many as there is room for. `None`: there is none.
+fn first_untold_write<T: Threads + Wait + Sync>(
+    rt: &T,
+    alloc: Global,
+    on_threads: bool,
+    file: &[u8],
+    text: &[u8],
+    tells: bool,
+) -> Option<usize> {
+    for room in 0..=text.len() {
+        let mut reader = Reader::new(file);
+        let mut writer = Writer::new(FailingWriter {
+            written: Vec::new(alloc),
+            room,
+            tells,
+        });
+        let result = play_one(rt, alloc, on_threads, &mut reader, &mut writer);
+        let fits = room == text.len();
+        let want = if fits { Ok(()) } else { Err(PlayError::Io) };
+        if result != want || writer.into_inner().written.as_slice() != &text[..room] {
+            return Some(room);
+        }
+    }
+    None
+}
+
+/// Many of the prefixes before a failed read are whole scripts.
 #[test]
 fn tells_each_failed_read(rt: HostRuntime) -> Result<(), Fail> {
     let (script, _) = script_and_text(rt.alloc())?;
-    let whole = script.as_bytes();
-    for count in 0..=whole.len() {
-        let mut text = Vec::new(rt.alloc());
-        let bytes = &whole[..count];
-        let mut reader = Reader::new(FailingReader { bytes });
-        let mut writer = Writer::new(&mut text);
-        let result = play(rt.alloc(), &mut reader, &mut writer);
-        assert_eq!(rt; result, Err(PlayError::Io), "after {count} bytes");
-        assert!(rt; text.is_empty(), "after {count} bytes");
-    }
+    let untold = [
+        first_untold_read(&rt, rt.alloc(), false, script.as_bytes()),
+        first_untold_read(&rt, rt.alloc(), true, FAMILY.as_bytes()),
+    ];
+    assert_eq!(rt; untold, [None, None]);
     Ok(())
 }
 
-/// Each write fails in turn; with room for the whole text none does.
 #[test]
 fn tells_each_failed_write(rt: HostRuntime) -> Result<(), Fail> {
     let (script, text) = script_and_text(rt.alloc())?;
-    let whole = text.as_bytes();
-    for room in 0..=whole.len() {
-        for tells in [true, false] {
-            let mut reader = Reader::new(script.as_bytes());
-            let mut writer = Writer::new(FailingWriter {
-                written: Vec::new(rt.alloc()),
-                room,
-                tells,
-            });
-            let result = play(rt.alloc(), &mut reader, &mut writer);
-            let fits = room == whole.len();
-            let want = if fits { Ok(()) } else { Err(PlayError::Io) };
-            assert_eq!(rt; result, want, "with room for {room}");
-            assert_eq!(rt; writer.into_inner().written.as_slice(), &whole[..room]);
-        }
-    }
+    let (script, text) = (script.as_bytes(), text.as_bytes());
+    let (family, end) = (FAMILY.as_bytes(), FAMILY_TEXT.as_bytes());
+    let untold = [
+        first_untold_write(&rt, rt.alloc(), false, script, text, true),
+        first_untold_write(&rt, rt.alloc(), false, script, text, false),
+        first_untold_write(&rt, rt.alloc(), true, family, end, true),
+        first_untold_write(&rt, rt.alloc(), true, family, end, false),
+    ];
+    assert_eq!(rt; untold, [None, None, None, None]);
     Ok(())
 }

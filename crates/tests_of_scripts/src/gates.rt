@@ -2,13 +2,18 @@
 // hart (`Pairs`, a struct); and that no lock is held then: while a hook holds a call, the other hart goes on (`HoldsZero`, a
 // struct).
 
+ghost use Rattle.std.specs.Prelude.{◌≤◌};
+
 use crate::bounded_waits::is_reached;
-use audit_player::{lend_lists, lend_starts, run_pool};
+use crate::players::{Look, run_file};
+use hart_calls::Finished;
 use hart_threads::Gate;
 use process_model::Call;
-use script_reader::ThreadScript;
+use std::alloc::Global;
+use std::sync::Wait;
 use std::sync::atomic::{AtomicU64, Ordering};
 use std::test::Fail;
+use std::thread::Threads;
 
 /// A number above 0 by which to tell calls apart: made of the name of the process, the call and its fields.
 fn number_of(name: &[u64], call: Call<'_>) -> u64 {
@@ -21,15 +26,16 @@ fn number_of(name: &[u64], call: Call<'_>) -> u64 {
         Call::Exit { status } => (6, status.unsigned_abs() as u64, 0),
         _ => (7, 0, 0),
     };
-    let mut number = kind;
-    for part in [first, second] {
-        number = number.wrapping_mul(1_000_003).wrapping_add(part);
-    }
+    let mut number = mixed(mixed(kind, first), second);
     for part in name {
-        number = number.wrapping_mul(1_000_003).wrapping_add(*part);
-        number = number.wrapping_add(1);
+        number = mixed(number, *part).wrapping_add(1);
     }
     number.max(1)
+}
+
+/// A number made of two.
+fn mixed(number: u64, part: u64) -> u64 {
+    number.wrapping_mul(1_000_003).wrapping_add(part)
 }
 
 /// A hook that checks that calls enter and leave in pairs, by hart, process and call, and counts the pairs.
@@ -42,6 +48,24 @@ struct Pairs {
 }
 
 impl Pairs {
+    /// No call has entered.
+    fn new() -> Pairs {
+        Pairs {
+            inside: [
+                AtomicU64::new(0),
+                AtomicU64::new(0),
+                AtomicU64::new(0),
+                AtomicU64::new(0),
+                AtomicU64::new(0),
+                AtomicU64::new(0),
+                AtomicU64::new(0),
+                AtomicU64::new(0),
+            ],
+            pairs: AtomicU64::new(0),
+            wrong: AtomicU64::new(0),
+        }
+    }
+
     /// Sets the number of a hart to `after`. Sets `wrong` if it was not `before`, or if there is no such hart.
     fn change(&self, hart: usize, before: u64, after: u64) {
         let is_right = match self.inside.get(hart) {
@@ -70,44 +94,53 @@ impl Gate for Pairs {
 const FAMILIES: &str =
     "file 16 rw -\nimage 0x1000:0x1000:rw:-\npool 128 8\nlist 0\nfork 1\nmmap 16 3 1 0\nfork 1\nstore 0x1000 8 1\nlist 1\nload 0x1000 8\nstore 0x1000 8 2\nfork 2\nlist 2\nmmap 16 3 1 0\nmunmap 0x3fffffc000 32\nload 0x2000 1\nstart 0 0\nstart 0 1\n";
 
+/// How many processes there were in a run, and how many calls they made.
+#[derive(Drop)]
+struct Counts {
+    processes: usize,
+    calls: u64,
+}
+
+impl Look for Counts {
+    fn look(&mut self, ended: &[Finished<'_>]) {
+        self.processes = ended.len();
+        for finished in ended {
+            let calls = finished.journal.len() as u64;
+            self.calls = self.calls.saturating_add(calls);
+        }
+    }
+}
+
+/// Runs a file for threads on `harts` harts, with hooks. Returns what was counted.
+fn counted<T: Threads + Wait + Sync, G: Gate + Sync>(
+    rt: &T,
+    alloc: Global,
+    file: &str,
+    harts: usize,
+    gate: &G,
+) -> Result<Counts, Fail>
+    requires some { 1 ≤ harts }
+    requires few { harts ≤ 8 }
+{
+    let mut counts = Counts {
+        processes: 0,
+        calls: 0,
+    };
+    run_file(rt, alloc, file, harts, gate, &mut counts)?;
+    Ok(counts)
+}
+
 #[test]
 fn each_call_enters_and_leaves_once(rt: HostRuntime) -> Result<(), Fail> {
-    let Ok(script) = ThreadScript::read(rt.alloc(), FAMILIES.as_bytes()) else {
-        return Err(Fail::from("a file for threads is refused"));
-    };
-    let lists = lend_lists(rt.alloc(), &script)?;
-    let starts = lend_starts(rt.alloc(), &script)?;
     for harts in [1, 2, 8] {
-        let gate = Pairs {
-            inside: [
-                AtomicU64::new(0),
-                AtomicU64::new(0),
-                AtomicU64::new(0),
-                AtomicU64::new(0),
-                AtomicU64::new(0),
-                AtomicU64::new(0),
-                AtomicU64::new(0),
-                AtomicU64::new(0),
-            ],
-            pairs: AtomicU64::new(0),
-            wrong: AtomicU64::new(0),
-        };
-        let (ended, _) = run_pool(
-            &rt,
-            rt.alloc(),
-            &script,
-            lists.as_slice(),
-            starts.as_slice(),
-            harts,
-            &gate,
-        )?;
-        let mut calls: u64 = 0;
-        for finished in &ended {
-            calls = calls.saturating_add(finished.journal.len() as u64);
-        }
-        assert_eq!(rt; ended.len(), 7, "on {harts}");
-        assert_eq!(rt; gate.pairs.load(Ordering::SeqCst), calls, "on {harts}");
-        assert_eq!(rt; gate.wrong.load(Ordering::SeqCst), 0, "on {harts}");
+        let gate = Pairs::new();
+        let counts = counted(&rt, rt.alloc(), FAMILIES, harts, &gate)?;
+        let pairs = gate.pairs.load(Ordering::SeqCst);
+        let wrong = gate.wrong.load(Ordering::SeqCst);
+        assert_eq!(rt;
+            (harts, counts.processes, pairs, wrong),
+            (harts, 7, counts.calls, 0)
+        );
     }
     Ok(())
 }
@@ -167,11 +200,6 @@ const BEHIND: &str =
 
 #[test]
 fn no_lock_is_held_at_a_gate(rt: HostRuntime) -> Result<(), Fail> {
-    let Ok(script) = ThreadScript::read(rt.alloc(), BEHIND.as_bytes()) else {
-        return Err(Fail::from("a file for threads is refused"));
-    };
-    let lists = lend_lists(rt.alloc(), &script)?;
-    let starts = lend_starts(rt.alloc(), &script)?;
     let gate = HoldsZero {
         rt: &rt,
         entered: AtomicU64::new(0),
@@ -179,9 +207,9 @@ fn no_lock_is_held_at_a_gate(rt: HostRuntime) -> Result<(), Fail> {
         ended: AtomicU64::new(0),
         gave_up: AtomicU64::new(0),
     };
-    let (ended, _) = run_pool(&rt, rt.alloc(), &script, &lists, &starts, 2, &gate)?;
-    assert_eq!(rt; ended.len(), 8);
-    assert_eq!(rt; gate.ended.load(Ordering::SeqCst), 4);
-    assert_eq!(rt; gate.gave_up.load(Ordering::SeqCst), 0);
+    let counts = counted(&rt, rt.alloc(), BEHIND, 2, &gate)?;
+    let ended = gate.ended.load(Ordering::SeqCst);
+    let gave_up = gate.gave_up.load(Ordering::SeqCst);
+    assert_eq!(rt; (counts.processes, ended, gave_up), (8, 4, 0));
     Ok(())
 }

@@ -1,19 +1,12 @@
 // Tests that the journal of a process (its calls with their replies) has the right reply on 1, 2 and 8 harts. `Row`: a file
 // for threads, the name of a process, the number of a call, and the reply.
 
-ghost use Rattle.std.specs.Prelude.{◌≤◌};
-
-use arrayvec::ArrayVec;
-use audit_player::{lend_lists, lend_starts, run_pool};
-use hart_calls::{JournalReply, StoredReply};
+use crate::players::{Look, run_file};
+use hart_calls::{Finished, JournalReply, StoredReply};
 use hart_threads::OpenGate;
 use process_model::ScalarReply::{Forked, Refused, Value};
 use process_model::{Refusal, Reply, ScalarReply};
-use script_reader::ThreadScript;
-use std::alloc::Global;
-use std::sync::Wait;
 use std::test::Fail;
-use std::thread::Threads;
 
 /// A reply that a journal must have: a scalar, or bytes that were copied from a process.
 enum Told {
@@ -25,54 +18,35 @@ enum Told {
 fn is_reply(kept: &JournalReply, told: &Told) -> bool {
     match (kept.kept(), told) {
         (StoredReply::Scalar(scalar), Told::Scalar(wanted)) => scalar == *wanted,
-        (StoredReply::Long(long), Told::Copied(bytes)) => *long == copied(bytes),
+        (StoredReply::Long(Reply::CopiedIn(list)), Told::Copied(bytes)) => list.as_slice()
+            == *bytes,
         _ => false,
     }
-}
-
-/// Plays a file for threads on `harts` harts. Returns whether entry `number` of the journal of process `name` has this
-/// reply; `None` if there is no such process or entry.
-fn has_reply<R: Threads + Wait + Sync>(
-    rt: &R,
-    alloc: Global,
-    file: &str,
-    harts: usize,
-    name: &[u64],
-    number: usize,
-    told: &Told,
-) -> Result<Option<bool>, Fail>
-    requires some { 1 ≤ harts }
-    requires few { harts ≤ 8 }
-{
-    let Ok(script) = ThreadScript::read(alloc, file.as_bytes()) else {
-        return Err(Fail::from("a file for threads is refused"));
-    };
-    let lists = lend_lists(alloc, &script)?;
-    let starts = lend_starts(alloc, &script)?;
-    let (ended, _) = run_pool(rt, alloc, &script, &lists, &starts, harts, &OpenGate)?;
-    for finished in &ended {
-        if finished.name.as_slice() == name {
-            return Ok(match finished.journal.get(number) {
-                Some(entry) => Some(is_reply(&entry.reply, told)),
-                None => None,
-            });
-        }
-    }
-    Ok(None)
 }
 
 /// A file for threads, the name of a process, the number of a call of its list, and the reply.
 type Row = (&'static str, &'static [u64], usize, Told);
 
-/// The reply to a copy of these bytes from a process; at most 256.
-fn copied(bytes: &[u8]) -> Reply {
-    let mut list = ArrayVec::new();
-    for byte in bytes {
-        if !list.is_full() {
-            list.push(*byte);
+/// Looks for the reply of a row in the journal of its process.
+#[derive(Drop)]
+struct Seeks<'r> {
+    row: &'r Row,
+    /// Whether it is there.
+    is_there: bool,
+}
+
+impl Look for Seeks<'_> {
+    fn look(&mut self, ended: &[Finished<'_>]) {
+        let (_, name, number, told) = self.row;
+        for finished in ended {
+            if finished.name.as_slice() == *name {
+                self.is_there = match finished.journal.get(*number) {
+                    Some(entry) => is_reply(&entry.reply, told),
+                    None => false,
+                };
+            }
         }
     }
-    Reply::CopiedIn(list)
 }
 
 /// A fork without a free slot.
@@ -112,29 +86,18 @@ static ROWS: [Row; 11] = [
     (READ, &[0], 1, Told::Scalar(Value(0x6261))),
 ];
 
-/// The number of the first row whose reply the journal does not have, on `harts` harts; `None` if it has all.
-fn first_wrong<R: Threads + Wait + Sync>(
-    rt: &R,
-    alloc: Global,
-    harts: usize,
-) -> Result<Option<usize>, Fail>
-    requires some { 1 ≤ harts }
-    requires few { harts ≤ 8 }
-{
-    for row in 0..ROWS.len() {
-        let (file, name, number, told) = &ROWS[row];
-        if has_reply(rt, alloc, file, harts, name, *number, told)? != Some(true) {
-            return Ok(Some(row));
-        }
-    }
-    Ok(None)
-}
-
 #[test]
 fn journals_tell_the_replies(rt: HostRuntime) -> Result<(), Fail> {
     for harts in [1, 2, 8] {
-        let wrong = first_wrong(&rt, rt.alloc(), harts)?;
-        assert_eq!(rt; wrong, None, "on {harts}");
+        for number in 0..ROWS.len() {
+            let row = &ROWS[number];
+            let mut seeks = Seeks {
+                row,
+                is_there: false,
+            };
+            run_file(&rt, rt.alloc(), row.0, harts, &OpenGate, &mut seeks)?;
+            assert_eq!(rt; (harts, number, seeks.is_there), (harts, number, true));
+        }
     }
     Ok(())
 }

@@ -2,13 +2,14 @@
 // length; takes an image of 17 pages; and writes a long text in few calls. `CountingWriter`, a struct: counts calls and
 // bytes.
 
-use crate::script_pieces::played;
+use crate::players::played;
 use audit_player::{PlayError, Reader, Writer, play};
 use script_language::Cause;
 use std::alloc::{AllocError, Global};
 use std::io;
 use std::io::Write;
 use std::test::Fail;
+use text_builder::Text;
 
 /// A writer that takes all bytes that it is given, and counts calls and bytes.
 #[derive(Drop)]
@@ -38,25 +39,47 @@ fn counted(alloc: Global, script: &[u8]) -> (Result<(), PlayError>, (usize, usiz
     (result, (calls, bytes))
 }
 
-/// Appends `piece` to `text`, `count` times.
-fn push_times(text: &mut String, piece: &str, count: usize) -> Result<(), AllocError> {
+/// A text that has `piece` in it, `count` times.
+fn repeated(
+    alloc: Global,
+    before: &str,
+    piece: &str,
+    count: usize,
+    after: &str,
+) -> Result<String, AllocError> {
+    let mut text = Text::new(alloc);
+    text.push_str(before);
     for _ in 0..count {
-        text.push_str(piece)?;
+        text.push_str(piece);
     }
-    Ok(())
+    text.push_str(after);
+    text.finish()
 }
 
-/// More than 2 MiB of text, written in pieces of at least 64 KiB and a last one.
+/// What comes after 100,000 lines, the result, and how many calls write how many bytes.
+static LAST: [(&str, Result<(), PlayError>, (usize, usize)); 2] = [
+    // more than 2 MiB of text, written in pieces of at least 64 KiB and a last one: `ok`, and 27 bytes for each line,
+    // `refused 19 Impossible idle`
+    ("", Ok(()), (42, 3 + 100_000 * 27)),
+    (
+        "on 0 0",
+        Err(PlayError::Script(300_002, Cause::TooMany)),
+        (0, 0),
+    ),
+];
+
 #[test]
 fn takes_a_hundred_thousand_lines(rt: HostRuntime) -> Result<(), Fail> {
-    let mut script = String::from_str(rt.alloc(), "boot 1 16 1 full\n")?;
-    push_times(&mut script, "on 0 0\n\n#\n", 100_000)?;
-    let reply = "refused 19 Impossible idle\n".len();
-    let told = counted(rt.alloc(), script.as_bytes());
-    assert_eq!(rt; told, (Ok(()), (42, 3 + 100_000 * reply)));
-    script.push_str("on 0 0")?;
-    let refused = Err(PlayError::Script(300_002, Cause::TooMany));
-    assert_eq!(rt; counted(rt.alloc(), script.as_bytes()), (refused, (0, 0)));
+    for (last, want, counts) in &LAST {
+        let script = repeated(
+            rt.alloc(),
+            "boot 1 16 1 full\n",
+            "on 0 0\n\n#\n",
+            100_000,
+            last,
+        )?;
+        assert_eq!(rt; counted(rt.alloc(), script.as_bytes()), (*want, *counts));
+    }
     Ok(())
 }
 
@@ -80,8 +103,8 @@ fn refuses_what_is_too_long(rt: HostRuntime) -> Result<(), Fail> {
     for (count, line, cause) in &BLANKS {
         let script = blanks(rt.alloc(), *count)?;
         let refused = Err(PlayError::Script(*line, *cause));
-        let told = counted(rt.alloc(), script.as_slice());
-        assert_eq!(rt; told, (refused, (0, 0)), "at {count}");
+        let (result, counts) = counted(rt.alloc(), script.as_slice());
+        assert_eq!(rt; (*count, result, counts), (*count, refused, (0, 0)));
     }
     Ok(())
 }
@@ -89,12 +112,16 @@ fn refuses_what_is_too_long(rt: HostRuntime) -> Result<(), Fail> {
 /// An image of 17 pages, whose bytes are all in the script. The first and the last of them are loaded.
 #[test]
 fn takes_a_long_image(rt: HostRuntime) -> Result<(), Fail> {
-    let mut script = String::from_str(rt.alloc(), "image 0x1000:0x11000:r:a5")?;
-    push_times(&mut script, "00", 0x11000 - 2)?;
-    script.push_str("5a\nboot 1 64 1 full\nstart 0\non 0 0\nload 0 0x1000 1\nload 0 0x11ffe 2\n")?;
+    let end = "5a\nboot 1 64 1 full\nstart 0\non 0 0\nload 0 0x1000 1\nload 0 0x11ffe 2\n";
+    let script = repeated(
+        rt.alloc(),
+        "image 0x1000:0x11000:r:a5",
+        "00",
+        0x11000 - 2,
+        end,
+    )?;
     let (result, text) = played(rt.alloc(), script.as_bytes());
     let want = "ok\nslot 0\nok\nvalue 0xa5\nvalue 0x5a00\n";
-    assert_eq!(rt; result, Ok(()));
-    assert_eq!(rt; text.as_slice(), want.as_bytes());
+    assert_eq!(rt; (result, text.as_slice()), (Ok(()), want.as_bytes()));
     Ok(())
 }

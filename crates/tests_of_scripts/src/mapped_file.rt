@@ -2,6 +2,7 @@
 // answers and the result of cutting each line at each byte; `script_and_text`, the whole script and its text.
 
 use std::alloc::{AllocError, Global};
+use text_builder::Text;
 
 /// The lines of the script. Each has a letter for each of its bytes, and its answer, which is empty for a declaration.
 ///
@@ -66,12 +67,12 @@ pub static LINES: [(&str, &str, &str); 19] = [
 /// # Errors
 /// `AllocError`: the host is out of memory.
 pub fn script_and_text(alloc: Global) -> Result<(String, String), AllocError> {
-    let mut script = String::new(alloc);
-    let mut text = String::new(alloc);
+    let mut script = Text::new(alloc);
+    let mut text = Text::new(alloc);
     for (line, _, reply) in &LINES {
-        script.push_str(line)?;
-        script.push_str("\n")?;
-        text.push_str(reply)?;
+        script.push_str(line);
+        script.push_str("\n");
+        text.push_str(reply);
     }
-    Ok((script, text))
+    Ok((script.finish()?, text.finish()?))
 }

@@ -29,8 +29,7 @@ fn without_files_nobody_locks_the_shelf(rt: HostRuntime) -> Result<(), Fail> {
     };
     let shelf = Shelf::new(rt.alloc(), Cabinet::new(rt.alloc(), &[])?);
     let (ended, free) = run_while_locked::<Brand, HostRuntime>(&rt, rt.alloc(), &script, shelf)?;
-    assert_eq!(rt; ended, 3);
-    assert_eq!(rt; free, 63);
+    assert_eq!(rt; (ended, free), (3, 63));
     Ok(())
 }
 
@@ -92,13 +91,18 @@ fn a_full_shelf_promises_no_page(rt: HostRuntime) -> Result<(), Fail> {
         bytes: Bytes::from_vec(Vec::new(rt.alloc())),
     };
     let mut shelf = Shelf::new(rt.alloc(), Cabinet::new(rt.alloc(), &[file])?);
-    assert_eq!(rt; shelf.promise(MOST_USES), Ok(()));
-    assert!(rt; use_pages(&mut shelf, MOST_USES - 1));
-    assert_eq!(rt; shelf.promise(2), Err(PromiseError::JournalFull));
-    assert!(rt; use_pages(&mut shelf, 1));
-    assert_eq!(rt; shelf.promise(1), Err(PromiseError::JournalFull));
-    assert_eq!(rt; shelf.history().len(), MOST_USES);
-    assert!(rt; shelf.cabinet().bytes(0) == Some([1; 8].as_slice()));
-    assert_eq!(rt; shelf.promise(0), Ok(()));
+    let full = Err(PromiseError::JournalFull);
+    let first = shelf.promise(MOST_USES);
+    let used = use_pages(&mut shelf, MOST_USES - 1);
+    let two = shelf.promise(2);
+    let last = use_pages(&mut shelf, 1);
+    let one = shelf.promise(1);
+    assert_eq!(rt;
+        (first, used, two, last, one),
+        (Ok(()), true, full, true, full)
+    );
+    let uses = shelf.history().len();
+    let kept = shelf.cabinet().bytes(0) == Some([1; 8].as_slice());
+    assert_eq!(rt; (uses, kept, shelf.promise(0)), (MOST_USES, true, Ok(())));
     Ok(())
 }

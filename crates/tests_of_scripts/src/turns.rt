@@ -1,12 +1,13 @@
 // Tests how many calls of a process a hart makes before it takes the next one, and which one it takes: on one hart, a hook
 // (`Turns`, a struct) sees eight calls of each process in turn, so that none waits until another ends.
 
-use audit_player::{Reader, Writer, play_threads_with};
+use crate::players::played_with;
 use hart_threads::Gate;
 use process_model::Call;
 use std::alloc::{AllocError, Global};
 use std::sync::atomic::{AtomicU64, Ordering};
 use std::test::Fail;
+use text_builder::Text;
 
 /// A hook that keeps the turns as a number with two hexadecimal digits for each, the last turn lowest: one more than the number
 /// of the process, and how many calls it made.
@@ -36,44 +37,45 @@ impl Gate for Turns {
 
 /// A file for threads of so many processes, each with so many loads and the exit at the end of its list.
 fn file(alloc: Global, processes: usize, loads: usize) -> Result<String, AllocError> {
-    let mut text = String::from_str(alloc, "image 0x1000:0x1000:rw:-\npool 64 4\nlist 0\n")?;
+    let mut text = Text::new(alloc);
+    text.push_str("image 0x1000:0x1000:rw:-\npool 64 4\nlist 0\n");
     for _ in 0..loads {
-        text.push_str("load 0x1000 1\n")?;
+        text.push_str("load 0x1000 1\n");
     }
     for _ in 0..processes {
-        text.push_str("start 0 0\n")?;
+        text.push_str("start 0 0\n");
     }
-    Ok(text)
+    text.finish()
 }
+
+/// Processes, loads of each, the text, and the turns.
+static ROWS: [(usize, usize, &str, u64); 2] = [
+    (
+        2,
+        23,
+        "process 0 calls 24 exit 0\nprocess 1 calls 24 exit 0\nfree 54 of 54\n",
+        0x1828_1828_1828,
+    ),
+    (
+        3,
+        15,
+        "process 0 calls 16 exit 0\nprocess 1 calls 16 exit 0\nprocess 2 calls 16 exit 0\nfree 54 of 54\n",
+        0x1828_3818_2838,
+    ),
+];
 
 #[test]
 fn a_turn_is_eight_calls_of_each(rt: HostRuntime) -> Result<(), Fail> {
-    let rows = [
-        (
-            2,
-            23,
-            "process 0 calls 24 exit 0\nprocess 1 calls 24 exit 0\nfree 54 of 54\n",
-            0x1828_1828_1828,
-        ),
-        (
-            3,
-            15,
-            "process 0 calls 16 exit 0\nprocess 1 calls 16 exit 0\nprocess 2 calls 16 exit 0\nfree 54 of 54\n",
-            0x1828_3818_2838,
-        ),
-    ];
-    for (processes, loads, wanted, turns) in rows {
+    for number in 0..ROWS.len() {
+        let (processes, loads, wanted, turns) = &ROWS[number];
         let gate = Turns {
             turns: AtomicU64::new(0),
         };
-        let file = file(rt.alloc(), processes, loads)?;
-        let mut text = Vec::new(rt.alloc());
-        let mut reader = Reader::new(file.as_bytes());
-        let mut writer = Writer::new(&mut text);
-        let result = play_threads_with(&rt, rt.alloc(), &mut reader, &mut writer, 1, &gate);
-        assert_eq!(rt; result, Ok(()));
-        assert_eq!(rt; text.as_slice(), wanted.as_bytes());
-        assert_eq!(rt; gate.turns.load(Ordering::SeqCst), turns);
+        let file = file(rt.alloc(), *processes, *loads)?;
+        let (result, text) = played_with(&rt, rt.alloc(), file.as_str(), 1, &gate);
+        let is_text = text.as_slice() == wanted.as_bytes();
+        let seen = gate.turns.load(Ordering::SeqCst);
+        assert_eq!(rt; (result, is_text, seen), (Ok(()), true, *turns));
     }
     Ok(())
 }

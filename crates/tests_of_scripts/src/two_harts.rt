@@ -2,7 +2,7 @@
 // the other is made.
 
 use crate::bounded_waits::is_reached;
-use audit_player::{Reader, Writer, play_threads_with};
+use crate::players::played_with;
 use hart_threads::Gate;
 use process_model::Call;
 use std::sync::atomic::{AtomicU64, Ordering};
@@ -39,26 +39,29 @@ impl Gate for HoldsFirst<'_> {
     }
 }
 
+const FILE: &str =
+    "image 0x1000:0x1000:rw:-\npool 64 4\nlist 0\nload 0x1000 1\nload 0x1000 1\nstart 0 0\nstart 0 0\n";
+
+const TEXT: &str = "process 0 calls 3 exit 0\nprocess 1 calls 3 exit 0\nfree 54 of 54\n";
+
 /// From the bytes of a file for threads to its text. On one thread no call of another hart could leave while the first is
 /// held.
 #[test]
 fn two_harts_are_two_threads(rt: HostRuntime) -> Result<(), Fail> {
-    let file =
-        "image 0x1000:0x1000:rw:-\npool 64 4\nlist 0\nload 0x1000 1\nload 0x1000 1\nstart 0 0\nstart 0 0\n";
     let gate = HoldsFirst {
         rt: &rt,
         first: AtomicU64::new(0),
         others_left: AtomicU64::new(0),
         gave_up: AtomicU64::new(0),
     };
-    let mut text = Vec::new(rt.alloc());
-    let mut reader = Reader::new(file.as_bytes());
-    let mut writer = Writer::new(&mut text);
-    let result = play_threads_with(&rt, rt.alloc(), &mut reader, &mut writer, 2, &gate);
-    assert_eq!(rt; result, Ok(()));
-    let want = "process 0 calls 3 exit 0\nprocess 1 calls 3 exit 0\nfree 54 of 54\n";
-    assert_eq!(rt; text.as_slice(), want.as_bytes());
-    assert_eq!(rt; gate.others_left.load(Ordering::SeqCst), 1);
-    assert_eq!(rt; gate.gave_up.load(Ordering::SeqCst), 0);
+    let (result, text) = played_with(&rt, rt.alloc(), FILE, 2, &gate);
+    let seen = [
+        gate.others_left.load(Ordering::SeqCst),
+        gate.gave_up.load(Ordering::SeqCst),
+    ];
+    assert_eq!(rt;
+        (result, text.as_slice(), seen),
+        (Ok(()), TEXT.as_bytes(), [1, 0])
+    );
     Ok(())
 }
