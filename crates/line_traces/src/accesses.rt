@@ -9,21 +9,32 @@ use crate::access_names::access_name;
 use crate::regions::RegionLine;
 use crate::walks::WalkLine;
 use hart_machine::Machine;
-use serde::Serialize;
-use std::fmt;
+use json_objects::ObjectWriter;
+use serde::{Described, Serialize, Serializer};
 use sv39_entry::{Access, Entry, EntryFlags, Kind, Rule, Va};
 use walk_lines::Hex;
 
 /// A rule that denies an access.
-#[derive(Clone, Copy, Serialize)]
+#[derive(Clone, Copy)]
 pub struct RuleLine {
     /// Its number, 1 to 9.
     pub number: u64,
     pub name: &'static str,
 }
 
+impl Described for RuleLine {}
+
+impl Serialize for RuleLine {
+    fn serialize<S: Serializer>(&self, out: &mut S) -> Result<(), S::Error> {
+        let mut object = ObjectWriter::begin(out);
+        object.member("number", &self.number);
+        object.member("name", &self.name);
+        object.finish()
+    }
+}
+
 /// A user access, and how the regions of the process decide it.
-#[derive(Clone, Copy, Serialize)]
+#[derive(Clone, Copy)]
 pub struct AccessLine {
     /// `fetch`, `load` or `store`.
     pub access: &'static str,
@@ -31,11 +42,23 @@ pub struct AccessLine {
     /// In bytes.
     pub width: u64,
     /// The region that holds the address.
-    #[serde(skip_serializing_if = "Option::is_none")]
     pub region: Option<RegionLine>,
     /// The first rule that denies the access; none if the region grants it.
-    #[serde(skip_serializing_if = "Option::is_none")]
     pub rule: Option<RuleLine>,
+}
+
+impl Described for AccessLine {}
+
+impl Serialize for AccessLine {
+    fn serialize<S: Serializer>(&self, out: &mut S) -> Result<(), S::Error> {
+        let mut object = ObjectWriter::begin(out);
+        object.member("access", &self.access);
+        object.member("address", &self.address);
+        object.member("width", &self.width);
+        object.maybe("region", &self.region);
+        object.maybe("rule", &self.rule);
+        object.finish()
+    }
 }
 
 impl AccessLine {
@@ -69,51 +92,6 @@ impl AccessLine {
             region,
             rule,
         })
-    }
-}
-
-/// A region as text after a comma; nothing for none.
-#[derive(Clone, Copy)]
-struct InRegion(Option<RegionLine>);
-
-impl fmt::Display for InRegion {
-    fn fmt<W: fmt::Write>(&self, f: &mut fmt::Formatter<W>) -> fmt::Result {
-        match self.0 {
-            Some(region) => write!(f, ", in {region}"),
-            None => Ok(()),
-        }
-    }
-}
-
-/// How regions decide an access, as text.
-#[derive(Clone, Copy)]
-struct Outcome(Option<RuleLine>);
-
-impl fmt::Display for Outcome {
-    fn fmt<W: fmt::Write>(&self, f: &mut fmt::Formatter<W>) -> fmt::Result {
-        match self.0 {
-            Some(RuleLine { number, name }) => write!(f, "denied by rule {number} {name}"),
-            None => write!(f, "granted"),
-        }
-    }
-}
-
-/// For example `regions: store of 1 byte at 0x1000 granted, in segment 0x1000..0x2000 rw-`.
-impl fmt::Display for AccessLine {
-    fn fmt<W: fmt::Write>(&self, f: &mut fmt::Formatter<W>) -> fmt::Result {
-        let AccessLine {
-            access,
-            address,
-            width,
-            region,
-            rule,
-        } = *self;
-        let bytes = if width == 1 { "byte" } else { "bytes" };
-        let (outcome, region) = (Outcome(rule), InRegion(region));
-        write!(
-            f,
-            "regions: {access} of {width} {bytes} at {address} {outcome}{region}"
-        )
     }
 }
 

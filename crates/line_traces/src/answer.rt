@@ -42,31 +42,31 @@ fn word_of(text: &[u8]) -> Option<Word> {
     None
 }
 
-/// Splits off the first field of a text, a number. `None`: it is none.
-fn first_number(text: &[u8]) -> Option<(u64, &[u8])> {
-    let (field, rest) = first_field(text)?;
-    Some((number(field)?, rest))
-}
-
-/// Returns how a copy stopped, by the number of the rule and what follows it, `NAME done COUNT ..`.
-fn short(rule: u64, rest: &[u8]) -> Option<Answer> {
-    let (_, rest) = first_field(rest)?;
-    let (_, rest) = first_field(rest)?;
-    let (count, _) = first_number(rest)?;
-    Some(Answer::Short(rule, count))
+/// Returns the number that the field of a text at a place is, from 0 on; 0 if it is none.
+fn number_at(text: &[u8], place: usize) -> u64 {
+    let mut rest = text;
+    'fields: for _ in 0..place {
+        match first_field(rest) {
+            Some((_, after)) => rest = after,
+            None => return 0,
+        }
+    }
+    match first_field(rest) {
+        Some((field, _)) => number(field).unwrap_or(0),
+        None => 0,
+    }
 }
 
 impl Answer {
     /// Returns how a line was answered whose answer is this text; `None` if that is plain success.
     pub fn of(text: &[u8]) -> Option<Answer> {
-        let (field, rest) = first_field(text)?;
-        let word = word_of(field)?;
-        let (number, rest) = first_number(rest)?;
-        match word {
-            Word::Refused => Some(Answer::Refused(number)),
+        let (field, _) = first_field(text)?;
+        match word_of(field)? {
+            Word::Refused => Some(Answer::Refused(number_at(text, 1))),
             Word::Fault => Some(Answer::Fault),
-            Word::Ended => Some(Answer::Ended(number)),
-            Word::Short => short(number, rest),
+            Word::Ended => Some(Answer::Ended(number_at(text, 1))),
+            // `short RULE NAME done COUNT ..`
+            Word::Short => Some(Answer::Short(number_at(text, 1), number_at(text, 4))),
         }
     }
 }

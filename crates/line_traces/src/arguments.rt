@@ -1,6 +1,6 @@
 // `put_argument`: which argument of a line is bad.
 
-use crate::requests::hart_of;
+use crate::command_words::CommandWord;
 use hart_machine::Machine;
 use process_model::{LONGEST_COPY, LONGEST_MAPPING, Step, is_width};
 use script_language::Command;
@@ -87,7 +87,7 @@ fn put_step(text: &mut Text, step: &Step<'_>) {
 /// Tells which argument of a command is bad, of one that was refused for that.
 pub fn put_argument(text: &mut Text, machine: &Machine, command: &Command) {
     let harts = machine.hart_count();
-    match (hart_of(command), command) {
+    match (CommandWord::of(command).hart, command) {
         (Some(hart), _) if hart >= harts => {
             let last = harts.saturating_sub(1);
             write!(text, "there is no hart {hart}: the harts are 0 to {last}")

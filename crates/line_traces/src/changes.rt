@@ -8,7 +8,8 @@ use crate::frames::{FrameChanges, changed_frames};
 use crate::leaves::{LeafChange, changed_leaves, leaves_of};
 use crate::places::HartPlace;
 use hart_machine::Machine;
-use serde::Serialize;
+use json_objects::ObjectWriter;
+use serde::{Described, Serialize, Serializer};
 use std::alloc::{AllocError, Global};
 use walk_lines::{BufferLine, TableEntry};
 
@@ -26,20 +27,31 @@ pub struct Snapshot {
 }
 
 /// What is other after a line than before it.
-#[derive(Drop, Serialize)]
+#[derive(Drop)]
 pub struct Changes {
     /// Where the line's hart is, if that or its satp is another.
-    #[serde(skip_serializing_if = "Option::is_none")]
     pub after: Option<HartPlace>,
     /// The frames, if a reference count is another; the accounts if the line booted the machine.
-    #[serde(skip_serializing_if = "Option::is_none")]
     pub frames: Option<FrameChanges>,
     /// The leaves of the hart's process that are others, if it is the same process.
-    #[serde(skip_serializing_if = "Vec::is_empty")]
     pub leaves: Vec<LeafChange>,
     /// All entries of the hart's buffer, if they are others.
-    #[serde(skip_serializing_if = "Option::is_none")]
     pub buffer: Option<Vec<BufferLine>>,
+}
+
+impl Described for Changes {}
+
+impl Serialize for Changes {
+    fn serialize<S: Serializer>(&self, out: &mut S) -> Result<(), S::Error> {
+        let mut object = ObjectWriter::begin(out);
+        object.maybe("after", &self.after);
+        object.maybe("frames", &self.frames);
+        if !self.leaves.is_empty() {
+            object.member("leaves", &self.leaves);
+        }
+        object.maybe("buffer", &self.buffer);
+        object.finish()
+    }
 }
 
 /// Returns the slot of the process on a hart; `None` if there is no process.

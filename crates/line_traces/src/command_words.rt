@@ -1,4 +1,4 @@
-// `CommandWord`: a command as its line begins, and what it needs of the hart that it names.
+// `CommandWord`: a command as its line begins, the hart that it names, and what it needs of it.
 
 use process_model::Step;
 use script_language::Command;
@@ -27,48 +27,50 @@ pub enum Need {
 pub struct CommandWord {
     pub word: &'static str,
     pub need: Need,
+    /// The hart that the line names, if it names one.
+    pub hart: Option<usize>,
 }
 
-/// Returns the word of a line that is one step, and what it needs.
-fn of_step(step: &Step<'_>) -> (&'static str, Need) {
+/// Returns the word of a line that is one step, what it needs, and the hart that it names.
+fn of_step(step: &Step<'_>) -> (&'static str, Need, Option<usize>) {
     match step {
-        Step::Start(_) => ("start", Need::Any),
-        Step::Switch { .. } => ("switch", Need::Switch),
-        Step::Trap { .. } => ("trap", Need::User),
-        Step::Next { .. } => ("next", Need::Instruction),
-        Step::Fill { .. } => ("fill", Need::Any),
-        Step::Evict { .. } => ("evict", Need::Any),
-        Step::Fetch { .. } => ("fetch", Need::User),
-        Step::Load { .. } => ("load", Need::User),
-        Step::Store { .. } => ("store", Need::User),
-        Step::TrampolineFetch { .. } => ("tramp", Need::Trampoline),
-        Step::Serve { .. } => ("serve", Need::Service),
-        Step::Fork { .. } => ("fork", Need::Call),
-        Step::Exec { .. } => ("exec", Need::Call),
-        Step::Sbrk { .. } => ("sbrk", Need::Call),
-        Step::Mmap { .. } => ("mmap", Need::Call),
-        Step::Munmap { .. } => ("munmap", Need::Call),
-        Step::CopyIn { .. } => ("copyin", Need::Call),
-        Step::CopyOut { .. } => ("copyout", Need::Call),
-        Step::Exit { .. } => ("exit", Need::Call),
+        Step::Start(_) => ("start", Need::Any, None),
+        Step::Switch { hart, .. } => ("switch", Need::Switch, Some(*hart)),
+        Step::Trap { hart } => ("trap", Need::User, Some(*hart)),
+        Step::Next { hart } => ("next", Need::Instruction, Some(*hart)),
+        Step::Fill { hart, .. } => ("fill", Need::Any, Some(*hart)),
+        Step::Evict { hart, .. } => ("evict", Need::Any, Some(*hart)),
+        Step::Fetch { hart, .. } => ("fetch", Need::User, Some(*hart)),
+        Step::Load { hart, .. } => ("load", Need::User, Some(*hart)),
+        Step::Store { hart, .. } => ("store", Need::User, Some(*hart)),
+        Step::TrampolineFetch { hart, .. } => ("tramp", Need::Trampoline, Some(*hart)),
+        Step::Serve { hart } => ("serve", Need::Service, Some(*hart)),
+        Step::Fork { hart } => ("fork", Need::Call, Some(*hart)),
+        Step::Exec { hart, .. } => ("exec", Need::Call, Some(*hart)),
+        Step::Sbrk { hart, .. } => ("sbrk", Need::Call, Some(*hart)),
+        Step::Mmap { hart, .. } => ("mmap", Need::Call, Some(*hart)),
+        Step::Munmap { hart, .. } => ("munmap", Need::Call, Some(*hart)),
+        Step::CopyIn { hart, .. } => ("copyin", Need::Call, Some(*hart)),
+        Step::CopyOut { hart, .. } => ("copyout", Need::Call, Some(*hart)),
+        Step::Exit { hart, .. } => ("exit", Need::Call, Some(*hart)),
     }
 }
 
 impl CommandWord {
-    /// Returns the word of a command, and what it needs.
+    /// Returns the word of a command, what it needs, and the hart that it names.
     pub fn of(command: &Command) -> CommandWord {
-        let (word, need) = match command {
+        let (word, need, hart) = match command {
             Command::One(step) => of_step(step),
-            Command::Start { .. } => ("start", Need::Any),
-            Command::Exec { .. } => ("exec", Need::Call),
-            Command::CopyOut { .. } => ("copyout", Need::Call),
-            Command::On { .. } => ("on", Need::Switch),
-            Command::Enter { .. } => ("enter", Need::User),
-            Command::Leave { .. } => ("leave", Need::Instruction),
-            Command::Fix { .. } => ("fix", Need::Service),
-            Command::Show { .. } => ("show", Need::Any),
-            Command::Audit => ("audit", Need::Any),
+            Command::Start { .. } => ("start", Need::Any, None),
+            Command::Exec { hart, .. } => ("exec", Need::Call, Some(*hart)),
+            Command::CopyOut { hart, .. } => ("copyout", Need::Call, Some(*hart)),
+            Command::On { hart, .. } => ("on", Need::Switch, Some(*hart)),
+            Command::Enter { hart } => ("enter", Need::User, Some(*hart)),
+            Command::Leave { hart } => ("leave", Need::Instruction, Some(*hart)),
+            Command::Fix { hart } => ("fix", Need::Service, Some(*hart)),
+            Command::Show { .. } => ("show", Need::Any, None),
+            Command::Audit => ("audit", Need::Any, None),
         };
-        CommandWord { word, need }
+        CommandWord { word, need, hart }
     }
 }

@@ -3,6 +3,7 @@
 ghost use Rattle.hart_machine.specs.BufferEntries.{IsInWorld};
 ghost use Rattle.process_model.specs.World.{World};
 
+use crate::requests::made_by;
 use hart_machine::Machine;
 use process_model::Step;
 use script_language::Command;
@@ -12,30 +13,11 @@ use walk_lines::Hex;
 
 /// The entry that a command names, by hart and number, and the address that it is to serve; `None` for no address: an eviction.
 fn entry_named(machine: &Machine, command: &Command) -> Option<(usize, usize, Option<Va>)> {
-    let Command::One(step) = command else {
-        return None;
-    };
-    match *step {
-        Step::Evict { hart, entry } => Some((hart, entry, None)),
-        Step::Fetch { hart, address, via }
-        | Step::Load {
-            hart,
-            address,
-            via,
-            ..
-        }
-        | Step::Store {
-            hart,
-            address,
-            via,
-            ..
-        } => Some((hart, via?, Some(Va(address)))),
-        Step::TrampolineFetch { hart, offset, via } => {
-            let address = machine.scheme().trampoline().0.wrapping_add(offset);
-            Some((hart, via?, Some(Va(address))))
-        }
-        _ => None,
+    if let Command::One(Step::Evict { hart, entry }) = command {
+        return Some((*hart, *entry, None));
     }
+    let request = made_by(machine.scheme(), command)?;
+    Some((request.hart, request.via?, Some(request.va)))
 }
 
 /// Tells why the entry that a command names does not serve it; nothing if it names none.

@@ -7,22 +7,22 @@ ghost use Rattle.process_model.specs.World.{World};
 
 use crate::answer::Answer;
 use crate::arguments::put_argument;
-use crate::before::Before;
+use crate::before::{Before, command_of};
 use crate::calls::put_call;
 use crate::denials::{Denied, put_denial, rule_of};
 use crate::entries::put_entry;
 use crate::frame_needs::service_need;
 use crate::phases::put_phase;
-use crate::requests::faulted;
+use crate::requests::{copied, faulted};
 use audit_player::lend;
 use fault_texts::explain_image;
 use hart_machine::Machine;
 use line_player::LinePlayer;
 use process_model::Step;
-use script_language::{Command, Item};
-use script_reader::{Draft, line_item, trim_return};
+use script_language::Command;
+use script_reader::Draft;
 use std::alloc::{AllocError, Global};
-use sv39_entry::{Access, Rule, Va};
+use sv39_entry::{Rule, Va};
 use text_builder::Text;
 
 /// The slot that a command puts on a hart.
@@ -132,29 +132,19 @@ fn put_end(text: &mut Text, machine: &Machine, before: &Before, number: u64) {
     put_rule(text, rule_of(number), &denied, before.needed, before.free);
 }
 
-/// The process and the address of a copy, and how it accesses memory.
-fn copy_of(machine: &Machine, command: &Command) -> Option<(usize, u64, Access)> {
-    match command {
-        Command::One(Step::CopyIn { hart, address, .. }) => {
-            Some((machine.slot(*hart)?, *address, Access::Load))
-        }
-        Command::CopyOut { hart, address, .. } => {
-            Some((machine.slot(*hart)?, *address, Access::Store))
-        }
-        _ => None,
-    }
-}
-
 /// Tells why a copy stopped after so many bytes.
 fn put_short(text: &mut Text, machine: &Machine, command: &Command, number: u64, done: u64)
     requires world { (w : World) × IsInWorld machine.now w }
 {
-    let Some((slot, address, access)) = copy_of(machine, command) else {
+    let Some(copy) = copied(command) else {
         return;
     };
-    let va = Va(address.wrapping_add(done));
+    let Some(slot) = machine.slot(copy.hart) else {
+        return;
+    };
+    let va = Va(copy.va.0.wrapping_add(done));
     let denied = Denied {
-        access,
+        access: copy.access,
         va,
         width: 1,
         region: machine.region(slot, va),
@@ -163,6 +153,27 @@ fn put_short(text: &mut Text, machine: &Machine, command: &Command, number: u64,
     let (needed, free) = (service_need(machine, slot, va), machine.report().free);
     text.push_str("the copy stopped at a ");
     put_rule(text, rule_of(number), &denied, needed, free);
+}
+
+/// Tells why a command was answered in a way that is no plain success.
+fn put_answer(
+    text: &mut Text,
+    player: &LinePlayer,
+    before: &Before,
+    command: &Command,
+    answer: Answer,
+)
+    requires played { (s : Played) × HasPlayed player.now s }
+{
+    let (Some(machine), draft) = (player.machine(), player.draft()) else {
+        return;
+    };
+    match answer {
+        Answer::Refused(number) => put_refusal(text, machine, draft, command, number),
+        Answer::Fault => put_fault(text, machine, command),
+        Answer::Ended(number) => put_end(text, machine, before, number),
+        Answer::Short(number, done) => put_short(text, machine, command, number, done),
+    }
 }
 
 /// Returns why a player answered its last line otherwise than by plain success, and which line would be right, in words: one line of
@@ -178,20 +189,14 @@ pub fn explain_answer(
 ) -> Result<Option<String>, AllocError>
     requires played { (s : Played) × HasPlayed player.now s }
 {
-    let (Some(answer), Some(machine)) = (Answer::of(player.answer()), player.machine()) else {
+    let Some(answer) = Answer::of(player.answer()) else {
         return Ok(None);
     };
-    let draft = player.draft();
-    let Ok(Some(Item::Command(command))) = line_item(alloc, draft, trim_return(line)) else {
+    let Some(command) = command_of(alloc, player, line)? else {
         return Ok(None);
     };
     let mut text = Text::new(alloc);
-    match answer {
-        Answer::Refused(number) => put_refusal(&mut text, machine, draft, &command, number),
-        Answer::Fault => put_fault(&mut text, machine, &command),
-        Answer::Ended(number) => put_end(&mut text, machine, before, number),
-        Answer::Short(number, done) => put_short(&mut text, machine, &command, number, done),
-    }
+    put_answer(&mut text, player, before, &command, answer);
     let text = text.finish()?;
     if text.is_empty() {
         return Ok(None);

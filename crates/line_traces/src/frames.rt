@@ -4,15 +4,16 @@ ghost use Rattle.std.specs.Prelude.{◌≡◌, ◌↔◌, ◌<◌, ◌^◌, ◌+
 ghost use Rattle.sv39_entry.specs.Frame.{ppn_of};
 ghost use Rattle.line_traces.specs.Frames.{given_back_pages, is_given_back, is_recounted, is_taken, page_of, recounts, taken_pages};
 
+use json_objects::ObjectWriter;
 use process_model::Report;
-use serde::Serialize;
+use serde::{Described, Serialize, Serializer};
 use std::alloc::{AllocError, Global};
 use std::fmt;
 use sv39_entry::FrameNo;
 use walk_lines::Hex;
 
 /// A frame whose number of references is another after a line.
-#[derive(Clone, Copy, Serialize)]
+#[derive(Clone, Copy)]
 pub struct Recount {
     /// The physical page number of the frame.
     pub frame: Hex,
@@ -20,8 +21,20 @@ pub struct Recount {
     pub after: u16,
 }
 
+impl Described for Recount {}
+
+impl Serialize for Recount {
+    fn serialize<S: Serializer>(&self, out: &mut S) -> Result<(), S::Error> {
+        let mut object = ObjectWriter::begin(out);
+        object.member("frame", &self.frame);
+        object.member("before", &self.before);
+        object.member("after", &self.after);
+        object.finish()
+    }
+}
+
 /// What a line changed of the frames.
-#[derive(Drop, Serialize)]
+#[derive(Drop)]
 pub struct FrameChanges {
     /// The physical page numbers of the frames that were free before the line and are held after it.
     pub taken: Vec<Hex>,
@@ -33,6 +46,21 @@ pub struct FrameChanges {
     pub free: usize,
     pub held: usize,
     pub shared: usize,
+}
+
+impl Described for FrameChanges {}
+
+impl Serialize for FrameChanges {
+    fn serialize<S: Serializer>(&self, out: &mut S) -> Result<(), S::Error> {
+        let mut object = ObjectWriter::begin(out);
+        object.member("taken", &self.taken);
+        object.member("given_back", &self.given_back);
+        object.member("recounted", &self.recounted);
+        object.member("free", &self.free);
+        object.member("held", &self.held);
+        object.member("shared", &self.shared);
+        object.finish()
+    }
 }
 
 /// Returns the physical page number of a frame by its number, `None` past the last that there may be.

@@ -7,19 +7,32 @@ ghost use Rattle.process_model.specs.World.{World};
 ghost use Rattle.line_traces.specs.Leaves.{come, gone, is_same, leaf_at, leaf_changes};
 
 use hart_machine::Machine;
-use serde::Serialize;
+use json_objects::ObjectWriter;
+use serde::{Described, Serialize, Serializer};
 use std::alloc::{AllocError, Global};
 use std::fmt;
 use sv39_entry::{Entry, Kind, Scheme};
 use walk_lines::{Hex, LeafLine, TableEntry, table_entries};
 
 /// A leaf that a line changed: what it was and what it is; none if there was none, or is none.
-#[derive(Clone, Copy, Serialize)]
+#[derive(Clone, Copy)]
 pub struct LeafChange {
     /// The first address that it maps.
     pub address: Hex,
     pub before: Option<LeafLine>,
     pub after: Option<LeafLine>,
+}
+
+impl Described for LeafChange {}
+
+impl Serialize for LeafChange {
+    fn serialize<S: Serializer>(&self, out: &mut S) -> Result<(), S::Error> {
+        let mut object = ObjectWriter::begin(out);
+        object.member("address", &self.address);
+        object.member("before", &self.before);
+        object.member("after", &self.after);
+        object.finish()
+    }
 }
 
 /// Returns the valid entries of the page tables of the process in a slot, in the order of their addresses; none if the slot has no

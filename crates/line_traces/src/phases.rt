@@ -2,12 +2,22 @@
 
 use crate::access_names::access_name;
 use crate::command_words::{CommandWord, Need};
-use crate::requests::hart_of;
 use hart_machine::{Machine, Pending};
 use process_model::Phase;
 use script_language::{Command, phase_name};
 use text_builder::Text;
 use walk_lines::Hex;
+
+/// Whether the process on a hart has an access that faulted and was not served, and what its service does.
+#[derive(Clone, Copy)]
+enum Fault {
+    /// There is none, or no process.
+    None,
+    /// Its service makes the access possible.
+    Waits,
+    /// A rule denies the access, so its service ends the process.
+    Ends,
+}
 
 /// Where a hart is, as far as it is told.
 #[derive(Clone, Copy)]
@@ -15,31 +25,23 @@ struct Stand {
     hart: usize,
     phase: Phase,
     slot: Option<usize>,
-    /// The access that faulted and was not served.
-    waits: Option<Pending>,
-    /// Whether a rule denies that access, so that its service ends the process.
-    ends: bool,
+    /// The last access that faulted.
+    pending: Option<Pending>,
+    fault: Fault,
 }
 
-/// Whether a rule denies an access of the process in a slot.
-fn is_denied(machine: &Machine, slot: Option<usize>, access: Option<Pending>) -> bool {
-    let (Some(slot), Some(access)) = (slot, access) else {
-        return false;
-    };
-    access.width > 0
-        && matches!(
-            machine.granted(slot, access.access, access.va, access.width),
-            Some(Err(_))
-        )
-}
-
-/// Returns the access that faulted and was not served, of the process in a slot.
-fn waiting(machine: &Machine, slot: Option<usize>) -> Option<Pending> {
-    let access = machine.pending(slot?)?;
+/// Returns what the service does of an access that faulted, of the process in a slot.
+fn fault_of(machine: &Machine, slot: usize, access: Pending) -> Fault {
     if access.served {
-        return None;
+        return Fault::None;
     }
-    Some(access)
+    if access.width == 0 {
+        return Fault::Waits;
+    }
+    match machine.granted(slot, access.access, access.va, access.width) {
+        Some(Err(_)) => Fault::Ends,
+        _ => Fault::Waits,
+    }
 }
 
 /// Puts a text in which `#` stands for the number of a hart and `@` for a word.
@@ -54,19 +56,23 @@ fn put_filled(text: &mut Text, form: &str, hart: usize, word: &str) {
 }
 
 impl Stand {
-    /// Returns where the hart that a line names is; `None` if it names none, or there is no such hart.
-    fn of(machine: &Machine, hart: Option<usize>) -> Option<Stand> {
-        let hart = hart?;
+    /// Returns where a hart is; `None` if there is no such hart.
+    fn of(machine: &Machine, hart: usize) -> Option<Stand> {
         let phase = machine.phase(hart)?;
-        let slot = machine.slot(hart);
-        let waits = waiting(machine, slot);
-        Some(Stand {
+        let mut stand = Stand {
             hart,
             phase,
-            slot,
-            waits,
-            ends: is_denied(machine, slot, waits),
-        })
+            slot: machine.slot(hart),
+            pending: None,
+            fault: Fault::None,
+        };
+        if let Some(slot) = stand.slot {
+            stand.pending = machine.pending(slot);
+            if let Some(access) = stand.pending {
+                stand.fault = fault_of(machine, slot, access);
+            }
+        }
+        Some(stand)
     }
 
     /// Returns where the hart is, as a text in which `#` stands for its number and `@` for the name of its phase.
@@ -87,7 +93,7 @@ impl Stand {
         if let Some(slot) = self.slot {
             write!(text, ", with the process of slot {slot}");
         }
-        if let Some(access) = self.waits {
+        if let (Some(access), Fault::Waits | Fault::Ends) = (self.pending, self.fault) {
             let (word, address) = (access_name(access.access), Hex(access.va.0));
             write!(
                 text,
@@ -98,43 +104,43 @@ impl Stand {
 
     /// Returns the line that brings the hart to user mode; `#` stands for the hart.
     fn to_user(&self) -> &'static str {
-        match self.phase {
-            Phase::Idle => "`on # S` puts the process of slot S on it",
-            Phase::User => "this is user mode already",
-            Phase::Kernel if self.ends => "`serve #` serves the fault, which ends the process",
-            Phase::Kernel if self.waits.is_some() => "`serve #` serves the fault, then `leave #`",
-            Phase::Kernel => "`leave #` returns to user mode",
-            Phase::Enter0 if self.ends => "`fix #` serves the fault, which ends the process",
-            Phase::Enter0 if self.waits.is_some() =>
-                "`fix #` serves the fault and returns to user mode",
-            Phase::Enter0 | Phase::Enter1 | Phase::Enter2 =>
+        match (self.phase, self.fault) {
+            (Phase::Idle, _) => "`on # S` puts the process of slot S on it",
+            (Phase::User, _) => "this is user mode already",
+            (Phase::Kernel, Fault::Ends) => "`serve #` serves the fault, which ends the process",
+            (Phase::Kernel, Fault::Waits) => "`serve #` serves the fault, then `leave #`",
+            (Phase::Kernel, Fault::None) => "`leave #` returns to user mode",
+            (Phase::Enter0, Fault::Ends) => "`fix #` serves the fault, which ends the process",
+            (Phase::Enter0, Fault::Waits) => "`fix #` serves the fault and returns to user mode",
+            (Phase::Enter0 | Phase::Enter1 | Phase::Enter2, _) =>
                 "`next #` until it is in the kernel, then `leave #`",
-            Phase::Leave1 | Phase::Leave2 => "`next #` goes on until it is in user mode",
+            (Phase::Leave1 | Phase::Leave2, _) => "`next #` goes on until it is in user mode",
         }
     }
 
     /// Returns the line that brings the hart into the kernel, with no fault that waits; `#` stands for the hart.
     fn to_kernel(&self) -> &'static str {
-        match self.phase {
-            Phase::Idle => "`on # S` puts the process of slot S on it, then `enter #`",
-            Phase::User => "`enter #` first",
-            Phase::Kernel if self.waits.is_some() => "`serve #` first",
-            Phase::Kernel => "this is the kernel already",
-            Phase::Enter0 if self.ends => "`fix #` serves the fault, which ends the process",
-            Phase::Enter0 if self.waits.is_some() => "`fix #` first, then `enter #`",
-            Phase::Enter0 | Phase::Enter1 | Phase::Enter2 => "`next #` until it is in the kernel",
-            Phase::Leave1 | Phase::Leave2 => "`next #` until it is in user mode, then `enter #`",
+        match (self.phase, self.fault) {
+            (Phase::Idle, _) => "`on # S` puts the process of slot S on it, then `enter #`",
+            (Phase::User, _) => "`enter #` first",
+            (Phase::Kernel, Fault::None) => "this is the kernel already",
+            (Phase::Kernel, _) => "`serve #` first",
+            (Phase::Enter0, Fault::Ends) => "`fix #` serves the fault, which ends the process",
+            (Phase::Enter0, Fault::Waits) => "`fix #` first, then `enter #`",
+            (Phase::Enter0 | Phase::Enter1 | Phase::Enter2, _) =>
+                "`next #` until it is in the kernel",
+            (Phase::Leave1 | Phase::Leave2, _) =>
+                "`next #` until it is in user mode, then `enter #`",
         }
     }
 }
 
 /// Returns why a fault is not served now, and which line serves it; `#` stands for the hart, `@` for the line's word.
 fn service_text(stand: &Stand) -> &'static str {
-    match stand.phase {
-        _ if stand.waits.is_none() =>
-            "; no fault waits for its service, so there is nothing to serve",
-        Phase::Kernel => "; `@` begins before the kernel: in it, `serve #` serves the fault",
-        _ if stand.ends =>
+    match (stand.phase, stand.fault) {
+        (_, Fault::None) => "; no fault waits for its service, so there is nothing to serve",
+        (Phase::Kernel, _) => "; `@` begins before the kernel: in it, `serve #` serves the fault",
+        (_, Fault::Ends) =>
             "; `serve` is done in the kernel: `fix #` enters it and serves the fault, which ends the process",
         _ => "; `serve` is done in the kernel: `fix #` enters it, serves the fault and returns",
     }
@@ -151,24 +157,24 @@ fn instruction_text(phase: Phase) -> &'static str {
 
 /// Returns what a line needs and which line leads there, in two parts; `#` stands for the hart, `@` for the line's word.
 fn need_texts(stand: &Stand, need: Need) -> (&'static str, &'static str) {
-    match need {
-        Need::User => ("; `@` needs user mode: ", stand.to_user()),
-        Need::Call if stand.waits.is_some() => (
+    match (need, stand.fault) {
+        (Need::User, _) => ("; `@` needs user mode: ", stand.to_user()),
+        (Need::Call, Fault::None) => ("; `@` is done in the kernel: ", stand.to_kernel()),
+        (Need::Call, _) => (
             "; `@` is done in the kernel, and not while a fault waits: ",
             stand.to_kernel(),
         ),
-        Need::Call => ("; `@` is done in the kernel: ", stand.to_kernel()),
-        Need::Switch => (
+        (Need::Switch, _) => (
             "; `@` needs the kernel or an idle hart: ",
             stand.to_kernel(),
         ),
-        Need::Service => (service_text(stand), ""),
-        Need::Instruction => (instruction_text(stand.phase), ""),
-        Need::Trampoline => (
+        (Need::Service, _) => (service_text(stand), ""),
+        (Need::Instruction, _) => (instruction_text(stand.phase), ""),
+        (Need::Trampoline, _) => (
             "; `@` needs a phase of entry or return: `trap #` begins one in user mode, `next #` in the kernel",
             "",
         ),
-        Need::Any => ("", ""),
+        (Need::Any, _) => ("", ""),
     }
 }
 
@@ -230,11 +236,15 @@ fn put_slot(text: &mut Text, machine: &Machine, slot: usize, here: usize) {
 /// Tells why a command is not possible in the phase of the hart that it names, and which line comes first; nothing if there is no such
 /// hart. `slot` is the slot that a switch names.
 pub fn put_phase(text: &mut Text, machine: &Machine, command: &Command, slot: Option<usize>) {
-    let Some(stand) = Stand::of(machine, hart_of(command)) else {
+    let command = CommandWord::of(command);
+    let Some(hart) = command.hart else {
+        return;
+    };
+    let Some(stand) = Stand::of(machine, hart) else {
         return;
     };
     match (slot, stand.phase) {
         (Some(slot), Phase::Idle | Phase::Kernel) => put_slot(text, machine, slot, stand.hart),
-        _ => put_need(text, &stand, CommandWord::of(command)),
+        _ => put_need(text, &stand, command),
     }
 }

@@ -5,20 +5,20 @@ ghost use Rattle.hart_machine.specs.BufferEntries.{IsInWorld};
 ghost use Rattle.process_model.specs.World.{World};
 
 use hart_machine::Machine;
+use json_objects::ObjectWriter;
 use script_language::phase_name;
-use serde::Serialize;
+use serde::{Described, Serialize, Serializer};
 use std::fmt;
 use sv39_entry::Scheme;
 use walk_lines::Hex;
 
 /// Where a hart is, and what its satp names.
-#[derive(Clone, Copy, Serialize, PartialEq, Eq)]
+#[derive(Clone, Copy, PartialEq, Eq)]
 pub struct HartPlace {
     pub hart: usize,
     /// The name of its phase between user mode and kernel.
     pub phase: &'static str,
     /// The slot of its process.
-    #[serde(skip_serializing_if = "Option::is_none")]
     pub slot: Option<usize>,
     /// The word of its satp.
     pub satp: Hex,
@@ -28,6 +28,22 @@ pub struct HartPlace {
     pub asid: u16,
     /// The physical page number of the root in satp.
     pub root: Hex,
+}
+
+impl Described for HartPlace {}
+
+impl Serialize for HartPlace {
+    fn serialize<S: Serializer>(&self, out: &mut S) -> Result<(), S::Error> {
+        let mut object = ObjectWriter::begin(out);
+        object.member("hart", &self.hart);
+        object.member("phase", &self.phase);
+        object.maybe("slot", &self.slot);
+        object.member("satp", &self.satp);
+        object.member("scheme", &self.scheme);
+        object.member("asid", &self.asid);
+        object.member("root", &self.root);
+        object.finish()
+    }
 }
 
 /// Returns the name of a scheme, as `boot` has it.

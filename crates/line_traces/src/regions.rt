@@ -2,13 +2,14 @@
 
 use address_space::{Region, RegionKind, Source};
 use bitflags::Flags;
-use serde::Serialize;
+use json_objects::ObjectWriter;
+use serde::{Described, Serialize, Serializer};
 use std::fmt;
-use sv39_entry::{PAGE_SIZE, Rights};
+use sv39_entry::PAGE_SIZE;
 use walk_lines::Hex;
 
 /// A region of a process.
-#[derive(Clone, Copy, Serialize)]
+#[derive(Clone, Copy)]
 pub struct RegionLine {
     /// `segment`, `guard`, `stack`, `heap`, `shared mapping` or `private mapping`.
     pub kind: &'static str,
@@ -18,10 +19,23 @@ pub struct RegionLine {
     /// What it grants to the user, as `rw-`.
     pub rights: &'static str,
     /// Of a mapping, the number of its file, and the offset in the file, in bytes, of the region's first byte.
-    #[serde(skip_serializing_if = "Option::is_none")]
     pub file: Option<u64>,
-    #[serde(skip_serializing_if = "Option::is_none")]
     pub offset: Option<u64>,
+}
+
+impl Described for RegionLine {}
+
+impl Serialize for RegionLine {
+    fn serialize<S: Serializer>(&self, out: &mut S) -> Result<(), S::Error> {
+        let mut object = ObjectWriter::begin(out);
+        object.member("kind", &self.kind);
+        object.member("start", &self.start);
+        object.member("end", &self.end);
+        object.member("rights", &self.rights);
+        object.maybe("file", &self.file);
+        object.maybe("offset", &self.offset);
+        object.finish()
+    }
 }
 
 fn kind_name(kind: RegionKind) -> &'static str {
@@ -35,22 +49,8 @@ fn kind_name(kind: RegionKind) -> &'static str {
     }
 }
 
-/// Returns rights by letters, as `r-x`.
-fn rights_text(rights: Rights) -> &'static str {
-    let reads = rights.contains(Rights::READ);
-    let writes = rights.contains(Rights::WRITE);
-    let executes = rights.contains(Rights::EXECUTE);
-    match (reads, writes, executes) {
-        (true, true, true) => "rwx",
-        (true, true, false) => "rw-",
-        (true, false, true) => "r-x",
-        (true, false, false) => "r--",
-        (false, true, true) => "-wx",
-        (false, true, false) => "-w-",
-        (false, false, true) => "--x",
-        (false, false, false) => "---",
-    }
-}
+/// Rights by letters, in the order of their bits: READ is 1, WRITE 2 and EXECUTE 4.
+static RIGHTS_TEXTS: [&str; 8] = ["---", "r--", "-w-", "rw-", "--x", "r-x", "-wx", "rwx"];
 
 impl RegionLine {
     /// Returns a region as it is shown.
@@ -65,7 +65,7 @@ impl RegionLine {
             kind: kind_name(region.kind),
             start: Hex(start),
             end: Hex(end),
-            rights: rights_text(region.rights),
+            rights: RIGHTS_TEXTS[region.rights.bits() as usize % 8],
             file,
             offset,
         }

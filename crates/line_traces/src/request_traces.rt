@@ -10,27 +10,39 @@ use crate::places::HartPlace;
 use crate::requests::Request;
 use crate::walks::{WalkLine, reference_count, walk_of};
 use hart_machine::Machine;
-use serde::Serialize;
+use json_objects::ObjectWriter;
+use serde::{Described, Serialize, Serializer};
 use std::alloc::{AllocError, Global};
 use sv39_entry::{Mode, Va};
 use walk_lines::BufferLine;
 
 /// The access or the fill of a line.
-#[derive(Drop, Serialize)]
+#[derive(Drop)]
 pub struct RequestTrace {
     /// A user access or, if the line serves a fault, the access that faulted.
-    #[serde(skip_serializing_if = "Option::is_none")]
     pub access: Option<AccessLine>,
     /// Whether the line serves that access.
     pub serves: bool,
     /// The entry of the buffer that the access uses.
-    #[serde(skip_serializing_if = "Option::is_none")]
     pub entry: Option<BufferLine>,
     /// What the walk of the access or of the fill reads; if the line serves a fault, what the walk of that access reads after it.
     pub walk: Vec<WalkLine>,
     /// Why the access faults, if the regions grant it.
-    #[serde(skip_serializing_if = "Option::is_none")]
     pub reason: Option<&'static str>,
+}
+
+impl Described for RequestTrace {}
+
+impl Serialize for RequestTrace {
+    fn serialize<S: Serializer>(&self, out: &mut S) -> Result<(), S::Error> {
+        let mut object = ObjectWriter::begin(out);
+        object.maybe("access", &self.access);
+        object.member("serves", &self.serves);
+        object.maybe("entry", &self.entry);
+        object.member("walk", &self.walk);
+        object.maybe("reason", &self.reason);
+        object.finish()
+    }
 }
 
 /// Returns an entry of a hart's buffer, by its number; `None` if it is not there.

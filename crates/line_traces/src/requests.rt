@@ -1,6 +1,7 @@
-// What a line of a script asks of a hart: which hart it names (`hart_of`), which access of the hart's process waits (`FaultedAccess`), which
-// access the line makes or which page it fills (`Request`), and which bytes of a process it touches (`Touched`).
+// What a line of a script asks of a hart: which access of the hart's process waits (`FaultedAccess`), which access the line makes or which page
+// it fills (`Request`), what the kernel copies (`KernelCopy`), and which bytes of a process the line touches (`Touched`).
 
+use crate::command_words::CommandWord;
 use hart_machine::{Machine, Pending};
 use process_model::Step;
 use script_language::Command;
@@ -31,44 +32,6 @@ pub struct Touched {
     pub width: u64,
 }
 
-/// Returns the hart that a line names, if it names one.
-pub fn hart_of(command: &Command) -> Option<usize> {
-    match command {
-        Command::One(step) => hart_of_step(step),
-        Command::Exec { hart, .. }
-        | Command::CopyOut { hart, .. }
-        | Command::On { hart, .. }
-        | Command::Enter { hart }
-        | Command::Leave { hart }
-        | Command::Fix { hart } => Some(*hart),
-        Command::Start { .. } | Command::Show { .. } | Command::Audit => None,
-    }
-}
-
-fn hart_of_step(step: &Step<'_>) -> Option<usize> {
-    match step {
-        Step::Start(_) => None,
-        Step::Switch { hart, .. }
-        | Step::Trap { hart }
-        | Step::Next { hart }
-        | Step::Fill { hart, .. }
-        | Step::Evict { hart, .. }
-        | Step::Fetch { hart, .. }
-        | Step::Load { hart, .. }
-        | Step::Store { hart, .. }
-        | Step::TrampolineFetch { hart, .. }
-        | Step::Serve { hart }
-        | Step::Fork { hart }
-        | Step::Exec { hart, .. }
-        | Step::Sbrk { hart, .. }
-        | Step::Mmap { hart, .. }
-        | Step::Munmap { hart, .. }
-        | Step::CopyIn { hart, .. }
-        | Step::CopyOut { hart, .. }
-        | Step::Exit { hart, .. } => Some(*hart),
-    }
-}
-
 /// Whether a line serves the fault of a hart's process.
 fn serves(command: &Command) -> bool {
     matches!(
@@ -87,7 +50,7 @@ pub struct FaultedAccess {
 
 /// Returns the access that faulted, of the process on the hart that a line names, if there is one.
 pub fn faulted(machine: &Machine, command: &Command) -> Option<FaultedAccess> {
-    let hart = hart_of(command)?;
+    let hart = CommandWord::of(command).hart?;
     let slot = machine.slot(hart)?;
     Some(FaultedAccess {
         hart,
@@ -100,14 +63,15 @@ pub fn faulted(machine: &Machine, command: &Command) -> Option<FaultedAccess> {
 fn served(machine: &Machine, command: &Command) -> Option<Request> {
     let faulted = faulted(machine, command)?;
     let access = faulted.access;
-    Some(user_access(
-        faulted.hart,
-        access.access,
-        access.va.0,
-        access.width,
-        None,
-        true,
-    ))
+    Some(Request {
+        hart: faulted.hart,
+        access: Some(access.access),
+        mode: Mode::User,
+        va: access.va,
+        width: access.width,
+        via: None,
+        serves: true,
+    })
 }
 
 /// Returns the request of a line: its access, its fill or, if it serves a fault, the access that faulted.
@@ -118,94 +82,87 @@ pub fn request_of(machine: &Machine, command: &Command) -> Option<Request> {
     made_by(machine.scheme(), command)
 }
 
-/// Returns an access of a user that a line makes, or serves.
-fn user_access(
-    hart: usize,
-    access: Access,
-    address: u64,
-    width: u64,
-    via: Option<usize>,
-    serves: bool,
-) -> Request {
-    Request {
-        hart,
-        access: Some(access),
-        mode: Mode::User,
-        va: Va(address),
-        width,
-        via,
-        serves,
-    }
-}
-
 /// Returns the access or the fill of a line, if it makes one, on a machine of this scheme.
-fn made_by(scheme: Scheme, command: &Command) -> Option<Request> {
+pub fn made_by(scheme: Scheme, command: &Command) -> Option<Request> {
     let Command::One(step) = command else {
         return None;
     };
-    match *step {
-        Step::Fetch { hart, address, via } => {
-            Some(user_access(hart, Access::Fetch, address, 4, via, false))
-        }
+    let (user, kernel) = (Mode::User, Mode::Supervisor);
+    let (hart, access, mode, address, width, via) = match *step {
+        Step::Fetch { hart, address, via } => (hart, Some(Access::Fetch), user, address, 4, via),
         Step::Load {
             hart,
             address,
             width,
             via,
-        } => Some(user_access(hart, Access::Load, address, width, via, false)),
+        } => (hart, Some(Access::Load), user, address, width, via),
         Step::Store {
             hart,
             address,
             width,
             via,
             ..
-        } => Some(user_access(hart, Access::Store, address, width, via, false)),
-        Step::TrampolineFetch { hart, offset, via } => Some(Request {
-            hart,
-            access: Some(Access::Fetch),
-            mode: Mode::Supervisor,
-            va: Va(scheme.trampoline().0.wrapping_add(offset)),
-            width: 4,
-            via,
-            serves: false,
-        }),
-        Step::Fill { hart, address } => Some(Request {
-            hart,
-            access: None,
-            mode: Mode::Supervisor,
-            va: Va(address),
-            width: 0,
-            via: None,
-            serves: false,
-        }),
-        _ => None,
-    }
+        } => (hart, Some(Access::Store), user, address, width, via),
+        Step::TrampolineFetch { hart, offset, via } => {
+            let address = scheme.trampoline().0.wrapping_add(offset);
+            (hart, Some(Access::Fetch), kernel, address, 4, via)
+        }
+        Step::Fill { hart, address } => (hart, None, kernel, address, 0, None),
+        _ => return None,
+    };
+    Some(Request {
+        hart,
+        access,
+        mode,
+        va: Va(address),
+        width,
+        via,
+        serves: false,
+    })
 }
 
-/// Returns the hart, the first address and the number of bytes of a kernel copy, if the line makes one.
-fn copied(command: &Command) -> Option<(usize, Va, u64)> {
-    match command {
+/// A kernel copy: how it accesses the memory of the process on a hart, and which bytes.
+#[derive(Clone, Copy)]
+pub struct KernelCopy {
+    pub hart: usize,
+    pub access: Access,
+    pub va: Va,
+    pub count: usize,
+}
+
+/// Returns the kernel copy of a line, if it makes one.
+pub fn copied(command: &Command) -> Option<KernelCopy> {
+    let (hart, access, address, count) = match command {
         Command::One(
             Step::CopyIn {
                 hart,
                 address,
                 count,
             },
-        ) => Some((*hart, Va(*address), *count as u64)),
+        ) => (*hart, Access::Load, *address, *count),
         Command::CopyOut {
             hart,
             address,
             bytes,
-        } => Some((*hart, Va(*address), bytes.as_slice().len() as u64)),
-        _ => None,
-    }
+        } => (*hart, Access::Store, *address, bytes.as_slice().len()),
+        _ => return None,
+    };
+    Some(KernelCopy {
+        hart,
+        access,
+        va: Va(address),
+        count,
+    })
 }
 
 /// Returns the bytes that a line touches of the process on its hart; `None` if it touches none, or there is no process.
 pub fn touched_by(machine: &Machine, command: &Command) -> Option<Touched> {
     let (hart, va, width) = match request_of(machine, command) {
         Some(request) => (request.hart, request.va, request.width),
-        None => copied(command)?,
+        None => {
+            let copy = copied(command)?;
+            (copy.hart, copy.va, copy.count as u64)
+        }
     };
     Some(Touched {
         slot: machine.slot(hart)?,

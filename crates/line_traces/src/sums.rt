@@ -9,8 +9,9 @@ use crate::frames::FrameChanges;
 use crate::leaves::{LeafChange, entries_of};
 use crate::traces::LineTrace;
 use hart_machine::Machine;
+use json_objects::ObjectWriter;
 use script_reader::first_field;
-use serde::Serialize;
+use serde::{Described, Serialize, Serializer};
 use std::alloc::{AllocError, Global};
 use sv39_entry::{Entry, Kind};
 use walk_lines::Hex;
@@ -19,7 +20,7 @@ use walk_lines::Hex;
 const COPY_ON_WRITE: u64 = 1 << 8;
 
 /// For what frames were taken.
-#[derive(Clone, Copy, Serialize)]
+#[derive(Clone, Copy)]
 pub struct TakenFrames {
     /// For page tables, the roots among them.
     pub tables: usize,
@@ -29,27 +30,60 @@ pub struct TakenFrames {
     pub copies: usize,
 }
 
+impl Described for TakenFrames {}
+
+impl Serialize for TakenFrames {
+    fn serialize<S: Serializer>(&self, out: &mut S) -> Result<(), S::Error> {
+        let mut object = ObjectWriter::begin(out);
+        object.member("tables", &self.tables);
+        object.member("pages", &self.pages);
+        object.member("copies", &self.copies);
+        object.finish()
+    }
+}
+
 /// Of what frames were given back.
-#[derive(Clone, Copy, Serialize)]
+#[derive(Clone, Copy)]
 pub struct GivenFrames {
     pub tables: usize,
     /// Of pages, copies among them.
     pub pages: usize,
 }
 
+impl Described for GivenFrames {}
+
+impl Serialize for GivenFrames {
+    fn serialize<S: Serializer>(&self, out: &mut S) -> Result<(), S::Error> {
+        let mut object = ObjectWriter::begin(out);
+        object.member("tables", &self.tables);
+        object.member("pages", &self.pages);
+        object.finish()
+    }
+}
+
 /// How many came, and how many went.
-#[derive(Clone, Copy, Serialize)]
+#[derive(Clone, Copy)]
 pub struct ComeAndGone {
     pub come: usize,
     pub gone: usize,
 }
 
+impl Described for ComeAndGone {}
+
+impl Serialize for ComeAndGone {
+    fn serialize<S: Serializer>(&self, out: &mut S) -> Result<(), S::Error> {
+        let mut object = ObjectWriter::begin(out);
+        object.member("come", &self.come);
+        object.member("gone", &self.gone);
+        object.finish()
+    }
+}
+
 /// What the lines since the audit before took and gave back. A frame that one line takes and a later one gives back counts in both; one that
 /// a line gives back and takes again, as `exec` may, in neither.
-#[derive(Clone, Copy, Serialize)]
+#[derive(Clone, Copy)]
 pub struct AuditSums {
     /// The number of the line of the audit before; `None`: since the boot.
-    #[serde(skip_serializing_if = "Option::is_none")]
     pub since: Option<u64>,
     pub taken: TakenFrames,
     pub given_back: GivenFrames,
@@ -57,6 +91,20 @@ pub struct AuditSums {
     pub shared: ComeAndGone,
     /// References that came to be, and those that were dropped.
     pub references: ComeAndGone,
+}
+
+impl Described for AuditSums {}
+
+impl Serialize for AuditSums {
+    fn serialize<S: Serializer>(&self, out: &mut S) -> Result<(), S::Error> {
+        let mut object = ObjectWriter::begin(out);
+        object.maybe("since", &self.since);
+        object.member("taken", &self.taken);
+        object.member("given_back", &self.given_back);
+        object.member("shared", &self.shared);
+        object.member("references", &self.references);
+        object.finish()
+    }
 }
 
 impl AuditSums {

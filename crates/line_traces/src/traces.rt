@@ -8,56 +8,67 @@ ghost use Rattle.process_model.specs.World.{World};
 
 use crate::before::{Before, command_of};
 use crate::changes::{Changes, Snapshot};
+use crate::command_words::CommandWord;
 use crate::explaining::explain_answer;
 use crate::places::HartPlace;
 use crate::request_traces::RequestTrace;
-use crate::requests::{Touched, hart_of, request_of, touched_by};
+use crate::requests::{Touched, request_of, touched_by};
 use crate::sums::AuditSums;
 use hart_machine::Machine;
+use json_objects::ObjectWriter;
 use line_player::{LinePlayer, LineReply};
 use script_language::Command;
 use script_reader::trim_return;
-use serde::Serialize;
+use serde::{Described, Serialize, Serializer};
 use std::alloc::{AllocError, Global};
 
 /// What is seen of a line once it was played.
-#[derive(Drop, Serialize)]
+#[derive(Drop)]
 pub struct Seen {
     /// Its answer, if it has one.
-    #[serde(skip_serializing_if = "Option::is_none")]
     pub answer: Option<String>,
     /// Where its hart is before the line.
-    #[serde(skip_serializing_if = "Option::is_none")]
     pub before: Option<HartPlace>,
     /// Its access or its fill, if it makes one and is not refused.
-    #[serde(skip_serializing_if = "Option::is_none")]
     pub request: Option<RequestTrace>,
     /// Why it was refused, its process was ended or a copy stopped, and which line would be right.
-    #[serde(skip_serializing_if = "Option::is_none")]
     pub note: Option<String>,
     /// What is other after the line, if it is a step and there is a machine.
-    #[serde(skip_serializing_if = "Option::is_none")]
     pub changes: Option<Changes>,
 }
 
 /// What happens on a line.
-#[derive(Drop, Serialize)]
+#[derive(Drop)]
 pub struct LineTrace {
     /// The number of the line, from 1.
     pub line: u64,
     /// The line.
     pub text: String,
     /// How it was answered.
-    #[serde(skip)]
     pub reply: LineReply,
-    #[serde(flatten)]
     pub seen: Seen,
     /// Of an audit, what was taken and given back since the one before; a `Ledger` puts it there.
-    #[serde(skip_serializing_if = "Option::is_none")]
     pub sums: Option<AuditSums>,
     /// The bytes that it touches.
-    #[serde(skip)]
     pub touched: Option<Touched>,
+}
+
+impl Described for LineTrace {}
+
+impl Serialize for LineTrace {
+    fn serialize<S: Serializer>(&self, out: &mut S) -> Result<(), S::Error> {
+        let mut object = ObjectWriter::begin(out);
+        object.member("line", &self.line);
+        object.member("text", &self.text);
+        let seen = &self.seen;
+        object.maybe("answer", &seen.answer);
+        object.maybe("before", &seen.before);
+        object.maybe("request", &seen.request);
+        object.maybe("note", &seen.note);
+        object.maybe("changes", &seen.changes);
+        object.maybe("sums", &self.sums);
+        object.finish()
+    }
 }
 
 /// What is seen before a line is played.
@@ -73,7 +84,7 @@ struct Start {
 fn seen_before(alloc: Global, machine: &Machine, command: &Command) -> Result<Start, AllocError>
     requires world { (w : World) × IsInWorld machine.now w }
 {
-    let snapshot = Snapshot::take(alloc, machine, hart_of(command))?;
+    let snapshot = Snapshot::take(alloc, machine, CommandWord::of(command).hart)?;
     let request = match request_of(machine, command) {
         Some(request) => Some(RequestTrace::of(alloc, machine, request)?),
         None => None,

@@ -7,37 +7,18 @@ ghost use Rattle.sv39_entry.specs.Word.{kind_of, ppn};
 ghost use Rattle.sv39_entry.specs.declared.entry.Kind.TheVariants as kind;
 
 use hart_machine::Machine;
+use json_objects::ObjectWriter;
 use serde::{Described, Serialize, Serializer};
 use std::alloc::{AllocError, Global};
-use std::fmt;
 use sv39_entry::{Entry, FrameNo, Kind, Va};
 use walk_lines::{Flags, Hex, WalkEntry, walk_entries};
 
-/// A word that a page table walk read.
+/// A word that a page table walk read. Its JSON has the page number of the table, and that to which the word leads.
 #[derive(Clone, Copy)]
 pub struct WalkLine {
     pub entry: WalkEntry,
     /// How many references the frame of a leaf has; `None` if the word is no leaf.
     pub references: Option<u16>,
-}
-
-/// A word that a page table walk read, as JSON has it.
-#[derive(Clone, Copy, Serialize)]
-struct WalkObject {
-    level: u32,
-    /// The physical page number of the table, and the index in it.
-    table: Hex,
-    index: usize,
-    #[serde(skip_serializing_if = "Option::is_none")]
-    word: Option<Hex>,
-    #[serde(skip_serializing_if = "Option::is_none")]
-    flags: Option<Flags>,
-    kind: &'static str,
-    /// The physical page number of the table or the page that the word leads to.
-    #[serde(skip_serializing_if = "Option::is_none")]
-    ppn: Option<Hex>,
-    #[serde(skip_serializing_if = "Option::is_none")]
-    references: Option<u16>,
 }
 
 /// Returns what a word is to a walk, and the page number to which it leads.
@@ -58,44 +39,19 @@ impl Described for WalkLine {}
 impl Serialize for WalkLine {
     fn serialize<S: Serializer>(&self, out: &mut S) -> Result<(), S::Error> {
         let entry = self.entry;
-        let (word, flags) = match entry.word {
-            Some(word) => (Some(Hex(word)), Some(Flags(word))),
-            None => (None, None),
-        };
         let (kind, ppn) = meaning(entry.word);
-        let object = WalkObject {
-            level: entry.level,
-            table: Hex(entry.table),
-            index: entry.index,
-            word,
-            flags,
-            kind,
-            ppn,
-            references: self.references,
-        };
-        object.serialize(out)
-    }
-}
-
-/// How many references as text, after a comma; nothing for none.
-#[derive(Clone, Copy)]
-struct References(Option<u16>);
-
-impl fmt::Display for References {
-    fn fmt<W: fmt::Write>(&self, f: &mut fmt::Formatter<W>) -> fmt::Result {
-        match self.0 {
-            Some(1) => write!(f, ", 1 reference"),
-            Some(count) => write!(f, ", {count} references"),
-            None => Ok(()),
+        let mut object = ObjectWriter::begin(out);
+        object.member("level", &entry.level);
+        object.member("table", &Hex(entry.table));
+        object.member("index", &entry.index);
+        if let Some(word) = entry.word {
+            object.member("word", &Hex(word));
+            object.member("flags", &Flags(word));
         }
-    }
-}
-
-/// For example `level 0: 0x80012[1] = 0x200051d3 VR--U-A-C leaf 0x80014, 2 references`.
-impl fmt::Display for WalkLine {
-    fn fmt<W: fmt::Write>(&self, f: &mut fmt::Formatter<W>) -> fmt::Result {
-        let (entry, references) = (self.entry, References(self.references));
-        write!(f, "{entry}{references}")
+        object.member("kind", &kind);
+        object.maybe("ppn", &ppn);
+        object.maybe("references", &self.references);
+        object.finish()
     }
 }
 
