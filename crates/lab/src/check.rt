@@ -5,14 +5,15 @@ ghost use Rattle.line_player.specs.Answers.{HasPlayed};
 ghost use Rattle.line_player.specs.PlayedLines.{Played};
 
 use crate::fault::Fault;
-use crate::lab::Reading;
+use crate::host::Reading;
 use crate::mistakes::{Place, tell_end, tell_refused};
 use crate::play::{Listener, each_line};
+use crate::printout::Printout;
 use crate::run::tell_unexpected;
-use crate::screen::{Screen, print, put_lossy};
+use crate::screen::{Screen, put_lossy};
 use crate::threads::{begins_for_threads, judge, read_rest};
 use grade_reports::{Reason, put_reason, reason_of_text, word_of};
-use handouts::split;
+use handouts::{Expected, split};
 use line_player::{LinePlayer, LineReply};
 use line_traces::{Before, explain_answer};
 use quiz_answers::is_right;
@@ -117,19 +118,17 @@ impl fmt::Display for Tally {
 /// Compares answers with those that the lines of a script expect, and prints the first line whose answer differs.
 #[derive(Drop)]
 pub struct CheckLines<'a> {
-    pub alloc: Global,
-    pub file: &'a str,
+    file: &'a str,
     /// What was counted so far.
     pub tally: Tally,
     /// Whether a refusal that no line expects ends the check.
-    pub strict: bool,
+    strict: bool,
 }
 
 impl<'a> CheckLines<'a> {
     /// Returns a check of a script of which nothing was read.
-    pub fn new(alloc: Global, file: &'a str, strict: bool) -> CheckLines<'a> {
+    pub fn new(file: &'a str, strict: bool) -> CheckLines<'a> {
         CheckLines {
-            alloc,
             file,
             tally: Tally {
                 files: 1,
@@ -139,40 +138,23 @@ impl<'a> CheckLines<'a> {
         }
     }
 
-    /// Returns, of an answer that is another than the expected one, that only its form differs, or why it is no plain success, if it is none.
-    fn note(
-        &self,
+    /// Counts an answer, if one is expected, and puts the line if it is the first of its script that differs, with why its answer is no
+    /// plain success.
+    fn compare(
+        &mut self,
+        out: &mut Text,
+        place: Place<'_>,
         player: &LinePlayer,
         before: &Before,
-        line: &[u8],
+        given: Expected<'_>,
         reply: LineReply,
-        expected: &[u8],
-    ) -> Result<Option<String>, AllocError>
+    )
         requires played { (s : Played) × HasPlayed player.now s }
     {
-        if reply != LineReply::Text || player.answer() == expected {
-            return Ok(None);
-        }
-        if let Some(note) = form_note(self.alloc, line, expected, player.answer())? {
-            return Ok(Some(note));
-        }
-        if is_right(self.alloc, expected, player.answer())? {
-            return Ok(Some(String::from_str(self.alloc, OTHER_FORM)?));
-        }
-        explain_answer(self.alloc, player, before, line)
-    }
-
-    /// Counts an answer that was expected, and prints the line if it is the first of its script that differs, with why its answer is
-    /// no plain success. A line without an answer answers `nothing`.
-    fn compare<S: Screen>(
-        &mut self,
-        screen: &mut S,
-        place: Place<'_>,
-        line: &[u8],
-        expected: &[u8],
-        answer: &[u8],
-        note: Option<String>,
-    ) {
+        let Some(expected) = given.answer else {
+            return;
+        };
+        let answer = told_answer(player, reply);
         self.tally.answers = self.tally.answers.saturating_add(1);
         if answer == expected {
             return;
@@ -181,92 +163,120 @@ impl<'a> CheckLines<'a> {
         if self.tally.differ > 1 {
             return;
         }
-        let mut text = Text::new(self.alloc);
-        if expected == b"?".as_slice() {
-            write!(&mut text, "{place}: blank: ");
-            put_lossy(&mut text, line);
-        } else {
-            write!(&mut text, "{place}: ");
-            put_lossy(&mut text, line);
-            text.push_str("\n  the file says    ");
-            put_lossy(&mut text, expected);
-            text.push_str("\n  the machine says ");
-            put_lossy(&mut text, answer);
-            put_why(&mut text, note);
+        put_difference(out, place, given.line, expected, answer);
+        if reply == LineReply::Text && expected != b"?".as_slice() {
+            put_why(out, player, before, given.line, expected);
         }
-        text.push_str("\n");
-        print(screen, text)
+        out.push_str("\n")
     }
 }
 
-/// Appends why an answer is no plain success, if it is none, on a line of its own.
-fn put_why(out: &mut Text, note: Option<String>) {
-    if let Some(note) = note {
-        write!(out, "\n  why              {note}");
+/// Returns the answer to a line; `nothing` if it has none.
+fn told_answer(player: &LinePlayer, reply: LineReply) -> &[u8] {
+    match reply {
+        LineReply::Text => player.answer(),
+        LineReply::Nothing | LineReply::Refused(_) => b"nothing",
+    }
+}
+
+/// Appends a line whose answer differs: what the file says, and the machine; a blank has no answer that could be told.
+fn put_difference(out: &mut Text, place: Place<'_>, line: &[u8], expected: &[u8], answer: &[u8]) {
+    write!(out, "{place}: ");
+    if expected == b"?".as_slice() {
+        out.push_str("blank: ");
+        return put_lossy(out, line);
+    }
+    put_lossy(out, line);
+    out.push_str("\n  the file says    ");
+    put_lossy(out, expected);
+    out.push_str("\n  the machine says ");
+    put_lossy(out, answer)
+}
+
+/// Returns, of an answer that is another than the expected one, that only its form differs, or why it is no plain success, if it is none.
+fn why_of(
+    alloc: Global,
+    player: &LinePlayer,
+    before: &Before,
+    line: &[u8],
+    expected: &[u8],
+) -> Result<Option<String>, AllocError>
+    requires played { (s : Played) × HasPlayed player.now s }
+{
+    if let Some(note) = form_note(alloc, line, expected, player.answer())? {
+        return Ok(Some(note));
+    }
+    if is_right(alloc, expected, player.answer())? {
+        return Ok(Some(String::from_str(alloc, OTHER_FORM)?));
+    }
+    explain_answer(alloc, player, before, line)
+}
+
+/// Appends what `why_of` returns, on a line of its own.
+fn put_why(out: &mut Text, player: &LinePlayer, before: &Before, line: &[u8], expected: &[u8])
+    requires played { (s : Played) × HasPlayed player.now s }
+{
+    match why_of(out.allocator(), player, before, line, expected) {
+        Ok(Some(why)) => write!(out, "\n  why              {why}"),
+        Ok(None) => {}
+        Err(error) => out.note(Err(error)),
     }
 }
 
 impl Listener for CheckLines<'_> {
-    fn line<S: Screen>(
+    fn line(
         &mut self,
-        screen: &mut S,
+        out: &mut Printout,
         player: &mut LinePlayer,
         number: u64,
         line: &[u8],
-    ) -> Result<(), Fault> {
+    ) -> Result<(), AllocError> {
         let given = split(line);
         let place = Place {
             file: self.file,
             line: number,
         };
-        let before = Before::line(self.alloc, player, given.line)?;
+        let before = Before::line(out.allocator(), player, given.line)?;
         let reply = player.line(given.line)?;
         if let LineReply::Refused(cause) = reply {
-            return tell_refused(self.alloc, screen, place, player, given.line, cause);
+            tell_refused(out, place, player, given.line, cause);
+        } else if self.strict {
+            tell_unexpected(out, place, player, &before, given);
         }
-        if self.strict {
-            tell_unexpected(self.alloc, screen, place, player, &before, given)?;
-        }
-        let Some(expected) = given.answer else {
-            return Ok(());
-        };
-        let note = self.note(player, &before, given.line, reply, expected)?;
-        if reply == LineReply::Text {
-            self.compare(screen, place, given.line, expected, player.answer(), note);
-        } else {
-            self.compare(screen, place, given.line, expected, b"nothing", note);
+        if out.is_open() {
+            self.compare(&mut out.out, place, player, &before, given, reply);
         }
         Ok(())
     }
 
-    fn end<S: Screen>(
-        &mut self,
-        screen: &mut S,
-        player: &LinePlayer,
-        lines: u64,
-    ) -> Result<(), Fault> {
-        tell_end(screen, self.file, player, lines)
+    fn end(&mut self, out: &mut Printout, player: &LinePlayer, lines: u64) {
+        tell_end(out, self.file, player, lines)
     }
 }
 
-impl Reading for CheckLines<'_> {
+/// A file that is checked, and where what is told of it goes.
+#[derive(Drop)]
+pub struct Checked<'a, S> {
+    pub screen: &'a mut S,
+    pub lines: CheckLines<'a>,
+}
+
+impl<S: Screen> Reading for Checked<'_, S> {
     /// Compares the answers of a script; judges a file for threads, which expects none.
     ///
     /// # Errors
     /// `Told`: the file is refused; that was told. `Read`: the reader failed. `Memory`: the host is out of memory.
-    fn read<R: Read + Drop, S: Screen>(
-        &mut self,
-        alloc: Global,
-        reader: R,
-        screen: &mut S,
-    ) -> Result<(), Fault> {
+    fn read<R: Read + Drop>(&mut self, alloc: Global, reader: R) -> Result<(), Fault> {
         let mut reader = BufReader::new(alloc, reader)?;
         let mut front = Vec::new(alloc);
         if begins_for_threads(alloc, &mut reader, &mut front)? {
             read_rest(reader, &mut front)?;
-            return judge(alloc, screen, self.file, front.as_slice());
+            let mut out = Printout::new(alloc);
+            judge(&mut out, self.lines.file, front.as_slice());
+            return out.print(self.screen);
         }
-        each_line(alloc, front.as_slice().chain(reader), screen, self)
+        let reader = front.as_slice().chain(reader);
+        each_line(alloc, reader, self.screen, &mut self.lines)
     }
 }
 
@@ -275,24 +285,16 @@ impl Reading for CheckLines<'_> {
 pub struct BareLines;
 
 impl Listener for BareLines {
-    fn line<S: Screen>(
+    fn line(
         &mut self,
-        screen: &mut S,
+        out: &mut Printout,
         _player: &mut LinePlayer,
         _number: u64,
         line: &[u8],
-    ) -> Result<(), Fault> {
-        screen.out_bytes(split(line).line);
-        screen.out("\n");
-        Ok(())
+    ) -> Result<(), AllocError> {
+        out.bytes.extend_from_slice(split(line).line)?;
+        out.bytes.extend_from_slice(b"\n")
     }
 
-    fn end<S: Screen>(
-        &mut self,
-        _screen: &mut S,
-        _player: &LinePlayer,
-        _lines: u64,
-    ) -> Result<(), Fault> {
-        Ok(())
-    }
+    fn end(&mut self, _out: &mut Printout, _player: &LinePlayer, _lines: u64) {}
 }

@@ -1,8 +1,7 @@
 // `ChosenLine`: a struct, the line of a script that `--line` names, with the steps next to it.
 
-use crate::fault::Fault;
 use crate::mistakes::Place;
-use crate::screen::Screen;
+use crate::printout::Printout;
 use std::fmt;
 
 /// The line of a script that a command line names. A step is a line that has an answer.
@@ -45,17 +44,9 @@ impl ChosenLine {
     }
 
     /// Tells that the line is no step, if that is so, and which steps are next to it; `lines` is how many lines were read.
-    ///
-    /// # Errors
-    /// `Told`: it is no step.
-    pub fn tell_missing<S: Screen>(
-        &self,
-        screen: &mut S,
-        file: &str,
-        lines: u64,
-    ) -> Result<(), Fault> {
+    pub fn tell_missing(&self, out: &mut Printout, file: &str, lines: u64) {
         if self.is_step {
-            return Ok(());
+            return;
         }
         let place = Place {
             file,
@@ -68,7 +59,7 @@ impl ChosenLine {
             "there is no such line"
         };
         let near = Near(*self);
-        Err(Fault::told(screen, format_args!("{place}: {what}; {near}\n")))
+        out.tell(format_args!("{place}: {what}; {near}\n"))
     }
 }
 

@@ -1,8 +1,7 @@
-// `Content`: what was read of a file that is handed in; `FirstBytes` reads it.
+// `Content`: what was read of a file that is handed in; `bytes_of` reads a file.
 
 use crate::fault::Fault;
-use crate::lab::Reading;
-use crate::screen::Screen;
+use crate::host::{Hosting, Reading};
 use grade_reports::Standing;
 use handouts::{Line, student_lines};
 use memchr::memchr;
@@ -17,25 +16,32 @@ const MOST_LINES: usize = 2000;
 
 /// The bytes of a file, at most so many and one more.
 #[derive(Drop)]
-pub struct FirstBytes {
-    pub bytes: Vec<u8>,
-    pub most: usize,
+struct FirstBytes {
+    bytes: Vec<u8>,
+    most: usize,
 }
 
 impl Reading for FirstBytes {
-    fn read<R: Read + Drop, S: Screen>(
-        &mut self,
-        _alloc: Global,
-        reader: R,
-        _screen: &mut S,
-    ) -> Result<(), Fault> {
+    fn read<R: Read + Drop>(&mut self, _alloc: Global, reader: R) -> Result<(), Fault> {
         let most = (self.most as u64).saturating_add(1);
-        let read = reader.take(most).read_to_end(&mut self.bytes);
-        match read {
+        match reader.take(most).read_to_end(&mut self.bytes) {
             Ok(_) => Ok(()),
             Err(error) => Err(Fault::of_reading(error)),
         }
     }
+}
+
+/// Returns the first bytes of a file, at most so many and one more; `-` is standard input.
+///
+/// # Errors
+/// `File`, `Read`: the file cannot be opened or read. `Memory`: the host is out of memory.
+pub fn bytes_of<H: Hosting>(host: &mut H, name: &str, most: usize) -> Result<Vec<u8>, Fault> {
+    let mut first = FirstBytes {
+        bytes: Vec::new(host.allocator()),
+        most,
+    };
+    host.give(name, &mut first)?;
+    Ok(first.bytes)
 }
 
 /// What was read of a file.

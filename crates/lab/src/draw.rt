@@ -8,19 +8,18 @@ use crate::chosen_line::ChosenLine;
 use crate::fault::Fault;
 use crate::mistakes::{Place, tell_end};
 use crate::play::{Listener, played};
-use crate::screen::Screen;
+use crate::printout::Printout;
 use handouts::split;
 use line_player::{LinePlayer, LineReply};
 use line_traces::{Ledger, trace_line};
 use pictures::{Page, PageHead, put_picture};
-use std::alloc::Global;
+use std::alloc::{AllocError, Global};
 use std::io::Write;
 use text_builder::Text;
 
 /// Draws the machine after the last line.
 #[derive(Drop)]
 pub struct DrawLines<'a> {
-    alloc: Global,
     file: &'a str,
     /// The picture (SVG), at the end.
     pub text: Text,
@@ -30,7 +29,6 @@ impl<'a> DrawLines<'a> {
     /// Returns a drawing of a script of which nothing was read.
     pub fn new(alloc: Global, file: &'a str) -> DrawLines<'a> {
         DrawLines {
-            alloc,
             file,
             text: Text::new(alloc),
         }
@@ -38,39 +36,32 @@ impl<'a> DrawLines<'a> {
 }
 
 impl Listener for DrawLines<'_> {
-    fn line<S: Screen>(
+    fn line(
         &mut self,
-        screen: &mut S,
+        out: &mut Printout,
         player: &mut LinePlayer,
         number: u64,
         line: &[u8],
-    ) -> Result<(), Fault> {
+    ) -> Result<(), AllocError> {
         let place = Place {
             file: self.file,
             line: number,
         };
-        played(self.alloc, screen, place, player, split(line).line)?;
+        played(out, place, player, split(line).line)?;
         Ok(())
     }
 
-    fn end<S: Screen>(
-        &mut self,
-        screen: &mut S,
-        player: &LinePlayer,
-        lines: u64,
-    ) -> Result<(), Fault> {
-        tell_end(screen, self.file, player, lines)?;
+    fn end(&mut self, out: &mut Printout, player: &LinePlayer, lines: u64) {
+        tell_end(out, self.file, player, lines);
         if let Some(machine) = player.machine() {
             put_picture(&mut self.text, machine);
         }
-        Ok(())
     }
 }
 
 /// Keeps the lines of a script, without the answers that they expect, and plays them.
 #[derive(Drop)]
 pub struct KeptLines<'a> {
-    alloc: Global,
     file: &'a str,
     /// The line at which the page opens, if one is named.
     chosen: Option<ChosenLine>,
@@ -82,7 +73,6 @@ impl<'a> KeptLines<'a> {
     /// Returns what is kept of a script of which nothing was read.
     pub fn new(alloc: Global, file: &'a str, chosen: Option<ChosenLine>) -> KeptLines<'a> {
         KeptLines {
-            alloc,
             file,
             chosen,
             text: Vec::new(alloc),
@@ -91,37 +81,30 @@ impl<'a> KeptLines<'a> {
 }
 
 impl Listener for KeptLines<'_> {
-    fn line<S: Screen>(
+    fn line(
         &mut self,
-        screen: &mut S,
+        out: &mut Printout,
         player: &mut LinePlayer,
         number: u64,
         line: &[u8],
-    ) -> Result<(), Fault> {
+    ) -> Result<(), AllocError> {
         let place = Place {
             file: self.file,
             line: number,
         };
         let bare = split(line).line;
-        let reply = played(self.alloc, screen, place, player, bare)?;
+        let reply = played(out, place, player, bare)?;
         if let (Some(chosen), LineReply::Text) = (&mut self.chosen, reply) {
             chosen.pass(number);
         }
         self.text.extend_from_slice(bare)?;
-        self.text.push(b'\n')?;
-        Ok(())
+        self.text.extend_from_slice(b"\n")
     }
 
-    fn end<S: Screen>(
-        &mut self,
-        screen: &mut S,
-        player: &LinePlayer,
-        lines: u64,
-    ) -> Result<(), Fault> {
-        tell_end(screen, self.file, player, lines)?;
-        match &self.chosen {
-            Some(chosen) => chosen.tell_missing(screen, self.file, lines),
-            None => Ok(()),
+    fn end(&mut self, out: &mut Printout, player: &LinePlayer, lines: u64) {
+        tell_end(out, self.file, player, lines);
+        if let Some(chosen) = &self.chosen {
+            chosen.tell_missing(out, self.file, lines);
         }
     }
 }
@@ -156,53 +139,47 @@ impl<'a, W: Write + Drop> PageLines<'a, W> {
     }
 
     /// Writes what comes next on the page.
-    fn put<S: Screen>(&mut self, screen: &mut S, text: Text) -> Result<(), Fault> {
-        let text = text.finish()?;
+    fn put(&mut self, out: &mut Printout, text: Text) {
+        let Ok(text) = text.finish() else {
+            return out.fail(Fault::Memory);
+        };
         match &mut self.paper {
-            Paper::Screen => screen.out(text.as_str()),
+            Paper::Screen => out.out.push_str(text.as_str()),
             Paper::File(name, file) => {
                 if let Err(error) = file.write_all(text.as_bytes()) {
-                    return Err(Fault::of_file(self.alloc, name, error));
+                    out.fail(Fault::of_file(self.alloc, name, error));
                 }
             }
         }
-        Ok(())
     }
 
     /// Writes the beginning of a page.
-    ///
-    /// # Errors
-    /// `File`: writing failed. `Memory`: the host is out of memory.
-    pub fn begin<S: Screen>(&mut self, screen: &mut S, head: PageHead<'_>) -> Result<(), Fault> {
+    pub fn begin(&mut self, out: &mut Printout, head: PageHead<'_>) {
         let mut text = Text::new(self.alloc);
         Page::put_start(&mut text, head);
-        self.put(screen, text)
+        self.put(out, text)
     }
 }
 
 impl<W: Write + Drop> Listener for PageLines<'_, W> {
-    fn line<S: Screen>(
+    fn line(
         &mut self,
-        screen: &mut S,
+        out: &mut Printout,
         player: &mut LinePlayer,
         number: u64,
         line: &[u8],
-    ) -> Result<(), Fault> {
+    ) -> Result<(), AllocError> {
         let mut trace = trace_line(self.alloc, player, number, split(line).line)?;
         self.ledger.add(&mut trace, player.machine())?;
         let mut text = Text::new(self.alloc);
         self.page.put_step(&mut text, &trace, player.machine());
-        self.put(screen, text)
+        self.put(out, text);
+        Ok(())
     }
 
-    fn end<S: Screen>(
-        &mut self,
-        screen: &mut S,
-        _player: &LinePlayer,
-        _lines: u64,
-    ) -> Result<(), Fault> {
+    fn end(&mut self, out: &mut Printout, _player: &LinePlayer, _lines: u64) {
         let mut text = Text::new(self.alloc);
         Page::put_end(&mut text);
-        self.put(screen, text)
+        self.put(out, text)
     }
 }

@@ -23,6 +23,8 @@ pub enum Fault {
     Read(io::Error),
     /// Printing fails.
     Io(io::Error),
+    /// The machine answers a line otherwise than a generator predicts: where, and how.
+    Differs(String),
     /// A script is refused, or answers differ; it was told.
     Told,
 }
@@ -43,7 +45,12 @@ impl Fault {
         match self {
             Fault::CommandLine(usage) if usage.is_asked() => 0,
             Fault::CommandLine(_) | Fault::Word(_) => 2,
-            Fault::Memory | Fault::File(_, _) | Fault::Read(_) | Fault::Io(_) | Fault::Told => 1,
+            Fault::Memory
+            | Fault::File(_, _)
+            | Fault::Read(_)
+            | Fault::Io(_)
+            | Fault::Differs(_)
+            | Fault::Told => 1,
         }
     }
 
@@ -58,18 +65,20 @@ impl Fault {
         }
     }
 
+    /// Returns that a word of the command line is wrong, and how.
+    pub fn of_word(alloc: Global, text: &str) -> Fault {
+        match String::from_str(alloc, text) {
+            Ok(text) => Fault::Word(text),
+            Err(_) => Fault::Memory,
+        }
+    }
+
     /// Returns that a file cannot be opened, read or written.
     pub fn of_file(alloc: Global, name: &str, error: io::Error) -> Fault {
         match String::from_str(alloc, name) {
             Ok(name) => Fault::File(name, error),
             Err(_) => Fault::Memory,
         }
-    }
-
-    /// Prints on standard error why the program ends, and returns that this was told.
-    pub fn told<S: Screen, D: fmt::Display + Drop>(screen: &mut S, text: D) -> Fault {
-        screen.err(text);
-        Fault::Told
     }
 
     /// Tells why the program ends, unless it was told.
@@ -119,6 +128,7 @@ impl fmt::Display for Fault {
                 let because = Because(error);
                 write!(f, "xv6lab: {because}")
             }
+            Fault::Differs(text) => write!(f, "{text}"),
             Fault::Told => Ok(()),
         }
     }

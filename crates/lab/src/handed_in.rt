@@ -94,7 +94,8 @@ impl Targets {
     fn add(&mut self, kind: Kind, file: String) -> Result<(), AllocError> {
         if kind == Kind::File {
             let target = Target { file, id: None };
-            return Ok(self.list.push(target)?);
+            self.list.push(target)?;
+            return Ok(());
         }
         let why = if kind == Kind::Folder {
             "a folder in a folder; name it as a FILE to grade the files in it"
@@ -158,7 +159,8 @@ impl Targets {
             kind_of(files, path)
         };
         if kind != Kind::Folder {
-            return Ok(self.add(kind, String::from_str(alloc, path)?)?);
+            self.add(kind, String::from_str(alloc, path)?)?;
+            return Ok(());
         }
         match self.add_folder(files, alloc, path) {
             Ok(()) => Ok(()),

@@ -2,9 +2,9 @@
 
 use crate::fault::Fault;
 use crate::grade::play_handout;
-use crate::screen::{Screen, put_lossy};
+use crate::printout::Printout;
+use crate::screen::put_lossy;
 use handouts::Asked;
-use std::alloc::Global;
 use text_builder::Text;
 
 /// Returns the machine's answer at the blank of this line, if there is one.
@@ -32,14 +32,9 @@ fn put_line(out: &mut Text, line: &str, answer: Option<&[u8]>) {
 ///
 /// # Errors
 /// Those of `play_handout`.
-pub fn key<S: Screen>(
-    alloc: Global,
-    screen: &mut S,
-    name: &str,
-    handout: &str,
-) -> Result<String, Fault> {
-    let asked = play_handout(alloc, screen, name, handout.as_bytes())?;
-    let mut text = Text::new(alloc);
+pub fn key(out: &mut Printout, name: &str, handout: &str) -> Result<String, Fault> {
+    let asked = play_handout(out, name, handout.as_bytes())?;
+    let mut text = Text::new(out.allocator());
     let mut number = 0usize;
     'lines: for line in handout.split('\n') {
         if number > 0 {

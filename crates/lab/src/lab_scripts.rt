@@ -1,9 +1,11 @@
 // The word `lab`: prints the handout of a lab, or its key, or writes it to a new file; or writes those of the students of a list to a folder.
 
 use crate::fault::Fault;
+use crate::grade_files::listed_students;
+use crate::host::Hosting;
 use crate::keys::key;
-use crate::lab::Host;
-use crate::screen::{Screen, print_error};
+use crate::printout::Printout;
+use crate::screen::Screen;
 use command_words::LabWords;
 use grade_reports::{Student, Visible, first_row, put_repeat, student_row};
 use lab_variants::{Lab, handout, plain, seed_of};
@@ -65,16 +67,9 @@ fn first_bytes<F: Files>(files: &F, alloc: Global, path: &str) -> Vec<u8> {
     bytes
 }
 
-/// Whether there is a file at a path that is not made from the handout of a lab for this id.
-fn is_anothers<F: Files>(
-    files: &F,
-    alloc: Global,
-    path: &str,
-    lab: Lab,
-    id: &str,
-) -> Result<bool, AllocError> {
-    let bytes = first_bytes(files, alloc, path);
-    match seed_of(alloc, lab, bytes.as_slice())? {
+/// Whether a file with these first bytes is not made from the handout of a lab for this id; without a byte there is no file.
+fn is_anothers(alloc: Global, bytes: &[u8], lab: Lab, id: &str) -> Result<bool, AllocError> {
+    match seed_of(alloc, lab, bytes)? {
         Some(seed) => Ok(seed.as_str() != id),
         None => Ok(!bytes.is_empty()),
     }
@@ -84,19 +79,20 @@ fn is_anothers<F: Files>(
 ///
 /// # Errors
 /// Those of `key`.
-fn script_of<S: Screen>(
-    alloc: Global,
-    screen: &mut S,
+fn script_of(
+    out: &mut Printout,
     lab: Lab,
     seed: Option<&str>,
     answers: bool,
 ) -> Result<String, Fault> {
-    let text = match seed {
-        Some(seed) => handout(alloc, lab, seed)?,
-        None => plain(alloc, lab)?,
+    let alloc = out.allocator();
+    let made = match seed {
+        Some(seed) => handout(alloc, lab, seed),
+        None => plain(alloc, lab),
     };
+    let text = made?;
     if answers {
-        key(alloc, screen, lab.name(), text.as_str())
+        key(out, lab.name(), text.as_str())
     } else {
         Ok(text)
     }
@@ -153,22 +149,37 @@ impl HandedOut {
     ///
     /// # Errors
     /// Those of `key`.
-    fn of<F: Files, S: Screen>(
+    fn of<F: Files>(
         files: &F,
         alloc: Global,
-        screen: &mut S,
+        out: &mut Printout,
         order: Order<'_>,
         students: Vec<Student>,
     ) -> Result<HandedOut, Fault> {
         let mut given = HandedOut::nothing(alloc, order)?;
         'students: for student in students {
-            given.add(files, alloc, screen, order, student)?;
+            if !given.is_repeated(&student) {
+                let text = script_of(out, order.lab, Some(student.id.as_str()), order.answers)?;
+                given.add(files, alloc, order, student, text.as_str())?;
+            }
         }
         given.tell_more();
         if given.written > 0 {
             given.put_list(files, alloc, order)?;
         }
         Ok(given)
+    }
+
+    /// Whether a student has the id of one so far; if so, that is told.
+    fn is_repeated(&mut self, student: &Student) -> bool {
+        let id = student.id.as_str();
+        match first_row(self.students.as_slice(), id) {
+            Some(first) => {
+                put_repeat(&mut self.told, first, student.row, id);
+                true
+            }
+            None => false,
+        }
     }
 
     /// Whether a path is that of a student's file so far.
@@ -195,9 +206,9 @@ impl HandedOut {
         let mut path = format!(in alloc; "{folder}/{name}-{safe_id}.script")?;
         let first = self.students.len().saturating_add(1);
         'numbers: for number in first..first.saturating_add(MOST_LISTS) {
-            if !self.has(path.as_str())
-                && !is_anothers(files, alloc, path.as_str(), order.lab, id)?
-            {
+            let bytes = first_bytes(files, alloc, path.as_str());
+            let is_anothers = is_anothers(alloc, bytes.as_slice(), order.lab, id)?;
+            if !is_anothers && !self.has(path.as_str()) {
                 break;
             }
             path = format!(in alloc; "{folder}/{name}-{safe_id}-{number}.script")?;
@@ -205,27 +216,8 @@ impl HandedOut {
         Ok(path)
     }
 
-    /// Writes the handout of a student.
-    fn add<F: Files, S: Screen>(
-        &mut self,
-        files: &F,
-        alloc: Global,
-        screen: &mut S,
-        order: Order<'_>,
-        student: Student,
-    ) -> Result<(), Fault> {
-        let id = student.id.as_str();
-        if let Some(first) = first_row(self.students.as_slice(), id) {
-            put_repeat(&mut self.told, first, student.row, id);
-            return Ok(());
-        }
-        let text = script_of(alloc, screen, order.lab, Some(id), order.answers)?;
-        self.add_text(files, alloc, order, student, text.as_str())?;
-        Ok(())
-    }
-
     /// Writes the script of a student.
-    fn add_text<F: Files>(
+    fn add<F: Files>(
         &mut self,
         files: &F,
         alloc: Global,
@@ -243,7 +235,8 @@ impl HandedOut {
             file: path,
             ..student
         };
-        Ok(self.students.push(student)?)
+        self.students.push(student)?;
+        Ok(())
     }
 
     /// Writes a new file, or tells why not, unless there is one already.
@@ -311,90 +304,86 @@ impl HandedOut {
         Ok(())
     }
 
-    /// Prints how many handouts were written, and where their list is.
-    fn print_summary<S: Screen>(&self, screen: &mut S) {
+    /// Appends how many handouts were written, and where their list is.
+    fn put_summary(&self, out: &mut Text) {
         let (written, list) = (self.written, Visible(self.list.as_str()));
         match written {
-            0 => screen.out("0 scripts written\n"),
-            1 => screen.out(format_args!("1 script written; the list is {list}\n")),
-            _ => screen.out(format_args!("{written} scripts written; their list is {list}\n")),
+            0 => out.push_str("0 scripts written\n"),
+            1 => writeln!(out, "1 script written; the list is {list}"),
+            _ => writeln!(out, "{written} scripts written; their list is {list}"),
         }
     }
 }
 
-impl<F: Files, I: Read + Drop> Host<'_, F, I> {
-    /// Prints the handout of a lab for a seed, or that of its page if there is none, or its key; or writes it to a new file; or writes those of
-    /// a list.
-    pub fn hand_out<S: Screen>(&mut self, screen: &mut S, words: &LabWords) -> Result<(), Fault> {
-        if let Some(list) = &words.seeds {
-            return self.hand_out_all(screen, words, list.as_str());
-        }
-        let seed = match &words.seed {
-            Some(seed) => Some(seed.as_str()),
-            None => None,
-        };
-        let text = script_of(self.alloc, screen, words.lab, seed, words.answers)?;
-        let out = words.out.as_str();
-        if out == "-" {
-            screen.out(text.as_str());
-            return Ok(());
-        }
-        self.write_new(screen, out, text.as_bytes())
-    }
+/// Prints the handout of a lab for a seed, or that of its page if there is none, or its key; or writes it to a new file; or writes those of
+/// a list.
+pub fn hand_out<H: Hosting, S: Screen>(
+    host: &mut H,
+    screen: &mut S,
+    words: &LabWords,
+) -> Result<(), Fault> {
+    let mut out = Printout::new(host.allocator());
+    let done = match &words.seeds {
+        Some(list) => hand_out_all(host, &mut out, words, list.as_str()),
+        None => hand_out_one(host.files(), &mut out, words),
+    };
+    out.end(screen, done)
+}
 
-    /// Writes a text to a new file. A file that is there may have a student's answers: it stays as it is.
-    ///
-    /// # Errors
-    /// `Told`: it is there already; that was told. `File`: it cannot be made. `Memory`: the host is out of memory.
-    fn write_new<S: Screen>(&self, screen: &mut S, out: &str, text: &[u8]) -> Result<(), Fault> {
-        let Err(error) = put_new(self.files, out, text) else {
-            return Ok(());
-        };
-        if error.kind() != io::ErrorKind::AlreadyExists {
-            return Err(Fault::of_file(self.alloc, out, error));
-        }
-        let out = Visible(out);
-        Err(Fault::told(
-            screen,
-            format_args!(
-                "{out} is there already, and stays as it is; name another file after -o\n"
-            ),
-        ))
+/// Puts a handout, or writes it to a new file. A file that is there may have a student's answers: it stays as it is.
+///
+/// # Errors
+/// `Told`: the file is there already; that was told. `File`: it cannot be made. `Memory`: the host is out of memory.
+fn hand_out_one<F: Files>(files: &F, out: &mut Printout, words: &LabWords) -> Result<(), Fault> {
+    let text = script_of(out, words.lab, words.seed.as_deref(), words.answers)?;
+    let path = words.out.as_str();
+    if path == "-" {
+        out.out.push_str(text.as_str());
+        return Ok(());
     }
+    match put_new(files, path, text.as_bytes()) {
+        Ok(()) => Ok(()),
+        Err(error) if error.kind() == io::ErrorKind::AlreadyExists => {
+            let path = Visible(path);
+            out.tell(format_args!(
+                "{path} is there already, and stays as it is; name another file after -o\n"
+            ));
+            Err(Fault::Told)
+        }
+        Err(error) => Err(Fault::of_file(out.allocator(), path, error)),
+    }
+}
 
-    /// Writes the handouts of the students of a list to a folder, and a list of them.
-    ///
-    /// # Errors
-    /// `Word`: no folder is named. `Told`: the list is faulty, or a file is not written; that was told. `File`: the list cannot be read, or the
-    /// folder not made. `Memory`: the host is out of memory.
-    fn hand_out_all<S: Screen>(
-        &mut self,
-        screen: &mut S,
-        words: &LabWords,
-        list: &str,
-    ) -> Result<(), Fault> {
-        let (alloc, folder) = (self.alloc, words.out.as_str());
-        if folder == "-" {
-            return Err(Fault::Word(String::from_str(
-                alloc,
-                "--seeds takes -o DIR, the folder for the scripts",
-            )?));
-        }
-        let students = self.students(screen, list, false)?;
-        if let Err(error) = fs::create_dir_all(self.files, folder) {
-            return Err(Fault::of_file(alloc, folder, error));
-        }
-        let order = Order {
-            lab: words.lab,
-            answers: words.answers,
-            folder: folder.strip_suffix('/').unwrap_or(folder),
-        };
-        let given = HandedOut::of(self.files, alloc, screen, order, students)?;
-        given.print_summary(screen);
-        if given.told.is_empty() {
-            return Ok(());
-        }
-        print_error(screen, given.told);
-        Err(Fault::Told)
+/// Writes the handouts of the students of a list to a folder, and a list of them.
+///
+/// # Errors
+/// `Word`: no folder is named. `Told`: the list is faulty, or a file is not written; that was told. `File`: the list cannot be read, or the
+/// folder not made. `Memory`: the host is out of memory.
+fn hand_out_all<H: Hosting>(
+    host: &mut H,
+    out: &mut Printout,
+    words: &LabWords,
+    list: &str,
+) -> Result<(), Fault> {
+    let (alloc, folder) = (host.allocator(), words.out.as_str());
+    if folder == "-" {
+        let text = "--seeds takes -o DIR, the folder for the scripts";
+        return Err(Fault::of_word(alloc, text));
     }
+    let students = listed_students(host, out, list, false)?;
+    if let Err(error) = fs::create_dir_all(host.files(), folder) {
+        return Err(Fault::of_file(alloc, folder, error));
+    }
+    let order = Order {
+        lab: words.lab,
+        answers: words.answers,
+        folder: folder.strip_suffix('/').unwrap_or(folder),
+    };
+    let given = HandedOut::of(host.files(), alloc, out, order, students)?;
+    given.put_summary(&mut out.out);
+    if given.told.is_empty() {
+        return Ok(());
+    }
+    out.warn(given.told);
+    Err(Fault::Told)
 }

@@ -5,13 +5,12 @@ ghost use Rattle.line_player.specs.PlayedLines.{Played};
 
 use crate::fault::Fault;
 use crate::play::is_among;
-use crate::screen::Screen;
+use crate::printout::Printout;
 use fault_texts::{explain, explain_end};
 use grade_reports::Visible;
 use line_player::LinePlayer;
 use script_language::Cause;
 use script_reader::{first_field, trim_return};
-use std::alloc::Global;
 use std::fmt;
 
 /// Where a line of a script is, as `FILE:LINE`.
@@ -42,44 +41,42 @@ fn is_for_mmu(line: &[u8]) -> bool {
     }
 }
 
-/// Tells why a line is refused, and returns `Told`.
-pub fn tell_refused<S: Screen>(
-    alloc: Global,
-    screen: &mut S,
+/// Tells why a line is refused.
+pub fn tell_refused(
+    out: &mut Printout,
     place: Place<'_>,
     player: &LinePlayer,
     line: &[u8],
     cause: Cause,
-) -> Result<(), Fault> {
-    let mistake = explain(alloc, player.draft(), trim_return(line), cause)?;
+) {
+    let Ok(mistake) = explain(out.allocator(), player.draft(), trim_return(line), cause) else {
+        return out.fail(Fault::Memory);
+    };
     let text = mistake.text.as_str();
     match mistake.column {
-        Some(column) => screen.err(format_args!("{place}:{column}: {text}\n")),
-        None => screen.err(format_args!("{place}: {text}\n")),
+        Some(column) => out.tell(format_args!("{place}:{column}: {text}\n")),
+        None => out.tell(format_args!("{place}: {text}\n")),
     }
     if is_for_mmu(line) {
         let file = Visible(place.file);
-        screen.err(format_args!("this is a line for a reference MMU: xv6lab mmu {file}\n"));
+        writeln!(
+            &mut out.err,
+            "this is a line for a reference MMU: xv6lab mmu {file}"
+        );
     }
-    Err(Fault::Told)
 }
 
-/// Tells that a script has no `boot`, and returns `Told`, if that is so.
-pub fn tell_end<S: Screen>(
-    screen: &mut S,
-    file: &str,
-    player: &LinePlayer,
-    lines: u64,
-) -> Result<(), Fault>
+/// Tells that a script has no `boot`, if that is so.
+pub fn tell_end(out: &mut Printout, file: &str, player: &LinePlayer, lines: u64)
     requires played { (s : Played) × HasPlayed player.now s }
 {
     if player.machine().is_some() {
-        return Ok(());
+        return;
     }
     let place = Place {
         file,
         line: lines.saturating_add(1),
     };
     let text = explain_end();
-    Err(Fault::told(screen, format_args!("{place}: {text}\n")))
+    out.tell(format_args!("{place}: {text}\n"))
 }

@@ -1,72 +1,53 @@
-// Prints grades as a command line asks for: `print_grades`.
+// Puts grades as a command line asks for: `put_grades`.
 
-use crate::fault::Fault;
-use crate::screen::{Screen, print, print_object};
+use crate::screen::{put_lossy, put_object};
 use command_words::GradeForm;
 use grade_reports::{
     FileGrade, FileObject, ResultsObject, csv_head, csv_row, put_summary, put_table,
 };
-use std::alloc::Global;
 use text_builder::Text;
 
-/// Prints grades.
-///
-/// # Errors
-/// `Memory`: the host is out of memory.
-pub fn print_grades<S: Screen>(
-    alloc: Global,
-    screen: &mut S,
-    form: GradeForm,
-    grades: &[FileGrade],
-) -> Result<(), Fault> {
+/// Appends grades.
+pub fn put_grades(out: &mut Text, form: GradeForm, grades: &[FileGrade]) {
     match form {
         GradeForm::Table => {
-            print_table(alloc, screen, grades);
-            Ok(())
+            put_table(out.allocator(), out, grades);
+            put_summary(out, grades)
         }
-        GradeForm::Csv => print_csv(alloc, screen, grades),
-        GradeForm::Json => print_objects(alloc, screen, grades),
-        GradeForm::Gradescope => print_results(alloc, screen, grades),
+        GradeForm::Csv => put_csv(out, grades),
+        GradeForm::Json => put_objects(out, grades),
+        GradeForm::Gradescope => put_results(out, grades),
     }
 }
 
-/// Prints grades as a table, and what is counted of all.
-fn print_table<S: Screen>(alloc: Global, screen: &mut S, grades: &[FileGrade]) {
-    let mut text = Text::new(alloc);
-    put_table(alloc, &mut text, grades);
-    put_summary(&mut text, grades);
-    print(screen, text)
-}
-
-/// Prints grades as CSV.
-fn print_csv<S: Screen>(alloc: Global, screen: &mut S, grades: &[FileGrade]) -> Result<(), Fault> {
-    screen.out(csv_head());
-    'grades: for grade in grades {
-        screen.out_bytes(csv_row(alloc, grade)?.as_slice());
+/// Appends grades as CSV.
+fn put_csv(out: &mut Text, grades: &[FileGrade]) {
+    out.push_str(csv_head());
+    for grade in grades {
+        match csv_row(out.allocator(), grade) {
+            // its fields are text, so it is
+            Ok(row) => put_lossy(out, row.as_slice()),
+            Err(error) => out.note(Err(error)),
+        }
     }
-    Ok(())
 }
 
-/// Prints grades as JSON objects, one a line.
-fn print_objects<S: Screen>(
-    alloc: Global,
-    screen: &mut S,
-    grades: &[FileGrade],
-) -> Result<(), Fault> {
-    'grades: for grade in grades {
-        print_object(alloc, screen, &FileObject::of(alloc, grade)?);
+/// Appends grades as JSON objects, one a line.
+fn put_objects(out: &mut Text, grades: &[FileGrade]) {
+    for grade in grades {
+        match FileObject::of(out.allocator(), grade) {
+            Ok(object) => put_object(out, &object),
+            Err(error) => out.note(Err(error)),
+        }
     }
-    Ok(())
 }
 
-/// Prints the grade of the first file as Gradescope takes it.
-fn print_results<S: Screen>(
-    alloc: Global,
-    screen: &mut S,
-    grades: &[FileGrade],
-) -> Result<(), Fault> {
+/// Appends the grade of the first file as Gradescope takes it.
+fn put_results(out: &mut Text, grades: &[FileGrade]) {
     if let Some(grade) = grades.first() {
-        print_object(alloc, screen, &ResultsObject::of(alloc, grade)?);
+        match ResultsObject::of(out.allocator(), grade) {
+            Ok(object) => put_object(out, &object),
+            Err(error) => out.note(Err(error)),
+        }
     }
-    Ok(())
 }

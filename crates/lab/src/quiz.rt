@@ -1,12 +1,13 @@
 // `Game`: a quiz whose script was played: the answers, what happened on each line, and which lines are asked.
 
+ghost use Rattle.std.specs.Prelude.{IfOk};
 ghost use Rattle.line_player.specs.Answers.{HasPlayed};
 ghost use Rattle.line_player.specs.PlayedLines.{Played};
 
 use crate::fault::Fault;
-use crate::play::{Listener, each_line, is_among};
-use crate::screen::Screen;
-use crate::usertest::{script_text, tell_difference};
+use crate::plain::plain_line;
+use crate::play::is_among;
+use crate::usertest::difference;
 use grade_reports::{Reason, put_reason as put_wrong, reason_of_text, word_of};
 use line_player::LinePlayer;
 use line_traces::{Ledger, put_trace, trace_line};
@@ -23,7 +24,7 @@ use text_builder::Text;
 use usertest_rows::Line;
 use usertest_text::{PlayFault, compare, predicted_answers};
 
-/// Keeps what happens on each line of a script and, if it is to be drawn, a picture of the machine after it.
+/// What happens on each line of a script and, if it is to be drawn, a picture of the machine after it.
 #[derive(Drop)]
 struct Seen {
     alloc: Global,
@@ -45,16 +46,12 @@ impl Seen {
         }
         text.finish()
     }
-}
 
-impl Listener for Seen {
-    fn line<S: Screen>(
-        &mut self,
-        _screen: &mut S,
-        player: &mut LinePlayer,
-        number: u64,
-        line: &[u8],
-    ) -> Result<(), Fault> {
+    /// Plays a line, and notes what happens on it.
+    fn play(&mut self, player: &mut LinePlayer, number: u64, line: &[u8]) -> Result<(), AllocError>
+        requires played { (s : Played) × HasPlayed player.old s }
+        ensures played { IfOk result (λ _. (s : Played) × HasPlayed player.new s) }
+    {
         let mut trace = trace_line(self.alloc, player, number, line)?;
         self.ledger.add(&mut trace, player.machine())?;
         let mut text = Text::new(self.alloc);
@@ -64,15 +61,28 @@ impl Listener for Seen {
         self.pictures.push(picture)?;
         Ok(())
     }
+}
 
-    fn end<S: Screen>(
-        &mut self,
-        _screen: &mut S,
-        _player: &LinePlayer,
-        _lines: u64,
-    ) -> Result<(), Fault> {
-        Ok(())
+/// Plays the lines of a script, and returns what happens on each; `draws`: the machine is drawn.
+///
+/// # Errors
+/// `AllocError`: the host is out of memory.
+fn look_at(alloc: Global, lines: &[Line], draws: bool) -> Result<Seen, AllocError> {
+    let mut player = LinePlayer::new(alloc)?;
+    let mut seen = Seen {
+        alloc,
+        draws,
+        ledger: Ledger::new(alloc),
+        traces: Vec::new(alloc),
+        pictures: Vec::new(alloc),
+    };
+    let mut number = 0u64;
+    'lines: for line in lines {
+        number = number.saturating_add(1);
+        let text = plain_line(alloc, line.text.as_bytes())?;
+        seen.play(&mut player, number, text.as_slice())?;
     }
+    Ok(seen)
 }
 
 /// A quiz whose script was played.
@@ -155,23 +165,19 @@ fn put_verdict(out: &mut Text, outcome: &str, verdict: &str, reason: &str) {
 }
 
 /// Appends what a reference MMU answers to a line that tells an outcome: that it is permitted, or why it is not.
-fn put_reason(
-    out: &mut Text,
-    player: &mut MmuPlayer,
-    line: &str,
-    outcome: &str,
-) -> Result<(), AllocError> {
+fn put_reason(out: &mut Text, player: &mut MmuPlayer, line: &str, outcome: &str) {
     let alloc = out.allocator();
-    let text = format!(in alloc; "{line} => {outcome}")?;
-    let answer = player.line(text.as_str().as_bytes())?;
-    match &answer {
-        Some(Answer::NotPermitted { reason, .. }) => {
+    let Ok(text) = format!(in alloc; "{line} => {outcome}") else {
+        return out.note(Err(AllocError));
+    };
+    match player.line(text.as_bytes()) {
+        Ok(Some(Answer::NotPermitted { reason, .. })) => {
             put_verdict(out, outcome, "NOT permitted: ", reason.as_str())
         }
-        Some(Answer::Permitted(_)) => put_verdict(out, outcome, "permitted", ""),
-        _ => {}
+        Ok(Some(Answer::Permitted(_))) => put_verdict(out, outcome, "permitted", ""),
+        Ok(_) => {}
+        Err(error) => out.note(Err(error)),
     }
-    Ok(())
 }
 
 /// Returns why an outcome that a guess lacks is permitted, by the word with which a reference MMU begins it.
@@ -255,12 +261,7 @@ impl Game {
     ///
     /// # Errors
     /// Those of `play`.
-    fn attempt<S: Screen>(
-        alloc: Global,
-        screen: &mut S,
-        order: Order,
-        attempt: u64,
-    ) -> Result<Game, Fault> {
+    fn attempt(alloc: Global, order: Order, attempt: u64) -> Result<Game, Fault> {
         let quiz = make(alloc, order.subject, order.seed, attempt)?;
         let played = match quiz.teller {
             Teller::Machine => predicted_answers(alloc, quiz.lines.as_slice()),
@@ -271,7 +272,7 @@ impl Game {
             Err(fault) => {
                 let (name, seed) = (order.subject.name(), order.seed);
                 let line = format_args!("quiz {name} {seed}: line ");
-                return Err(tell_difference(screen, line, fault));
+                return Err(difference(alloc, line, fault));
             }
         };
         let script = Script {
@@ -293,41 +294,32 @@ impl Game {
     /// Returns the quiz of a subject and a seed, played.
     ///
     /// # Errors
-    /// `Told`: the machine answers a line otherwise than the generator predicts; that was told. `Memory`: the host is out of memory.
-    pub fn play<S: Screen>(alloc: Global, screen: &mut S, order: Order) -> Result<Game, Fault> {
-        let mut game = Game::attempt(alloc, screen, order, 0)?;
+    /// `Differs`: the machine answers a line otherwise than the generator predicts. `Memory`: the host is out of memory.
+    pub fn play(alloc: Global, order: Order) -> Result<Game, Fault> {
+        let mut game = Game::attempt(alloc, order, 0)?;
         'attempts: for attempt in 1..ATTEMPTS {
             if game.asked.len() >= order.count.min(ENOUGH) {
                 break;
             }
-            game = Game::attempt(alloc, screen, order, attempt)?;
+            game = Game::attempt(alloc, order, attempt)?;
         }
-        game.look(screen, order.draws)?;
+        game.look(order.draws)?;
         Ok(game)
     }
 
     /// Notes what happens on each line.
-    fn look<S: Screen>(&mut self, screen: &mut S, draws: bool) -> Result<(), Fault> {
-        let alloc = self.alloc;
+    fn look(&mut self, draws: bool) -> Result<(), AllocError> {
         if self.quiz.teller == Teller::Mmu {
             return self.look_at_mmu();
         }
-        let script = script_text(alloc, self.quiz.lines.as_slice()).finish()?;
-        let mut seen = Seen {
-            alloc,
-            draws,
-            ledger: Ledger::new(alloc),
-            traces: Vec::new(alloc),
-            pictures: Vec::new(alloc),
-        };
-        each_line(alloc, script.as_bytes(), screen, &mut seen)?;
+        let seen = look_at(self.alloc, self.quiz.lines.as_slice(), draws)?;
         self.traces = seen.traces;
         self.pictures = seen.pictures;
         Ok(())
     }
 
     /// Notes what the reference MMU says of each line.
-    fn look_at_mmu(&mut self) -> Result<(), Fault> {
+    fn look_at_mmu(&mut self) -> Result<(), AllocError> {
         let mut player = MmuPlayer::new(self.alloc);
         for at in 0..self.quiz.lines.len() {
             let trace = mmu_trace(
@@ -401,47 +393,53 @@ impl Game {
     }
 
     /// Appends the outcomes that a guess lacks, one a line, with why they are permitted too.
-    fn put_missed(&self, out: &mut Text, at: usize, guess: &[u8]) -> Result<(), AllocError> {
-        let missed = missed_parts(self.alloc, guess, self.answer(at).as_bytes())?;
+    fn put_missed(&self, out: &mut Text, at: usize, guess: &[u8]) {
+        let Ok(missed) = missed_parts(self.alloc, guess, self.answer(at).as_bytes()) else {
+            return out.note(Err(AllocError));
+        };
         'parts: for part in missed.as_slice() {
             let part = part.as_slice();
             let outcome = std::str::from_utf8(part).unwrap_or("?");
             let why = why_permitted(part);
             writeln!(out, "  missed: {outcome}: {why}");
         }
-        Ok(())
     }
 
     /// Appends what the reference MMU says of the outcomes in a guess, one a line.
-    fn put_reasons(&self, out: &mut Text, at: usize, guess: &[u8]) -> Result<(), AllocError> {
-        let mut player = self.mmu_before(at)?;
-        let parts = plain_parts(self.alloc, guess)?;
+    fn put_reasons(&self, out: &mut Text, at: usize, guess: &[u8]) {
+        let (Ok(mut player), Ok(parts)) = (self.mmu_before(at), plain_parts(self.alloc, guess))
+        else {
+            return out.note(Err(AllocError));
+        };
         'parts: for part in parts.as_slice() {
-            let outcome = told_outcome(self.alloc, part.as_slice())?;
-            put_reason(out, &mut player, self.line(at), outcome.as_str())?;
+            match told_outcome(self.alloc, part.as_slice()) {
+                Ok(outcome) => put_reason(out, &mut player, self.line(at), outcome.as_str()),
+                Err(error) => out.note(Err(error)),
+            }
         }
-        Ok(())
     }
 
     /// Appends which parts of a guess at a line are wrong, if its word is right.
-    fn put_wrong_parts(&self, out: &mut Text, at: usize, guess: &[u8]) -> Result<(), AllocError> {
+    fn put_wrong_parts(&self, out: &mut Text, at: usize, guess: &[u8]) {
         let word = word_of(self.line(at).as_bytes());
-        let reason = reason_of_text(self.alloc, word, guess, self.answer(at).as_bytes())?;
-        if let Reason::Parts(_) = &reason {
-            out.push_str("  ");
-            put_wrong(out, word, &reason);
-            out.push_str("\n");
+        match reason_of_text(self.alloc, word, guess, self.answer(at).as_bytes()) {
+            Ok(reason) if matches!(reason, Reason::Parts(_)) => {
+                out.push_str("  ");
+                put_wrong(out, word, &reason);
+                out.push_str("\n")
+            }
+            Ok(_) => {}
+            Err(error) => out.note(Err(error)),
         }
-        Ok(())
     }
 
     /// Appends what is wrong with a guess, in lines: which of its parts are; of a reference MMU, what that says of the outcomes in the guess, and
     /// those that the guess lacks.
-    pub fn put_why(&self, out: &mut Text, at: usize, guess: &[u8]) -> Result<(), AllocError> {
+    pub fn put_why(&self, out: &mut Text, at: usize, guess: &[u8]) {
         match self.quiz.teller {
             Teller::Machine => self.put_wrong_parts(out, at, guess),
             Teller::Mmu => {
-                self.put_reasons(out, at, guess)?;
+                self.put_reasons(out, at, guess);
                 self.put_missed(out, at, guess)
             }
         }

@@ -1,7 +1,7 @@
 // Quizzes in a terminal (`read`), as a page (`page`) and as text for whoever asks (`script`).
 
 use crate::fault::Fault;
-use crate::lab::Reading;
+use crate::host::Reading;
 use crate::play::{read_line, without_feed};
 use crate::quiz::Game;
 use crate::screen::{Screen, print};
@@ -50,132 +50,70 @@ impl Game {
         Ok(text)
     }
 
-    /// Reads a guess at a line; `None` at the end of the input, or if printing failed.
-    fn read_guess<R: Read + Drop, S: Screen>(
-        &self,
-        screen: &S,
-        reader: &mut BufReader<R>,
-        at: usize,
-    ) -> Result<Option<Vec<u8>>, Fault> {
-        let mut line = Vec::new(self.alloc);
-        if !screen.is_whole() || read_line(reader, &mut line)? == 0 {
-            return Ok(None);
+    /// Returns the guess at a line that was typed.
+    fn guess_of(&self, at: usize, typed: &[u8]) -> Result<Vec<u8>, AllocError> {
+        let guess = self.parted(without_feed(typed).trim_ascii())?;
+        self.completed(at, guess)
+    }
+
+    /// Appends a question: the lines since the question before, and its line.
+    fn put_question(&self, out: &mut Text, first: usize, at: usize) {
+        self.put_between(out, first, at);
+        out.push_str(self.line(at));
+        out.push_str("\n")
+    }
+
+    /// Appends the answer to a line beside a guess that is not right, and why that is none.
+    fn put_wrong(&self, out: &mut Text, at: usize, guess: &[u8]) {
+        let answer = self.answer(at);
+        match self.is_formed(at, guess) {
+            Ok(true) => {
+                writeln!(out, "wrong: it is {answer}");
+                self.put_why(out, at, guess)
+            }
+            Ok(false) => writeln!(out, "not understood: it is {answer}"),
+            Err(error) => out.note(Err(error)),
         }
-        let guess = without_feed(line.as_slice()).trim_ascii();
-        Ok(Some(self.completed(at, self.parted(guess)?)?))
     }
 
-    /// Prints a question: the lines since the question before, and its line.
-    fn print_question<S: Screen>(&self, screen: &mut S, first: usize, at: usize) {
-        let mut text = Text::new(self.alloc);
-        self.put_between(&mut text, first, at);
-        text.push_str(self.line(at));
-        text.push_str("\n");
-        print(screen, text)
-    }
-
-    /// Prints, on standard error, that a guess may be typed: the line's number, and what the guess is to say.
-    fn print_prompt<S: Screen>(&self, screen: &mut S, at: usize) {
-        let (number, wanted) = (at.saturating_add(1), self.wanted(at));
-        screen.err(format_args!("line {number}: {wanted}? "))
-    }
-
-    /// Reads a guess, `None` at the end of the input; of one that has not the form of the answers, tells that and reads once more.
-    fn read_formed<R: Read + Drop, S: Screen>(
-        &self,
-        screen: &mut S,
-        reader: &mut BufReader<R>,
-        at: usize,
-    ) -> Result<Option<Vec<u8>>, Fault> {
-        self.print_prompt(screen, at);
-        let Some(guess) = self.read_guess(screen, reader, at)? else {
-            return Ok(None);
+    /// Appends whether a guess is right, and what happens on the line. Returns whether it is.
+    fn put_verdict(&self, out: &mut Text, at: usize, guess: &[u8]) -> bool {
+        let answer = self.answer(at);
+        let right = match is_right(self.alloc, guess, answer.as_bytes()) {
+            Ok(right) => right,
+            Err(error) => {
+                out.note(Err(error));
+                false
+            }
         };
-        if self.is_formed(at, guess.as_slice())? {
-            return Ok(Some(guess));
-        }
-        let wanted = self.wanted(at);
-        screen.out(format_args!("no answer: once more, in the form {wanted}\n"));
-        self.print_prompt(screen, at);
-        self.read_guess(screen, reader, at)
-    }
-
-    /// Prints the answer to a line beside a guess that is not right, and why that is none.
-    fn print_wrong<S: Screen>(
-        &self,
-        screen: &mut S,
-        at: usize,
-        guess: &[u8],
-    ) -> Result<(), AllocError> {
-        let answer = self.answer(at);
-        if !self.is_formed(at, guess)? {
-            screen.out(format_args!("not understood: it is {answer}\n"));
-            return Ok(());
-        }
-        screen.out(format_args!("wrong: it is {answer}\n"));
-        let mut text = Text::new(self.alloc);
-        self.put_why(&mut text, at, guess)?;
-        print(screen, text);
-        Ok(())
-    }
-
-    /// Prints whether a guess is right, and what happens on the line. Returns whether it is.
-    fn print_verdict<S: Screen>(
-        &self,
-        screen: &mut S,
-        at: usize,
-        guess: &[u8],
-    ) -> Result<bool, AllocError> {
-        let answer = self.answer(at);
-        let right = is_right(self.alloc, guess, answer.as_bytes())?;
         if right {
-            screen.out(format_args!("right: {answer}\n"));
+            writeln!(out, "right: {answer}");
         } else {
-            self.print_wrong(screen, at, guess)?;
+            self.put_wrong(out, at, guess);
         }
-        screen.out(self.trace(at));
-        screen.out("\n");
-        Ok(right)
+        out.push_str(self.trace(at));
+        out.push_str("\n");
+        right
     }
 
-    /// Prints the lines of questions that were missed, each with its number and its right answer; nothing if none were.
-    fn print_missed<S: Screen>(&self, screen: &mut S, missed: &[usize]) {
+    /// Appends the lines of questions that were missed, each with its number and its right answer; nothing if none were.
+    fn put_missed_lines(&self, out: &mut Text, missed: &[usize]) {
         if !missed.is_empty() {
-            screen.out("missed:\n");
+            out.push_str("missed:\n");
         }
         'missed: for at in missed {
             let (number, line, answer) = (at.saturating_add(1), self.line(*at), self.answer(*at));
-            screen.out(format_args!("  line {number}: {line}\n    {answer}\n"));
+            writeln!(out, "  line {number}: {line}\n    {answer}");
         }
     }
 
-    /// Prints what was missed, the score, and how many questions are left, if the input ended before the last.
-    fn print_end<S: Screen>(&self, screen: &mut S, score: Score, missed: &[usize]) {
-        let left = self.asked.len().saturating_sub(score.asked);
-        if left == 0 {
-            self.print_missed(screen, missed);
-            screen.out(format_args!("{score}\n"))
-        } else {
-            screen.err("\n");
-            self.print_missed(screen, missed);
-            screen.out(format_args!("{score}, {left} not answered\n"))
+    /// Appends what was missed, the score, and how many questions are left, if some are.
+    fn put_score(&self, out: &mut Text, score: Score, missed: &[usize], left: usize) {
+        self.put_missed_lines(out, missed);
+        match left {
+            0 => writeln!(out, "{score}"),
+            left => writeln!(out, "{score}, {left} not answered"),
         }
-    }
-
-    /// Asks a question, reads a guess and prints the verdict; `first` is the first line that was not printed before. Returns whether the guess is
-    /// right, `None` at the end of the input.
-    fn ask_one<R: Read + Drop, S: Screen>(
-        &self,
-        screen: &mut S,
-        reader: &mut BufReader<R>,
-        first: usize,
-        at: usize,
-    ) -> Result<Option<bool>, Fault> {
-        self.print_question(screen, first, at);
-        let Some(guess) = self.read_formed(screen, reader, at)? else {
-            return Ok(None);
-        };
-        Ok(Some(self.print_verdict(screen, at, guess.as_slice())?))
     }
 
     /// Returns the quiz as a page.
@@ -221,22 +159,90 @@ impl Game {
     }
 }
 
-impl Reading for Game {
+/// A quiz that is asked on a screen.
+#[derive(Drop)]
+pub struct Asking<'a, S> {
+    pub screen: &'a mut S,
+    pub game: &'a Game,
+}
+
+impl<S: Screen> Asking<'_, S> {
+    /// Prints, on standard error, which line is asked and what a guess is to say, and reads a guess; `None` at the end of the input, or if
+    /// printing failed.
+    fn read_guess<R: Read + Drop>(
+        &mut self,
+        reader: &mut BufReader<R>,
+        at: usize,
+    ) -> Result<Option<Vec<u8>>, Fault> {
+        let (number, wanted) = (at.saturating_add(1), self.game.wanted(at));
+        self.screen.err(format_args!("line {number}: {wanted}? "));
+        let mut line = Vec::new(self.game.alloc);
+        if !self.screen.is_whole() || read_line(reader, &mut line)? == 0 {
+            return Ok(None);
+        }
+        Ok(Some(self.game.guess_of(at, line.as_slice())?))
+    }
+
+    /// Reads a guess, `None` at the end of the input; of one that has not the form of the answers, tells that and reads once more.
+    fn read_formed<R: Read + Drop>(
+        &mut self,
+        reader: &mut BufReader<R>,
+        at: usize,
+    ) -> Result<Option<Vec<u8>>, Fault> {
+        let Some(guess) = self.read_guess(reader, at)? else {
+            return Ok(None);
+        };
+        if self.game.is_formed(at, guess.as_slice())? {
+            return Ok(Some(guess));
+        }
+        let wanted = self.game.wanted(at);
+        self.screen.out(format_args!("no answer: once more, in the form {wanted}\n"));
+        self.read_guess(reader, at)
+    }
+
+    /// Asks a question, reads a guess and prints the verdict; `first` is the first line that was not printed before. Returns whether the guess is
+    /// right, `None` at the end of the input.
+    fn ask_one<R: Read + Drop>(
+        &mut self,
+        reader: &mut BufReader<R>,
+        first: usize,
+        at: usize,
+    ) -> Result<Option<bool>, Fault> {
+        let mut question = Text::new(self.game.alloc);
+        self.game.put_question(&mut question, first, at);
+        print(self.screen, question);
+        let Some(guess) = self.read_formed(reader, at)? else {
+            return Ok(None);
+        };
+        let mut verdict = Text::new(self.game.alloc);
+        let right = self.game.put_verdict(&mut verdict, at, guess.as_slice());
+        print(self.screen, verdict);
+        Ok(Some(right))
+    }
+
+    /// Prints what was missed, the score, and how many questions are left, if the input ended before the last.
+    fn print_end(&mut self, score: Score, missed: &[usize]) {
+        let left = self.game.asked.len().saturating_sub(score.asked);
+        if left > 0 {
+            self.screen.err("\n");
+        }
+        let mut text = Text::new(self.game.alloc);
+        self.game.put_score(&mut text, score, missed, left);
+        print(self.screen, text)
+    }
+}
+
+impl<S: Screen> Reading for Asking<'_, S> {
     /// Asks the questions one by one, and prints what was missed and the score; the end of the input ends it, and so does a failure to print.
     ///
     /// # Errors
     /// `Read`: the reader failed. `Memory`: the host is out of memory.
-    fn read<R: Read + Drop, S: Screen>(
-        &mut self,
-        alloc: Global,
-        reader: R,
-        screen: &mut S,
-    ) -> Result<(), Fault> {
+    fn read<R: Read + Drop>(&mut self, alloc: Global, reader: R) -> Result<(), Fault> {
         let mut reader = BufReader::new(alloc, reader)?;
         let (mut score, mut first) = (Score { right: 0, asked: 0 }, 0usize);
-        let mut missed = Vec::new(alloc);
-        'questions: for at in self.asked.as_slice() {
-            let Some(right) = self.ask_one(screen, &mut reader, first, *at)? else {
+        let (game, mut missed) = (self.game, Vec::new(alloc));
+        'questions: for at in game.asked.as_slice() {
+            let Some(right) = self.ask_one(&mut reader, first, *at)? else {
                 break;
             };
             if !right {
@@ -245,7 +251,7 @@ impl Reading for Game {
             score = score.with(right);
             first = at.saturating_add(1);
         }
-        self.print_end(screen, score, missed.as_slice());
+        self.print_end(score, missed.as_slice());
         Ok(())
     }
 }

@@ -1,7 +1,7 @@
 // `AnswerLines`: reads lines that ask a reference MMU, and answers each.
 
 use crate::fault::Fault;
-use crate::lab::Reading;
+use crate::host::Reading;
 use crate::play::{read_line, without_feed};
 use crate::screen::{Screen, print, put_object};
 use memchr::memchr;
@@ -36,56 +36,38 @@ fn answer_line(
     Ok(answer.is_amiss())
 }
 
-/// Answers the lines of a reader, to its end, unless printing fails. Answers are printed before more input is waited for. Returns whether
-/// one is amiss.
-fn answer_lines<R: Read + Drop, S: Screen>(
-    alloc: Global,
-    json: bool,
-    reader: R,
-    screen: &mut S,
-) -> Result<bool, Fault> {
-    let (mut player, mut reader) = (MmuPlayer::new(alloc), BufReader::new(alloc, reader)?);
-    let (mut line, mut out) = (Vec::new(alloc), Text::new(alloc));
-    let mut amiss = false;
-    'lines: for number in 1..u64::MAX {
-        line.clear();
-        if !screen.is_whole() || read_line(&mut reader, &mut line)? == 0 {
-            break;
-        }
-        let wrong = answer_line(json, &mut player, number, line.as_slice(), &mut out)?;
-        amiss = amiss || wrong;
-        if memchr(b'\n', reader.buffer()).is_none() {
-            print(screen, out);
-            out = Text::new(alloc);
-        }
-    }
-    print(screen, out);
-    Ok(amiss)
-}
-
 /// Answers the lines of a reference MMU.
 #[derive(Drop)]
-pub struct AnswerLines {
+pub struct AnswerLines<'a, S> {
+    pub screen: &'a mut S,
     /// Whether answers are JSON objects in place of text.
     pub json: bool,
 }
 
-impl Reading for AnswerLines {
-    /// Answers each line that is not empty and no comment, to the end.
+impl<S: Screen> Reading for AnswerLines<'_, S> {
+    /// Answers each line that is not empty and no comment, to the end, unless printing fails. Answers are printed before more input is
+    /// waited for.
     ///
     /// # Errors
     /// `Told`: at least one line is faulty, or the outcome that it tells is not permitted; its answer said so. `Read`: the reader failed.
     /// `Memory`: the host is out of memory.
-    fn read<R: Read + Drop, S: Screen>(
-        &mut self,
-        alloc: Global,
-        reader: R,
-        screen: &mut S,
-    ) -> Result<(), Fault> {
-        if answer_lines(alloc, self.json, reader, screen)? {
-            Err(Fault::Told)
-        } else {
-            Ok(())
+    fn read<R: Read + Drop>(&mut self, alloc: Global, reader: R) -> Result<(), Fault> {
+        let (mut player, mut reader) = (MmuPlayer::new(alloc), BufReader::new(alloc, reader)?);
+        let (mut line, mut out) = (Vec::new(alloc), Text::new(alloc));
+        let mut amiss = false;
+        'lines: for number in 1..u64::MAX {
+            line.clear();
+            if !self.screen.is_whole() || read_line(&mut reader, &mut line)? == 0 {
+                break;
+            }
+            let wrong = answer_line(self.json, &mut player, number, line.as_slice(), &mut out)?;
+            amiss = amiss || wrong;
+            if memchr(b'\n', reader.buffer()).is_none() {
+                print(self.screen, out);
+                out = Text::new(alloc);
+            }
         }
+        print(self.screen, out);
+        if amiss { Err(Fault::Told) } else { Ok(()) }
     }
 }

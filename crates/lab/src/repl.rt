@@ -5,10 +5,9 @@ ghost use Rattle.std.specs.Prelude.{◌≡◌, ◌-◌, ◌<◌, IfOk, length, m
 ghost use Rattle.line_player.specs.Answers.{HasPlayed};
 ghost use Rattle.line_player.specs.PlayedLines.{Played, nothing_played, played_lines};
 
-use crate::fault::Fault;
 use crate::looks::{Asked, Look, NO_MACHINE, look_of, put_look};
 use crate::play::Listener;
-use crate::screen::{Screen, print};
+use crate::printout::Printout;
 use fault_texts::{explain, field_names};
 use handouts::split;
 use line_player::{LinePlayer, LineReply};
@@ -20,12 +19,12 @@ use std::fs;
 use std::rt::Files;
 use text_builder::Text;
 
-/// What is printed, on standard error, when a line may be typed.
+/// What is printed, on standard error, when another line may be typed.
 const PROMPT: &str = "> ";
 
-/// What is printed, on standard error, before the first line may be typed.
-const BANNER: &str =
-    "Each line of a script is answered at once; ? tells the lines, quit or Ctrl-D ends.\n";
+/// What is printed, on standard error, before the first line is typed.
+pub const BANNER: &str =
+    "Each line of a script is answered at once; ? tells the lines, quit or Ctrl-D ends.\n> ";
 
 /// What `?` tells of the lines that are no lines of a script.
 const OWN_LINES: &str =
@@ -60,14 +59,11 @@ fn wish_of(line: &[u8]) -> Option<Wish> {
     None
 }
 
-/// Answers each line at once.
+/// The lines that were taken, of which `undo` takes the last back.
 #[derive(Drop)]
-pub struct ReplLines<'a, F: Files> {
+struct Taken {
     alloc: Global,
-    /// Where `save` writes.
-    files: &'a F,
-    /// The lines that were taken, of which `undo` takes the last back.
-    taken: Vec<Vec<u8>>,
+    lines: Vec<Vec<u8>>,
     /// Whether `quit` was typed.
     over: bool,
 }
@@ -86,122 +82,94 @@ fn replayed(alloc: Global, lines: &[Vec<u8>]) -> Result<LinePlayer, AllocError>
     Ok(player)
 }
 
-impl<'a, F: Files> ReplLines<'a, F> {
-    /// Asks for the first line.
-    pub fn new<S: Screen>(alloc: Global, files: &'a F, screen: &mut S) -> ReplLines<'a, F> {
-        screen.err(BANNER);
-        screen.err(PROMPT);
-        ReplLines {
-            alloc,
-            files,
-            taken: Vec::new(alloc),
-            over: false,
+/// Appends the words of lines with their fields.
+fn put_lines(out: &mut Text) {
+    for row in Row::all().as_slice() {
+        let word = std::str::from_utf8(row.text).unwrap_or("?");
+        let fields = field_names(row.word);
+        if row.kinds.is_empty() {
+            writeln!(out, "  {word}");
+        } else {
+            writeln!(out, "  {word} {fields}");
         }
     }
+    out.push_str(OWN_LINES)
+}
 
-    /// Returns the lines that were taken, as a script.
+/// Appends the answer to a question about the machine.
+fn put_asked(out: &mut Text, player: &LinePlayer, look: Look)
+    requires played { (s : Played) × HasPlayed player.now s }
+{
+    match player.machine() {
+        Some(machine) => put_look(out, machine, look),
+        None => writeln!(out, "{NO_MACHINE}"),
+    }
+}
+
+/// Appends why a line is refused.
+fn put_refusal(out: &mut Text, player: &LinePlayer, line: &[u8], cause: Cause) {
+    let Ok(mistake) = explain(out.allocator(), player.draft(), trim_return(line), cause) else {
+        return out.note(Err(AllocError));
+    };
+    let text = mistake.text.as_str();
+    match mistake.column {
+        Some(column) => writeln!(out, "column {column}: {text}"),
+        None => writeln!(out, "{text}"),
+    }
+}
+
+/// Appends an answer, and why it is no plain success, if it is none.
+fn put_answer(out: &mut Text, player: &LinePlayer, before: &Before, line: &[u8])
+    requires played { (s : Played) × HasPlayed player.now s }
+{
+    let answer = std::str::from_utf8(player.answer()).unwrap_or("?");
+    match explain_answer(out.allocator(), player, before, line) {
+        Ok(Some(note)) => writeln!(out, "{answer}\n  {note}"),
+        Ok(None) => writeln!(out, "{answer}"),
+        Err(error) => out.note(Err(error)),
+    }
+}
+
+impl Taken {
+    /// Returns the lines, as a script.
     fn script(&self) -> Result<Vec<u8>, AllocError> {
         let mut text = Vec::new(self.alloc);
-        'lines: for line in self.taken.as_slice() {
+        'lines: for line in self.lines.as_slice() {
             text.extend_from_slice(line.as_slice())?;
-            text.push(b'\n')?;
+            text.extend_from_slice(b"\n")?;
         }
         Ok(text)
     }
 
-    /// Writes the lines that were taken to a new file, as a script.
-    fn save<S: Screen>(&self, screen: &mut S, name: &str) -> Result<(), AllocError> {
-        if name.is_empty() {
-            screen.out("save FILE: the name of a new file is missing\n");
-            return Ok(());
-        }
-        if fs::open(self.files, name).is_ok() {
-            screen.out(format_args!(
-                "{name} is there already, and stays as it is; name another file\n"
-            ));
-            return Ok(());
-        }
-        let count = self.taken.len();
-        match fs::write(self.files, name, self.script()?.as_slice()) {
-            Ok(()) => screen.out(format_args!("{count} lines are in {name}\n")),
-            Err(error) => screen.out(format_args!("{name}: {error}\n")),
-        }
-        Ok(())
-    }
-
-    /// Prints the words of lines with their fields.
-    fn tell_lines<S: Screen>(&self, screen: &mut S) {
-        let mut text = Text::new(self.alloc);
-        for row in Row::all().as_slice() {
-            let word = std::str::from_utf8(row.text).unwrap_or("?");
-            let fields = field_names(row.word);
-            if row.kinds.is_empty() {
-                writeln!(&mut text, "  {word}");
-            } else {
-                writeln!(&mut text, "  {word} {fields}");
-            }
-        }
-        text.push_str(OWN_LINES);
-        print(screen, text)
-    }
-
     /// Takes the last line back: the player has then taken those before it, and no others.
-    fn undo<S: Screen>(&mut self, screen: &mut S, player: &mut LinePlayer) -> Result<(), AllocError>
+    fn undo(&mut self, out: &mut Text, player: &mut LinePlayer) -> Result<(), AllocError>
         requires played { (s : Played) × HasPlayed player.old s }
         ensures played { IfOk result (λ _. (s : Played) × HasPlayed player.new s) }
-        ensures undone { IfOk result (λ _. 0 < length self.old.taken.items →
-            (self.new.taken.items ≡ take (length self.old.taken.items - 1) self.old.taken.items)
-            × HasPlayed player.new (played_lines nothing_played (map (λ line. line.items) self.new.taken.items))) }
+        ensures undone { IfOk result (λ _. 0 < length self.old.lines.items →
+            (self.new.lines.items ≡ take (length self.old.lines.items - 1) self.old.lines.items)
+            × HasPlayed player.new (played_lines nothing_played (map (λ line. line.items) self.new.lines.items))) }
     {
-        let Some(last) = self.taken.pop() else {
-            screen.out("there is no line to take back\n");
+        let Some(last) = self.lines.pop() else {
+            out.push_str("there is no line to take back\n");
             return Ok(());
         };
-        *player = replayed(self.alloc, self.taken.as_slice())?;
+        *player = replayed(self.alloc, self.lines.as_slice())?;
         let text = std::str::from_utf8(last.as_slice()).unwrap_or("?");
-        screen.out(format_args!("took back: {text}\n"));
-        Ok(())
-    }
-
-    /// Prints the answer to a question about the machine.
-    fn look<S: Screen>(&self, screen: &mut S, player: &LinePlayer, look: Look)
-        requires played { (s : Played) × HasPlayed player.now s }
-    {
-        let Some(machine) = player.machine() else {
-            return screen.out(format_args!("{NO_MACHINE}\n"));
-        };
-        let mut text = Text::new(self.alloc);
-        put_look(&mut text, machine, look);
-        print(screen, text)
-    }
-
-    /// Prints why a line is refused.
-    fn tell<S: Screen>(
-        &self,
-        screen: &mut S,
-        player: &LinePlayer,
-        line: &[u8],
-        cause: Cause,
-    ) -> Result<(), AllocError> {
-        let mistake = explain(self.alloc, player.draft(), trim_return(line), cause)?;
-        let text = mistake.text.as_str();
-        match mistake.column {
-            Some(column) => screen.out(format_args!("column {column}: {text}\n")),
-            None => screen.out(format_args!("{text}\n")),
-        }
+        writeln!(out, "took back: {text}");
         Ok(())
     }
 
     /// Keeps a line that was taken.
     fn keep(&mut self, line: &[u8]) -> Result<(), AllocError> {
         let line = Vec::from_slice(self.alloc, line)?;
-        Ok(self.taken.push(line)?)
+        self.lines.push(line)?;
+        Ok(())
     }
 
-    /// Plays a line of a script, and prints its answer.
-    fn play<S: Screen>(
+    /// Plays a line of a script, and puts its answer.
+    fn play(
         &mut self,
-        screen: &mut S,
+        out: &mut Text,
         player: &mut LinePlayer,
         line: &[u8],
     ) -> Result<(), AllocError>
@@ -210,23 +178,20 @@ impl<'a, F: Files> ReplLines<'a, F> {
     {
         let before = Before::line(self.alloc, player, line)?;
         match player.line(line)? {
-            LineReply::Refused(cause) => self.tell(screen, player, line, cause),
-            LineReply::Nothing => self.keep(line),
-            LineReply::Text => {
-                let answer = std::str::from_utf8(player.answer()).unwrap_or("?");
-                screen.out(format_args!("{answer}\n"));
-                if let Some(note) = explain_answer(self.alloc, player, &before, line)? {
-                    screen.out(format_args!("  {note}\n"));
-                }
-                self.keep(line)
+            LineReply::Refused(cause) => {
+                put_refusal(out, player, line, cause);
+                return Ok(());
             }
+            LineReply::Nothing => {}
+            LineReply::Text => put_answer(out, player, &before, line),
         }
+        self.keep(line)
     }
 
     /// Plays a line of a script, or answers a question about the machine.
-    fn play_or_look<S: Screen>(
+    fn play_or_look(
         &mut self,
-        screen: &mut S,
+        out: &mut Text,
         player: &mut LinePlayer,
         line: &[u8],
     ) -> Result<(), AllocError>
@@ -234,73 +199,108 @@ impl<'a, F: Files> ReplLines<'a, F> {
         ensures played { IfOk result (λ _. (s : Played) × HasPlayed player.new s) }
     {
         match look_of(line) {
-            Asked::No => self.play(screen, player, line),
-            Asked::Yes(look) => {
-                self.look(screen, player, look);
-                Ok(())
-            }
-            Asked::Wrong(text) => {
-                screen.out(format_args!("column 1: {text}\n"));
-                Ok(())
-            }
+            Asked::No => return self.play(out, player, line),
+            Asked::Yes(look) => put_asked(out, player, look),
+            Asked::Wrong(text) => writeln!(out, "column 1: {text}"),
         }
+        Ok(())
     }
 
     /// Does what a line asks for.
-    fn answer<S: Screen>(
+    fn answer(
         &mut self,
-        screen: &mut S,
+        out: &mut Text,
         player: &mut LinePlayer,
         line: &[u8],
     ) -> Result<(), AllocError>
         requires played { (s : Played) × HasPlayed player.old s }
         ensures played { IfOk result (λ _. (s : Played) × HasPlayed player.new s) }
     {
-        if let Some((b"save", name)) = first_field(line) {
-            let name = std::str::from_utf8(name.trim_ascii()).unwrap_or("");
-            return self.save(screen, name);
-        }
         match wish_of(line.trim_ascii()) {
-            Some(Wish::Help) => self.tell_lines(screen),
-            Some(Wish::Undo) => return self.undo(screen, player),
+            Some(Wish::Help) => put_lines(out),
+            Some(Wish::Undo) => return self.undo(out, player),
             Some(Wish::Quit) => self.over = true,
-            Some(Wish::Exit) => screen.out(
+            Some(Wish::Exit) => out.push_str(
                 "`exit HART STATUS` ends a process; `quit` or Ctrl-D ends `repl`\n",
             ),
-            None => return self.play_or_look(screen, player, line),
+            None => return self.play_or_look(out, player, line),
+        }
+        Ok(())
+    }
+}
+
+/// Answers each line at once.
+#[derive(Drop)]
+pub struct ReplLines<'a, F: Files> {
+    /// Where `save` writes.
+    files: &'a F,
+    taken: Taken,
+}
+
+impl<'a, F: Files> ReplLines<'a, F> {
+    /// Returns that no line was taken.
+    pub fn new(alloc: Global, files: &'a F) -> ReplLines<'a, F> {
+        ReplLines {
+            files,
+            taken: Taken {
+                alloc,
+                lines: Vec::new(alloc),
+                over: false,
+            },
+        }
+    }
+
+    /// Writes the lines that were taken to a new file, as a script.
+    fn save(&self, out: &mut Text, name: &str) -> Result<(), AllocError> {
+        if name.is_empty() {
+            out.push_str("save FILE: the name of a new file is missing\n");
+            return Ok(());
+        }
+        if fs::open(self.files, name).is_ok() {
+            writeln!(
+                out,
+                "{name} is there already, and stays as it is; name another file"
+            );
+            return Ok(());
+        }
+        let script = self.taken.script()?;
+        let count = self.taken.lines.len();
+        match fs::write(self.files, name, script.as_slice()) {
+            Ok(()) => writeln!(out, "{count} lines are in {name}"),
+            Err(error) => writeln!(out, "{name}: {error}"),
         }
         Ok(())
     }
 }
 
 impl<F: Files> Listener for ReplLines<'_, F> {
-    fn line<S: Screen>(
+    fn line(
         &mut self,
-        screen: &mut S,
+        out: &mut Printout,
         player: &mut LinePlayer,
         _number: u64,
         line: &[u8],
-    ) -> Result<(), Fault> {
-        self.answer(screen, player, split(line).line)?;
-        if !self.over {
-            screen.err(PROMPT);
+    ) -> Result<(), AllocError> {
+        let line = split(line).line;
+        if let Some((b"save", name)) = first_field(line) {
+            let name = std::str::from_utf8(name.trim_ascii()).unwrap_or("");
+            self.save(&mut out.out, name)?;
+        } else {
+            self.taken.answer(&mut out.out, player, line)?;
+        }
+        if !self.taken.over {
+            out.err.push_str(PROMPT);
         }
         Ok(())
     }
 
     fn is_over(&self) -> bool {
-        self.over
+        self.taken.over
     }
 
-    fn end<S: Screen>(
-        &mut self,
-        screen: &mut S,
-        _player: &LinePlayer,
-        _lines: u64,
-    ) -> Result<(), Fault> {
-        if !self.over {
-            screen.err("\n");
+    fn end(&mut self, out: &mut Printout, _player: &LinePlayer, _lines: u64) {
+        if !self.taken.over {
+            out.err.push_str("\n");
         }
-        Ok(())
     }
 }

@@ -7,13 +7,15 @@ ghost use Rattle.line_player.specs.PlayedLines.{Played};
 use crate::fault::Fault;
 use crate::mistakes::{Place, tell_end, tell_refused};
 use crate::play::Listener;
-use crate::screen::Screen;
+use crate::printout::Printout;
+use crate::screen::put_lossy;
 use command_words::Telling;
 use handouts::{Expected, split};
 use line_player::{LinePlayer, LineReply};
 use line_traces::{Before, explain_answer};
 use script_reader::trim_return;
-use std::alloc::Global;
+use std::alloc::AllocError;
+use text_builder::Text;
 
 /// Nothing is told beside answers but what is wrong with an image.
 pub const ANSWERS_ALONE: Telling = Telling {
@@ -24,7 +26,6 @@ pub const ANSWERS_ALONE: Telling = Telling {
 /// Prints each line with its answer, as `LINE => ANSWER`.
 #[derive(Drop)]
 pub struct RunLines<'a> {
-    alloc: Global,
     file: &'a str,
     telling: Telling,
     /// How many lines were refused so far that expected no refusal, and the number of the first.
@@ -34,9 +35,8 @@ pub struct RunLines<'a> {
 
 impl<'a> RunLines<'a> {
     /// Returns what runs a script of which nothing was read.
-    pub fn new(alloc: Global, file: &'a str, telling: Telling) -> RunLines<'a> {
+    pub fn new(file: &'a str, telling: Telling) -> RunLines<'a> {
         RunLines {
-            alloc,
             file,
             telling,
             refused: 0,
@@ -55,138 +55,134 @@ impl<'a> RunLines<'a> {
         self.refused = self.refused.saturating_add(1);
     }
 
-    /// Tells how many lines were refused, if some were and it is to be told.
-    fn tell_refusals<S: Screen>(&self, screen: &mut S) {
+    /// Puts how many lines were refused, if some were and it is to be told.
+    fn put_refusals(&self, out: &mut Text) {
         if self.refused == 0 || !self.telling.explain {
             return;
         }
         let (count, first) = (self.refused, self.first);
         let lines = if count == 1 { "line" } else { "lines" };
-        screen.out(format_args!(
-            "# {count} {lines} refused, the first is line {first}: what follows it may be answered for another phase or process; --strict stops there\n"
-        ))
+        writeln!(
+            out,
+            "# {count} {lines} refused, the first is line {first}: what follows it may be answered for another phase or process; --strict stops there"
+        )
     }
 }
 
-/// Tells that a line was refused although it expects no refusal, and returns `Told`, if that is so.
-pub fn tell_unexpected<S: Screen>(
-    alloc: Global,
-    screen: &mut S,
+/// Tells that a line was refused although it expects no refusal, if that is so.
+pub fn tell_unexpected(
+    out: &mut Printout,
     place: Place<'_>,
     player: &LinePlayer,
     before: &Before,
     line: Expected<'_>,
-) -> Result<(), Fault>
+)
     requires played { (s : Played) × HasPlayed player.now s }
 {
     let answer = player.answer();
     if !answer.starts_with(b"refused") || line.answer == Some(answer) {
-        return Ok(());
+        return;
     }
     let text = std::str::from_utf8(answer).unwrap_or("?");
-    match explain_answer(alloc, player, before, line.line)? {
-        Some(note) => screen.err(format_args!("{place}: {text}: {note}\n")),
-        None => screen.err(format_args!("{place}: {text}\n")),
+    match explain_answer(out.allocator(), player, before, line.line) {
+        Ok(Some(note)) => out.tell(format_args!("{place}: {text}: {note}\n")),
+        Ok(None) => out.tell(format_args!("{place}: {text}\n")),
+        Err(_) => out.fail(Fault::Memory),
     }
-    Err(Fault::Told)
 }
 
-/// Prints below an answer why it is no plain success, if it is none.
-fn put_note<S: Screen>(
-    alloc: Global,
-    screen: &mut S,
-    player: &LinePlayer,
-    before: &Before,
-    line: &[u8],
-) -> Result<(), Fault>
+/// Appends a line with its answer.
+fn put_answered(out: &mut Text, line: &[u8], answer: &[u8]) {
+    let answer = std::str::from_utf8(answer).unwrap_or("?");
+    match String::from_utf8_lossy(out.allocator(), trim_return(line)) {
+        Ok(line) => {
+            let line = line.as_str();
+            writeln!(out, "{line:<34} => {answer}")
+        }
+        Err(error) => out.note(Err(error)),
+    }
+}
+
+/// Appends, below an answer, why it is no plain success, if it is none.
+fn put_note(out: &mut Text, player: &LinePlayer, before: &Before, line: &[u8])
     requires played { (s : Played) × HasPlayed player.now s }
 {
-    if let Some(note) = explain_answer(alloc, player, before, line)? {
-        screen.out(format_args!("#   {note}\n"));
+    match explain_answer(out.allocator(), player, before, line) {
+        Ok(Some(note)) => writeln!(out, "#   {note}"),
+        Ok(None) => {}
+        Err(error) => out.note(Err(error)),
     }
-    Ok(())
 }
 
-/// Prints a line with the answer that it got, and what is to be told of that.
-fn put_answer<S: Screen>(
-    alloc: Global,
-    screen: &mut S,
+/// Puts a line with the answer that it got, and what is to be told of that.
+fn put_answer(
+    out: &mut Printout,
     place: Place<'_>,
     player: &LinePlayer,
     before: &Before,
     line: Expected<'_>,
     telling: Telling,
-) -> Result<(), Fault>
+)
     requires played { (s : Played) × HasPlayed player.now s }
 {
-    let text = String::from_utf8_lossy(alloc, trim_return(line.line))?;
-    let text = text.as_str();
-    let answer = std::str::from_utf8(player.answer()).unwrap_or("?");
-    screen.out(format_args!("{text:<34} => {answer}\n"));
+    put_answered(&mut out.out, line.line, player.answer());
     if telling.explain || player.answer().starts_with(b"refused 12 BadImage") {
-        put_note(alloc, screen, player, before, line.line)?;
+        put_note(&mut out.out, player, before, line.line);
     }
     if telling.strict {
-        return tell_unexpected(alloc, screen, place, player, before, line);
+        tell_unexpected(out, place, player, before, line)
     }
-    Ok(())
 }
 
-/// Plays a line, and prints it with its answer.
+/// Plays a line, and puts it with its answer; tells why it is refused, if it is.
 ///
 /// # Errors
-/// `Told`: the line is refused; that was told. `Memory`: the host is out of memory.
-pub fn run_line<S: Screen>(
-    alloc: Global,
-    screen: &mut S,
+/// `AllocError`: the host is out of memory.
+pub fn run_line(
+    out: &mut Printout,
     place: Place<'_>,
     player: &mut LinePlayer,
     line: Expected<'_>,
     telling: Telling,
-) -> Result<(), Fault>
+) -> Result<(), AllocError>
     requires played { (s : Played) × HasPlayed player.old s }
     ensures played { IfOk result (λ _. (s : Played) × HasPlayed player.new s) }
 {
     let bare = line.line;
-    let before = Before::line(alloc, player, bare)?;
+    let before = Before::line(out.allocator(), player, bare)?;
     match player.line(bare)? {
         LineReply::Nothing => {
-            let text = String::from_utf8_lossy(alloc, trim_return(bare))?;
-            let text = text.as_str();
-            screen.out(format_args!("{text}\n"));
-            Ok(())
+            put_lossy(&mut out.out, trim_return(bare));
+            out.out.push_str("\n")
         }
-        LineReply::Text => put_answer(alloc, screen, place, player, &before, line, telling),
-        LineReply::Refused(cause) => tell_refused(alloc, screen, place, player, bare, cause),
+        LineReply::Text => put_answer(out, place, player, &before, line, telling),
+        LineReply::Refused(cause) => tell_refused(out, place, player, bare, cause),
     }
+    Ok(())
 }
 
 impl Listener for RunLines<'_> {
-    fn line<S: Screen>(
+    fn line(
         &mut self,
-        screen: &mut S,
+        out: &mut Printout,
         player: &mut LinePlayer,
         number: u64,
         line: &[u8],
-    ) -> Result<(), Fault> {
+    ) -> Result<(), AllocError> {
         let place = Place {
             file: self.file,
             line: number,
         };
         let line = split(line);
-        run_line(self.alloc, screen, place, player, line, self.telling)?;
+        run_line(out, place, player, line, self.telling)?;
         self.count(number, player.answer(), line.answer);
         Ok(())
     }
 
-    fn end<S: Screen>(
-        &mut self,
-        screen: &mut S,
-        player: &LinePlayer,
-        lines: u64,
-    ) -> Result<(), Fault> {
-        tell_end(screen, self.file, player, lines)?;
-        self.tell_refusals(screen);
-        Ok(())
+    fn end(&mut self, out: &mut Printout, player: &LinePlayer, lines: u64) {
+        tell_end(out, self.file, player, lines);
+        if out.is_open() {
+            self.put_refusals(&mut out.out);
+        }
     }
 }

@@ -1,11 +1,11 @@
 // `Screen`: where text goes, standard output and standard error; `Failures`, what a screen notes of what it could not print; `print`
-// and its kin print texts that were put together.
+// and `print_error` print texts that were put together, and `put_object` and `put_lossy` append to them.
 
 ghost use Rattle.std.specs.Prelude.{◌≡◌, false, true, IsOk};
 
 use crate::fault::Fault;
 use serde::Serialize;
-use std::alloc::{AllocError, Global};
+use std::alloc::AllocError;
 use std::fmt::Display;
 use std::io;
 use text_builder::Text;
@@ -92,27 +92,22 @@ impl Failures {
     }
 }
 
-/// Prints a text on standard output.
+/// Prints a text on standard output; nothing if it is empty.
 pub fn print<S: Screen>(screen: &mut S, text: Text) {
     match text.finish() {
+        Ok(text) if text.is_empty() => {}
         Ok(text) => screen.out(text.as_str()),
         Err(_) => screen.fail(Fault::Memory),
     }
 }
 
-/// Prints a text on standard error.
+/// Prints a text on standard error; nothing if it is empty.
 pub fn print_error<S: Screen>(screen: &mut S, text: Text) {
     match text.finish() {
+        Ok(text) if text.is_empty() => {}
         Ok(text) => screen.err(text.as_str()),
         Err(_) => screen.fail(Fault::Memory),
     }
-}
-
-/// Prints a value as a JSON object on a line of standard output.
-pub fn print_object<S: Screen, T: Serialize>(alloc: Global, screen: &mut S, value: &T) {
-    let mut text = Text::new(alloc);
-    put_object(&mut text, value);
-    print(screen, text);
 }
 
 /// Appends a value as a JSON object, with a line feed.

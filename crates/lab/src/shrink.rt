@@ -1,22 +1,18 @@
-// `ShrinkLines`: reads lines for a reference MMU, and prints the fewest by which one stays not permitted.
+// `put_fewest`: of lines for a reference MMU, puts the fewest by which one stays not permitted.
 
 use crate::fault::Fault;
-use crate::lab::Reading;
 use crate::play::{read_line, without_feed};
-use crate::screen::{Screen, print, put_lossy};
+use crate::printout::Printout;
+use crate::screen::put_lossy;
 use mmu_lines::{Line, Shrunk, put_answer, shrink};
 use script_reader::trim_return;
 use std::alloc::Global;
-use std::io::{BufReader, Read};
+use std::io::BufReader;
 use text_builder::Text;
 
-/// Prints the fewest lines by which one stays not permitted.
-#[derive(Drop)]
-pub struct ShrinkLines;
-
-/// Reads lines to the end.
-fn read_lines<R: Read + Drop>(alloc: Global, reader: R) -> Result<Vec<Line>, Fault> {
-    let mut reader = BufReader::new(alloc, reader)?;
+/// Returns the lines of a text.
+fn lines_of(alloc: Global, text: &[u8]) -> Result<Vec<Line>, Fault> {
+    let mut reader = BufReader::new(alloc, text)?;
     let (mut line, mut lines) = (Vec::new(alloc), Vec::new(alloc));
     'lines: for _number in 1..u64::MAX {
         line.clear();
@@ -54,24 +50,16 @@ fn put_shrunk(out: &mut Text, lines: &[Line], shrunk: &Shrunk) {
     }
 }
 
-impl Reading for ShrinkLines {
-    /// Prints the lines that are left, with the answer to the last as a comment.
-    ///
-    /// # Errors
-    /// `Told`: no line is not permitted; that was told. `Read`: the reader failed. `Memory`: the host is out of memory.
-    fn read<R: Read + Drop, S: Screen>(
-        &mut self,
-        alloc: Global,
-        reader: R,
-        screen: &mut S,
-    ) -> Result<(), Fault> {
-        let lines = read_lines(alloc, reader)?;
-        let Some(shrunk) = shrink(alloc, lines.as_slice())? else {
-            return Err(Fault::told(screen, "no line is NOT permitted\n"));
-        };
-        let mut text = Text::new(alloc);
-        put_shrunk(&mut text, lines.as_slice(), &shrunk);
-        print(screen, text);
-        Ok(())
+/// Puts the lines that are left of a text, with the answer to the last as a comment; or tells that no line is not permitted.
+///
+/// # Errors
+/// `Memory`: the host is out of memory.
+pub fn put_fewest(out: &mut Printout, text: &[u8]) -> Result<(), Fault> {
+    let alloc = out.allocator();
+    let lines = lines_of(alloc, text)?;
+    match shrink(alloc, lines.as_slice())? {
+        Some(shrunk) => put_shrunk(&mut out.out, lines.as_slice(), &shrunk),
+        None => out.tell("no line is NOT permitted\n"),
     }
+    Ok(())
 }

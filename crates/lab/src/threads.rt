@@ -4,7 +4,7 @@
 use crate::fault::Fault;
 use crate::mistakes::Place;
 use crate::play::{is_among, read_line, without_feed};
-use crate::screen::Screen;
+use crate::printout::Printout;
 use fork_cycles::{Warning, warn_of_forks};
 use script_language::LONGEST_SCRIPT;
 use script_reader::{ScriptError, ThreadScript, first_field, trim_return};
@@ -67,32 +67,28 @@ pub fn read_rest<R: Read + Drop>(reader: BufReader<R>, front: &mut Vec<u8>) -> R
 }
 
 /// Reads a file for threads, and warns if its processes may fork for ever: if a start reaches a list that forks itself, or forks a list
-/// that forks it, and so on.
-///
-/// # Errors
-/// `Told`: the file is refused; that was told. `Memory`: the host is out of memory.
-pub fn judge<S: Screen>(
-    alloc: Global,
-    screen: &mut S,
-    file: &str,
-    bytes: &[u8],
-) -> Result<(), Fault> {
+/// that forks it, and so on. Tells why the file is refused, if it is.
+pub fn judge(out: &mut Printout, file: &str, bytes: &[u8]) {
+    let alloc = out.allocator();
     let script = match ThreadScript::read(alloc, bytes) {
         Ok(script) => script,
-        Err(ScriptError::Memory) => return Err(Fault::Memory),
+        Err(ScriptError::Memory) => return out.fail(Fault::Memory),
         Err(ScriptError::Line(line, cause)) => {
             let place = Place { file, line };
-            return Err(Fault::told(
-                screen,
-                format_args!(
-                    "{place}: refused, {cause}: see \"Files for threads\" in docs/SCRIPTS.md\n"
-                ),
+            return out.tell(format_args!(
+                "{place}: refused, {cause}: see \"Files for threads\" in docs/SCRIPTS.md\n"
             ));
         }
     };
-    if let Some(Warning { line, text }) = warn_of_forks(alloc, &script, bytes)? {
-        let place = Place { file, line };
-        screen.err(format_args!("{place}: warning: {text}: processes may fork for ever\n"));
+    match warn_of_forks(alloc, &script, bytes) {
+        Ok(Some(Warning { line, text })) => {
+            let place = Place { file, line };
+            writeln!(
+                &mut out.err,
+                "{place}: warning: {text}: processes may fork for ever"
+            )
+        }
+        Ok(None) => {}
+        Err(_) => out.fail(Fault::Memory),
     }
-    Ok(())
 }

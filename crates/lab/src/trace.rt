@@ -4,20 +4,19 @@ ghost use Rattle.line_player.specs.Answers.{HasPlayed};
 ghost use Rattle.line_player.specs.PlayedLines.{Played};
 
 use crate::chosen_line::ChosenLine;
-use crate::fault::Fault;
 use crate::mistakes::{Place, tell_end, tell_refused};
 use crate::play::Listener;
-use crate::screen::{Screen, print, put_object};
+use crate::printout::Printout;
+use crate::screen::put_object;
 use handouts::split;
 use line_player::{LinePlayer, LineReply};
 use line_traces::{Ledger, LineTrace, put_trace, trace_line};
-use std::alloc::Global;
+use std::alloc::AllocError;
 use text_builder::Text;
 
 /// Prints what happens on each line, or on one.
 #[derive(Drop)]
 pub struct TraceLines<'a> {
-    pub alloc: Global,
     pub file: &'a str,
     /// Whether one JSON object a line is printed in place of text.
     pub json: bool,
@@ -39,52 +38,45 @@ impl TraceLines<'_> {
         only.number == number && reply == LineReply::Text
     }
 
-    /// Prints what happened on a line.
-    fn print<S: Screen>(&self, screen: &mut S, trace: &LineTrace) {
-        let mut text = Text::new(self.alloc);
+    /// Puts what happened on a line.
+    fn put(&self, out: &mut Text, trace: &LineTrace) {
         if self.json {
-            put_object(&mut text, trace);
+            put_object(out, trace)
         } else {
-            put_trace(&mut text, trace);
+            put_trace(out, trace)
         }
-        print(screen, text)
     }
 }
 
 impl Listener for TraceLines<'_> {
-    fn line<S: Screen>(
+    fn line(
         &mut self,
-        screen: &mut S,
+        out: &mut Printout,
         player: &mut LinePlayer,
         number: u64,
         line: &[u8],
-    ) -> Result<(), Fault> {
+    ) -> Result<(), AllocError> {
         let bare = split(line).line;
-        let place = Place {
-            file: self.file,
-            line: number,
-        };
-        let mut trace = trace_line(self.alloc, player, number, bare)?;
+        let mut trace = trace_line(out.allocator(), player, number, bare)?;
         if let LineReply::Refused(cause) = trace.reply {
-            return tell_refused(self.alloc, screen, place, player, bare, cause);
+            let place = Place {
+                file: self.file,
+                line: number,
+            };
+            tell_refused(out, place, player, bare, cause);
+            return Ok(());
         }
         self.ledger.add(&mut trace, player.machine())?;
         if self.note(number, trace.reply) {
-            self.print(screen, &trace);
+            self.put(&mut out.out, &trace);
         }
         Ok(())
     }
 
-    fn end<S: Screen>(
-        &mut self,
-        screen: &mut S,
-        player: &LinePlayer,
-        lines: u64,
-    ) -> Result<(), Fault> {
-        tell_end(screen, self.file, player, lines)?;
-        match &self.only {
-            Some(only) => only.tell_missing(screen, self.file, lines),
-            None => Ok(()),
+    fn end(&mut self, out: &mut Printout, player: &LinePlayer, lines: u64) {
+        tell_end(out, self.file, player, lines);
+        if let Some(only) = &self.only {
+            only.tell_missing(out, self.file, lines);
         }
     }
 

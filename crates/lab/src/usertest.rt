@@ -1,8 +1,7 @@
 // `Program`: a program in C that tests a kernel, made test by test; `script_of`, the script of its first test.
 
 use crate::fault::Fault;
-use crate::screen::Screen;
-use command_words::Tests;
+use command_words::{Tests, UsertestWords};
 use std::alloc::{AllocError, Global};
 use std::fmt::Display;
 use text_builder::Text;
@@ -11,7 +10,7 @@ use usertest_text::{Names, PlayFault, put_head, put_main, put_test};
 use usertests::{Test, make};
 
 /// Returns the lines of a script as its text.
-pub fn script_text(alloc: Global, lines: &[Line]) -> Text {
+fn script_text(alloc: Global, lines: &[Line]) -> Text {
     let mut text = Text::new(alloc);
     'lines: for line in lines {
         text.push_str(line.text.as_str());
@@ -20,16 +19,14 @@ pub fn script_text(alloc: Global, lines: &[Line]) -> Text {
     text
 }
 
-/// Returns why the program ends if the machine answers otherwise than the generator predicts, and tells in which line; `name` is what stands
-/// before the line's number.
-pub fn tell_difference<S: Screen, D: Display + Drop>(
-    screen: &mut S,
-    name: D,
-    fault: PlayFault,
-) -> Fault {
-    match fault {
-        PlayFault::Memory => Fault::Memory,
-        PlayFault::Differs(text) => Fault::told(screen, format_args!("{name}{text}\n")),
+/// Returns why the program ends if the machine answers otherwise than the generator predicts; `name` stands before the number of the line.
+pub fn difference<D: Display + Drop>(alloc: Global, name: D, fault: PlayFault) -> Fault {
+    let PlayFault::Differs(text) = fault else {
+        return Fault::Memory;
+    };
+    match format!(in alloc; "{name}{text}") {
+        Ok(text) => Fault::Differs(text),
+        Err(_) => Fault::Memory,
     }
 }
 
@@ -42,6 +39,24 @@ fn test_of(alloc: Global, tests: Tests, seed: u64, parts: usize) -> Result<Test,
 pub fn script_of(alloc: Global, tests: Tests) -> Result<Text, AllocError> {
     let test = test_of(alloc, tests, tests.seed, 0)?;
     Ok(script_text(alloc, test.lines.as_slice()))
+}
+
+/// Returns where a C program goes: to the file that the command line names, or to one that is named as the tests are.
+pub fn program_path(alloc: Global, words: &UsertestWords) -> Result<String, AllocError> {
+    let out = words.out.as_str();
+    if !out.is_empty() {
+        return String::from_str(alloc, out);
+    }
+    let title = words.tests.title(alloc)?;
+    format!(in alloc; "{title}.c")
+}
+
+/// Returns where the script of a test goes: beside its program.
+pub fn script_path(alloc: Global, program: &str, name: &str) -> Result<String, AllocError> {
+    match program.rsplit_once('/') {
+        Some((folder, _)) => format!(in alloc; "{folder}/{name}.script"),
+        None => format!(in alloc; "{name}.script"),
+    }
 }
 
 /// A C program that is being made.
@@ -70,14 +85,14 @@ impl Program {
     /// Adds the test of a seed. Returns its name and its script.
     ///
     /// # Errors
-    /// `Told`: the machine answers a line otherwise than the generator predicts; that was told. `Memory`: the host is out of memory.
-    pub fn add<S: Screen>(&mut self, screen: &mut S, seed: u64) -> Result<(String, String), Fault> {
+    /// `Differs`: the machine answers a line otherwise than the generator predicts. `Memory`: the host is out of memory.
+    pub fn add(&mut self, seed: u64) -> Result<(String, String), Fault> {
         let alloc = self.alloc;
         let test = test_of(alloc, self.tests, seed, self.names.parts_count)?;
         let (lines, lives) = (test.lines.as_slice(), test.lives.as_slice());
         if let Err(fault) = put_test(alloc, &mut self.text, lines, lives) {
             let name = test.name.as_str();
-            return Err(tell_difference(screen, format_args!("{name}.script:"), fault));
+            return Err(difference(alloc, format_args!("{name}.script:"), fault));
         }
         self.names.add(test.prefix.as_str(), test.parts.as_slice())?;
         let script = script_text(alloc, lines).finish()?;

@@ -4,4 +4,4 @@ use Rattle.lab.proofs.grade.play_lines.Given as goal
 
 -- the player has played some lines
 abbrev pub invariant-lines : goal.invariant-lines
-invariant-lines g l = (s : Played) × HasPlayed l.player s
+invariant-lines l = (s : Played) × HasPlayed l.player s
