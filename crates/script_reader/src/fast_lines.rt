@@ -1,6 +1,6 @@
 // Fast path of the script reader: `add_fast` finds the word of a common line after `boot`, reads the fields after it in one
-// pass (`fast_path`), and adds the command that the makers of the reader make of them to the draft (what the lines so far
-// declare and command). A line that the fast path cannot read is left to be read field by field.
+// pass (`fast_path`), and adds the command that is made of them to the draft (what the lines so far declare and command). A
+// line that the fast path cannot read is left to be read field by field.
 
 ghost use Rattle.std.specs.Prelude.{◌≡◌, ℕ, IfSome, MatchOption, Ok, OnOk, codes, true};
 ghost use Rattle.script_language.specs.Script as words;
