@@ -4,12 +4,8 @@
 ghost use Rattle.line_player.specs.Answers.{HasPlayed};
 ghost use Rattle.line_player.specs.PlayedLines.{Played};
 
-use crate::chosen_line::ChosenLine;
-use crate::fault::Fault;
-use crate::mistakes::{Place, tell_end};
-use crate::play::{Listener, played};
-use crate::printout::Printout;
 use handouts::split;
+use lab_host::{ChosenLine, Fault, Listener, Place, Printout, played, tell_end};
 use line_player::{LinePlayer, LineReply};
 use line_traces::{Ledger, trace_line};
 use pictures::{Page, PageHead, put_picture};

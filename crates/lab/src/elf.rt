@@ -1,7 +1,6 @@
 // `put_elf`: puts the line of a script that declares an ELF file.
 
-use crate::fault::Fault;
-use crate::printout::Printout;
+use lab_host::{Fault, Printout};
 use process_model::LONGEST_IMAGE;
 
 /// Puts `elf HEX`, or `elf -` for a file without a byte.

@@ -2,31 +2,21 @@
 
 ghost use Rattle.std.specs.Prelude.{◌≡◌, ◌≤◌};
 
-use crate::check::{BareLines, CheckLines, Checked, Tally};
-use crate::chosen_line::ChosenLine;
-use crate::content::bytes_of;
 use crate::draw::{DrawLines, KeptLines, PageLines, Paper};
 use crate::elf::put_elf;
-use crate::fault::Fault;
-use crate::grade_files::grade;
-use crate::host::{Host, Hosting, Reading, write_file};
-use crate::inspect::put_dump;
-use crate::lab_scripts::hand_out;
-use crate::play::{Listener, each_line};
-use crate::printout::Printout;
-use crate::quiz::{Game, Order};
-use crate::quiz_terminal::Asking;
-use crate::reference::AnswerLines;
-use crate::repl::{BANNER, ReplLines};
-use crate::run::RunLines;
-use crate::screen::{Screen, print};
-use crate::show::ShowLines;
-use crate::shrink::put_fewest;
-use crate::trace::TraceLines;
-use crate::usertest::{Program, program_path, script_of, script_path};
 use command_words::{
     CheckWords, DrawWords, MmuWords, QuizForm, QuizWords, Task, Tests, TraceWords, UsertestWords,
 };
+use lab_generated::{Asking, Game, Order, Program, program_path, script_of, script_path};
+use lab_grading::{grade, hand_out};
+use lab_host::{
+    ChosenLine, Fault, Host, Hosting, Listener, Printout, Reading, Screen, bytes_of, each_line,
+    print, write_file,
+};
+use lab_listeners::{
+    BANNER, BareLines, CheckLines, Checked, ReplLines, RunLines, ShowLines, Tally, TraceLines,
+};
+use lab_reference::{AnswerLines, put_dump, put_fewest};
 use line_traces::Ledger;
 use pictures::PageHead;
 use process_model::LONGEST_IMAGE;

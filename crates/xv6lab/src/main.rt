@@ -5,7 +5,8 @@
 mod stored_runs;
 
 use crate::stored_runs::try_runs;
-use lab::{Failures, Fault, Host, Screen, do_words};
+use lab::do_words;
+use lab_host::{Failures, Fault, Host, Screen};
 use std::fmt::Display;
 use std::io::Write;
 use std::process::ExitCode;

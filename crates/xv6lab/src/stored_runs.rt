@@ -5,7 +5,8 @@
 // these are the one line `repeat N TEXT`, that is N times the text, without a line feed. What it must print on standard output and on
 // standard error, one after the other, and its exit status, as a last line `status N`, is in `NAME.expect`.
 
-use lab::{Failures, Fault, Host, Screen, do_words};
+use lab::do_words;
+use lab_host::{Failures, Fault, Host, Screen};
 use std::alloc::{AllocError, Global};
 use std::fmt::Display;
 use std::{fs, io};

@@ -1,7 +1,0 @@
-use Rattle.line_player.specs.Answers.{HasPlayed}
-use Rattle.line_player.specs.PlayedLines.{Played}
-use Rattle.lab.proofs.grade.play_lines.Given as goal
-
--- the player has played some lines
-abbrev pub invariant-lines : goal.invariant-lines
-invariant-lines l = (s : Played) × HasPlayed l.player s

@@ -1,0 +1,7 @@
+use Rattle.line_player.specs.Answers.{HasPlayed}
+use Rattle.line_player.specs.PlayedLines.{Played}
+use Rattle.lab_host.proofs.play.each_line.Given as goal
+
+-- the player has played some lines
+abbrev pub invariant-lines : goal.invariant-lines
+invariant-lines g l = (s : Played) × HasPlayed l.player s
