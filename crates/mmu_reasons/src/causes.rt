@@ -8,7 +8,7 @@ use access_judge::{Log, Step, Told, Way};
 use sv39_entry::Access;
 use text_builder::Text;
 use walk_lines::Hex;
-use walk_rules::{has_ad, leads_to};
+use walk_rules::{Privilege, has_ad, leads_to, pmp_permits};
 
 /// The name of an access.
 pub(crate) fn access_text(access: Access) -> &'static str {
@@ -27,11 +27,41 @@ impl Telling<'_> {
         !self.has_byte(pa) || unit.may_fail(unit.now(), self.privilege(), kind, pa, width)
     }
 
+    /// Appends by which PMP entry an access is refused, if the entries as they are refuse it: the lowest that matches one of its bytes.
+    fn put_entry(&self, out: &mut Text, privilege: Privilege, access: Access, pa: u64, width: u64) {
+        let entries = self.recorded.unit.pmp();
+        if pmp_permits(entries, privilege, access, pa, width) {
+            return;
+        }
+        let mut below = 0;
+        'entries: for (number, entry) in entries.iter().enumerate() {
+            let region = entry.region(below);
+            if region.overlaps(pa, width) {
+                let line = self.recorded.entry_line(number);
+                let part = if region.contains(pa, width) {
+                    ""
+                } else {
+                    ", which matches a part of it"
+                };
+                return write!(out, ", by entry {number} of line {line}{part}");
+            }
+            below = entry.address;
+        }
+        out.push_str(", as no entry matches it")
+    }
+
+    /// Appends by which PMP entry a walk's access to a PTE is refused.
+    pub(crate) fn put_entry_at(&self, out: &mut Text, access: Access, place: u64) {
+        self.put_entry(out, Privilege::Supervisor, access, place, 8)
+    }
+
     /// Appends why the access is refused at a physical address.
     pub(crate) fn put_fault_at(&self, out: &mut Text, pa: u64) {
         let (hex, access) = (Hex(pa), access_text(self.request.kind));
         if self.has_byte(pa) {
-            write!(out, "PMP refuses the {access} at {hex}")
+            write!(out, "PMP refuses the {access} at {hex}");
+            let (privilege, width) = (self.privilege(), self.request.width);
+            self.put_entry(out, privilege, self.request.kind, pa, width)
         } else {
             write!(out, "{hex} is outside the memory")
         }
@@ -49,22 +79,26 @@ impl Telling<'_> {
         {
             return self.put_fault_at(out, pa);
         }
-        let (hex, level) = (Hex(place_at(step.ppn, self.index(step.level))), step.level);
+        let (place, level) = (place_at(step.ppn, self.index(step.level)), step.level);
+        let hex = Hex(place);
         write!(
             out,
             "step 7: PMP refuses the store to the PTE at {hex}, level {level}"
-        )
+        );
+        self.put_entry_at(out, Access::Store, place)
     }
 
     /// Appends why a table's PTE is not read.
     pub(crate) fn put_fault_below(&self, out: &mut Text, level: u32, table: u64) {
         let index = self.index(level);
-        let hex = Hex(place_at(table, index));
+        let place = place_at(table, index);
+        let hex = Hex(place);
         if self.recorded.unit.word(table, index).is_some() {
             write!(
                 out,
                 "step 2: PMP refuses to read the PTE at {hex}, level {level}"
-            )
+            );
+            self.put_entry_at(out, Access::Load, place)
         } else {
             write!(
                 out,
@@ -139,9 +173,11 @@ impl Telling<'_> {
             return out.push_str(why.text);
         };
         let (now, word) = (Hex(now), Hex(step.entry.to_word()));
-        let place = Hex(place_at(step.ppn, index));
+        let at = place_at(step.ppn, index);
+        let place = Hex(at);
         if now == word && !self.may_set(step) {
-            return write!(out, "PMP refuses the store to the PTE at {place}");
+            write!(out, "PMP refuses the store to the PTE at {place}");
+            return self.put_entry_at(out, Access::Store, at);
         }
         if now == word {
             return out.push_str(why.text);

@@ -35,6 +35,8 @@ pub struct Recorded {
     first_asid: u16,
     /// The line of the last write of a PMP entry.
     pmp_line: u64,
+    /// The line of the last write of each PMP entry, of which there are at most 64.
+    entry_lines: [u64; 64],
     /// The number of the event since which addresses are translated, or were. 0: from the first.
     translated: Option<usize>,
 }
@@ -49,6 +51,7 @@ impl Recorded {
             writings: Vec::new(alloc),
             first_asid: 0,
             pmp_line: 0,
+            entry_lines: [0; 64],
             translated: None,
         }
     }
@@ -62,6 +65,7 @@ impl Recorded {
         self.writings.clear();
         self.first_asid = 0;
         self.pmp_line = 0;
+        self.entry_lines = [0; 64];
         self.translated = None;
     }
 
@@ -96,6 +100,9 @@ impl Recorded {
     {
         self.unit.write_pmp(number, entry)?;
         self.pmp_line = line;
+        if number < self.entry_lines.len() {
+            self.entry_lines[number] = line;
+        }
         Ok(self.lines.push(line)?)
     }
 
@@ -141,6 +148,11 @@ impl Recorded {
     /// The line of the last write of a PMP entry.
     pub(crate) fn pmp_line(&self) -> u64 {
         self.pmp_line
+    }
+
+    /// The line of the last write of a PMP entry, by its number.
+    pub(crate) fn entry_line(&self, number: usize) -> u64 {
+        self.entry_lines.get(number).copied().unwrap_or(0)
     }
 
     /// The ASID that satp was given by its last write up to a moment, and the last moment at which it had it.

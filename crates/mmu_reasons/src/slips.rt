@@ -6,7 +6,7 @@ use crate::walking::{Slip, walk_without};
 use crate::ways::{LEVELS, end_of, place_at, put_pte, step_at};
 use access_judge::{Log, Step, Way};
 use mmu_requests::{Claim, End};
-use sv39_entry::{Kind, Satp};
+use sv39_entry::{Access, Kind, Satp};
 use text_builder::Text;
 use walk_lines::Hex;
 use walk_rules::{leads_to, pmp_permits_read};
@@ -61,8 +61,9 @@ impl Telling<'_> {
             if let Some(step) = step_at(way, LEVELS - 1 - n) {
                 let place = place_at(step.ppn, self.index(step.level));
                 if !pmp_permits_read(self.recorded.unit.pmp(), place) {
-                    let (place, level) = (Hex(place), step.level);
-                    return write!(out, "PMP refuses to read the PTE at {place}, level {level}");
+                    let (hex, level) = (Hex(place), step.level);
+                    write!(out, "PMP refuses to read the PTE at {hex}, level {level}");
+                    return self.put_entry_at(out, Access::Load, place);
                 }
             }
         }
