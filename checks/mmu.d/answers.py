@@ -66,15 +66,15 @@ def wrong_kind(seen, answer):
 # must be told.
 INVALID = {
     "V is 0": lambda word, level: not word & 1,
-    "W without R": lambda word, level: word & 6 == 4,
+    "W is 1 and R is 0": lambda word, level: word & 6 == 4,
     "one of the bits 60 to 54 is set": lambda word, level: word >> 54 & 127,
     "bit 63 (N) is set, without Svnapot": lambda word, level: word >> 63,
     "bits 62 and 61 (PBMT) are set, without Svpbmt": lambda word, level: word >> 61 & 3,
     "bits 62 and 61 (PBMT) are 3, which is reserved": lambda word, level: word >> 61 & 3 == 3,
     "bit 63 (N) is set, and this is no leaf of 64 KiB": lambda word, level: word >> 63 and word & 10,
-    "a pointer with N or PBMT": lambda word, level: word >> 61 and not word & 14,
-    "a pointer with U, A or D": lambda word, level: word & 0xD0 and not word & 14,
-    "a pointer at level 0": lambda word, level: level == 0 and not word & 14,
+    "it is a pointer with N or PBMT": lambda word, level: word >> 61 and not word & 14,
+    "it is a pointer with U, A or D": lambda word, level: word & 0xD0 and not word & 14,
+    "it is a pointer at level 0": lambda word, level: level == 0 and not word & 14,
 }
 
 
@@ -87,7 +87,7 @@ def wrong_leaf(seen, line, answer):
     if not line.split(" => ")[1].startswith(f"pa {leads_to(seen.profile, word, level, seen.access.va):#x}"):
         return f"{word:#x} leads elsewhere"
     if kind_of(seen.profile, word, level) != "leaf":
-        first = next((it for it in ("V is 0", "W without R") if INVALID[it](word, level)), lack)
+        first = next((it for it in ("V is 0", "W is 1 and R is 0") if INVALID[it](word, level)), lack)
         return None if lack == first and lack in INVALID and INVALID[lack](word, level) else f"{word:#x} is invalid by something else"
     bit = re.match(r"([A-Z]) is ([01])", lack)
     step = {"the superpage is not aligned": 6}.get(lack, 7 if bit and bit[1] in "AD" else 5 if bit else None)

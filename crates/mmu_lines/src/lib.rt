@@ -3,6 +3,7 @@
 #![tactic(auto)]
 
 mod claims;
+mod denials;
 mod line;
 mod player;
 mod playing;

@@ -17,15 +17,13 @@ ghost use Rattle.mmu_requests.specs.declared.requests.Request.TheVariants as ask
 ghost use Rattle.script_language.specs.Lines.{fields_of};
 ghost use Rattle.walk_rules.specs.Addresses.{top_of};
 
-use crate::claims::{difference, permitted_outcome};
+use crate::claims::permitted_outcome;
+use crate::denials::Denial;
 use crate::writes::{cut_asid, lock_of, satp_written};
 use access_history::{Outcome, Update};
 use access_judge::{Findings, Log, Told, Way, faulting_part, outcomes};
 use line_fields::Mistake;
-use mmu_reasons::{
-    Answer, By, Lock, OutcomeLine, Recorded, Telling, Witness, put_walk_steps, seek, seek_by,
-    seek_refusal,
-};
+use mmu_reasons::{Answer, Lock, OutcomeLine, Recorded, Telling, Witness, put_walk_steps, seek};
 use mmu_requests::{Claim, End, Profile, Refusal, Request, read_line};
 use std::alloc::{AllocError, Global};
 use sv39_entry::{Entry, Satp, Va};
@@ -69,15 +67,6 @@ fn with_type(claim: Claim, outcome: Outcome) -> Claim {
             Claim { end, ..claim }
         }
         _ => claim,
-    }
-}
-
-/// Why an address has one outcome alone, if it has.
-fn by_address(telling: &Telling<'_>) -> Option<&'static str> {
-    match telling.by_address() {
-        Some(By::Misaligned) => Some("the address is misaligned"),
-        Some(By::NotCanonical) => Some("the address is not canonical"),
-        _ => None,
     }
 }
 
@@ -220,170 +209,6 @@ impl MmuPlayer {
         Ok(lines)
     }
 
-    /// Appends in what a permitted outcome is another than what a client tells, if one has the same physical address or cause, by the PTE that the
-    /// client tells; returns whether one has.
-    fn put_difference(&self, out: &mut Text, telling: &Telling<'_>, claim: Claim) -> bool {
-        'found: for told in self.findings.found() {
-            if claim.is_end(told.outcome) && claim.is_by(telling.word_of(&told.way)) {
-                out.push_str(difference(claim.update, told.outcome));
-                return true;
-            }
-        }
-        false
-    }
-
-    /// Appends that what a client tells is permitted, but by another PTE, if it is; returns whether it is.
-    fn put_other_pte(&self, out: &mut Text, telling: &Telling<'_>, claim: Claim) -> bool {
-        'found: for told in self.findings.found() {
-            if claim.is_outcome(told.outcome) {
-                match telling.word_of(&told.way) {
-                    Some(word) => {
-                        let word = Hex(word);
-                        write!(out, "by another PTE alone: by {word}")
-                    }
-                    None => out.push_str("by no PTE"),
-                }
-                return true;
-            }
-        }
-        false
-    }
-
-    /// Appends to what the access comes by the PTE that a client tells; returns whether it comes to anything else.
-    fn put_by(
-        &self,
-        out: &mut Text,
-        telling: &Telling<'_>,
-        request: access_history::Request,
-        claim: Claim,
-    ) -> bool
-        requires { 1 ≤ request.width }
-    {
-        let Some(word) = claim.by else {
-            return false;
-        };
-        if self.put_difference(out, telling, claim) {
-            return true;
-        }
-        match seek_by(&self.recorded.unit, self.profile.extensions, request, word) {
-            Some(told) => telling.put_by(out, claim, &told),
-            None => false,
-        }
-    }
-
-    /// Appends that a leaf leads to the physical address that a client tells, and why the access is refused all the same; returns whether one does.
-    fn put_refused(
-        &self,
-        out: &mut Text,
-        telling: &Telling<'_>,
-        request: access_history::Request,
-        claim: Claim,
-    ) -> bool
-        requires { 1 ≤ request.width }
-    {
-        let End::Granted { pa, .. } = claim.end else {
-            return false;
-        };
-        let (unit, extensions) = (&self.recorded.unit, self.profile.extensions);
-        match seek_refusal(unit, extensions, request, pa) {
-            Some(told) => telling.put_refused(out, &told),
-            None => false,
-        }
-    }
-
-    /// Appends what PTEs that the hart may read or hold say against what a client tells; returns whether one says something.
-    fn put_held(
-        &self,
-        out: &mut Text,
-        telling: &Telling<'_>,
-        request: access_history::Request,
-        claim: Claim,
-    ) -> bool
-        requires { 1 ≤ request.width }
-    {
-        if telling.put_present(out, claim) || telling.put_slip(out, claim) {
-            return true;
-        }
-        if claim.by.is_some() {
-            return self.put_by(out, telling, request, claim)
-                || self.put_unknown(out, telling, request, claim);
-        }
-        self.put_difference(out, telling, claim) || self.put_refused(out, telling, request, claim)
-    }
-
-    /// Whether what a client tells is permitted by some PTE.
-    fn is_permitted(&self, claim: Claim) -> bool {
-        'found: for told in self.findings.found() {
-            if claim.is_outcome(told.outcome) {
-                return true;
-            }
-        }
-        false
-    }
-
-    /// Appends that no walk for the access ends or ended at the PTE that a client tells, if none does; returns whether it is so.
-    fn put_unknown(
-        &self,
-        out: &mut Text,
-        telling: &Telling<'_>,
-        request: access_history::Request,
-        claim: Claim,
-    ) -> bool
-        requires { 1 ≤ request.width }
-    {
-        let Some(word) = claim.by else {
-            return false;
-        };
-        if self
-            .witness
-            .has_word(self.profile.extensions, request, word)
-        {
-            return false;
-        }
-        let (va, word) = (Hex(request.va.0), Hex(word));
-        write!(out, "no walk for {va} ends or ended at a PTE {word}");
-        if self.is_permitted(claim) {
-            out.push_str("; ");
-            return self.put_other_pte(out, telling, claim);
-        }
-        true
-    }
-
-    /// Appends what is permitted in place of a fault that a client tells; returns whether the client tells one.
-    fn put_fault(&self, out: &mut Text, telling: &Telling<'_>, claim: Claim) -> bool {
-        if let End::Granted { .. } = claim.end {
-            return false;
-        }
-        if !self.put_other_pte(out, telling, claim) {
-            telling.put_walk(out, claim);
-        }
-        true
-    }
-
-    /// Appends why an outcome is not permitted.
-    fn put_reason(&self, out: &mut Text, request: access_history::Request, claim: Claim)
-        requires { 1 ≤ request.width }
-    {
-        let telling = self.telling(request, &[]);
-        if let Some(text) = by_address(&telling) {
-            return out.push_str(text);
-        }
-        let is_held = self.put_held(out, &telling, request, claim);
-        let is_told = is_held || self.put_fault(out, &telling, claim);
-        let extensions = self.profile.extensions;
-        let older = self.witness.older(extensions, request, claim, is_held);
-        if older.is_nothing() {
-            if !is_told && !self.put_other_pte(out, &telling, claim) {
-                telling.put_walk(out, claim);
-            }
-            return;
-        }
-        if is_told {
-            out.push_str("; or ");
-        }
-        self.witness.put_older(out, extensions, request.va, &older)
-    }
-
     /// The outcomes of an access, as they are shown.
     fn listed(&mut self, request: access_history::Request) -> Result<Vec<OutcomeLine>, AllocError>
         requires { 1 ≤ request.width }
@@ -402,8 +227,17 @@ impl MmuPlayer {
         ensures { IfOk result (IsJudged (state_of self.old) request claim (state_of self.new)) }
     {
         let permitted = self.listed(request)?;
+        let denial = Denial {
+            recorded: &self.recorded,
+            witness: &self.witness,
+            extensions: self.profile.extensions,
+            telling: self.telling(request, &[]),
+            found: self.findings.found(),
+            request,
+            claim,
+        };
         let mut text = Text::new(self.alloc);
-        self.put_reason(&mut text, request, claim);
+        denial.put(&mut text);
         let reason = text.finish()?;
         Ok(Answer::NotPermitted { reason, permitted })
     }

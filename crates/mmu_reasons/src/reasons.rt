@@ -45,14 +45,14 @@ fn why_no_kind(entry: Entry) -> Option<Why> {
     let (step, text) = if entry.has(EntryFlags::READ) || entry.has(EntryFlags::EXECUTE) {
         (3, "bit 63 (N) is set, and this is no leaf of 64 KiB")
     } else if word >= NAPOT || (word >> 61) % 4 != 0 {
-        (3, "a pointer with N or PBMT")
+        (3, "it is a pointer with N or PBMT")
     } else if entry.has(EntryFlags::USER)
         || entry.has(EntryFlags::ACCESSED)
         || entry.has(EntryFlags::DIRTY)
     {
-        (3, "a pointer with U, A or D")
+        (3, "it is a pointer with U, A or D")
     } else {
-        (4, "a pointer at level 0")
+        (4, "it is a pointer at level 0")
     };
     at(step, text)
 }
@@ -63,7 +63,7 @@ fn why_invalid(extensions: Extensions, entry: Entry) -> Option<Why> {
         return at(3, "V is 0");
     }
     if entry.has(EntryFlags::WRITE) && !entry.has(EntryFlags::READ) {
-        return at(3, "W without R");
+        return at(3, "W is 1 and R is 0");
     }
     match why_reserved(extensions, entry) {
         Some(why) => Some(why),
