@@ -16,6 +16,9 @@ pub const MOST_TRIES: usize = 10_000;
 /// The most lines that are played to try removals.
 pub const MOST_LINES: usize = 10_000_000;
 
+/// More fields than a line for an access has.
+const MOST_FIELDS: usize = 32;
+
 /// What is left of lines of which one is not permitted.
 #[derive(Drop)]
 pub struct Shrunk {
@@ -99,6 +102,33 @@ fn since_reset(alloc: Global, lines: &[Line], keeps: &[bool]) -> Result<Vec<bool
     let mut kept = Vec::new(alloc);
     'keeps: for (n, keep) in keeps.iter().enumerate() {
         kept.push(*keep && (n >= first || Some(n) == profile))?;
+    }
+    Ok(kept)
+}
+
+/// Whether a line asks for an access by which the hart stores nothing in a PTE: it changes no later answer.
+fn changes_nothing(line: &Line) -> bool {
+    let is_access = begins_with(line, b"load")
+        || begins_with(line, b"store")
+        || begins_with(line, b"fetch");
+    if !is_access {
+        return false;
+    }
+    'fields: for n in 1..MOST_FIELDS {
+        match field_at(line.text.as_slice(), n) {
+            Some(place) if place.bytes == b"set".as_slice() => return false,
+            Some(_) => {}
+            None => return true,
+        }
+    }
+    false
+}
+
+/// Which lines are kept, without those that change nothing.
+fn with_changes(alloc: Global, lines: &[Line], keeps: &[bool]) -> Result<Vec<bool>, AllocError> {
+    let mut kept = Vec::new(alloc);
+    'keeps: for (keep, line) in keeps.iter().zip(lines) {
+        kept.push(*keep && !changes_nothing(line))?;
     }
     Ok(kept)
 }
@@ -231,12 +261,16 @@ impl Search {
     }
 }
 
-/// Returns what is left without the lines that a later `reset` or `profile` makes void, if the answer is the same.
-fn begun(alloc: Global, lines: &[Line], found: Shrunk) -> Result<Shrunk, AllocError>
+/// Returns what is left with these lines alone, if the answer is the same; else what is given.
+fn fewer(
+    alloc: Global,
+    lines: &[Line],
+    found: Shrunk,
+    keeps: Vec<bool>,
+) -> Result<Shrunk, AllocError>
     requires { IsDenied lines.now found.keeps.items found.answer }
     ensures { IfOk result (λ s. IsDenied lines.now s.keeps.items s.answer) }
 {
-    let keeps = since_reset(alloc, lines, found.keeps.as_slice())?;
     match play(alloc, lines, keeps.as_slice())? {
         Some(answer) if is_same(&found.answer, &answer) => Ok(Shrunk {
             keeps,
@@ -245,6 +279,18 @@ fn begun(alloc: Global, lines: &[Line], found: Shrunk) -> Result<Shrunk, AllocEr
         }),
         _ => Ok(found),
     }
+}
+
+/// Returns what is left without the lines that a later `reset` or `profile` makes void, and without those that change nothing, if the answer is
+/// the same.
+fn begun(alloc: Global, lines: &[Line], found: Shrunk) -> Result<Shrunk, AllocError>
+    requires { IsDenied lines.now found.keeps.items found.answer }
+    ensures { IfOk result (λ s. IsDenied lines.now s.keeps.items s.answer) }
+{
+    let keeps = since_reset(alloc, lines, found.keeps.as_slice())?;
+    let found = fewer(alloc, lines, found, keeps)?;
+    let keeps = with_changes(alloc, lines, found.keeps.as_slice())?;
+    fewer(alloc, lines, found, keeps)
 }
 
 /// Returns the fewest lines by which the first line that is not permitted stays so, for the same reason: no single line but `profile` can be
