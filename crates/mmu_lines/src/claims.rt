@@ -78,7 +78,7 @@ pub(crate) fn difference(told: Option<Update>, outcome: Outcome) -> &'static str
     match (told, update) {
         (None, Some(_)) => "A or D is 0, and the hart sets them",
         (Some(_), None) if matches!(outcome, Outcome::Refused { .. }) => {
-            "the access is refused before step 7, so the hart sets no PTE"
+            "the access is refused before the hart sets A or D"
         }
         (Some(_), None) => "the PTE has what the access needs, so the hart sets nothing",
         (Some(told), Some(update)) if !is_at_place(told, update) => {

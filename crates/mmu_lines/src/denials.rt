@@ -5,17 +5,16 @@ ghost use Rattle.std.specs.Prelude.{◌≤◌};
 use crate::claims::difference;
 use access_judge::Told;
 use mmu_reasons::{By, Recorded, Telling, Witness, seek_by, seek_refusal};
-use mmu_requests::{Claim, End};
+use mmu_requests::{Claim, End, Profile};
 use text_builder::Text;
 use walk_lines::Hex;
-use walk_rules::Extensions;
 
 /// An outcome that a client tells and that is not permitted.
 #[derive(Clone, Copy)]
 pub(crate) struct Denial<'a> {
     pub recorded: &'a Recorded,
     pub witness: &'a Witness,
-    pub extensions: Extensions,
+    pub profile: Profile,
     /// The access with the history.
     pub telling: Telling<'a>,
     /// The outcomes that are permitted.
@@ -75,7 +74,12 @@ impl Denial<'_> {
         if self.put_difference(out) {
             return true;
         }
-        match seek_by(&self.recorded.unit, self.extensions, self.request, word) {
+        match seek_by(
+            &self.recorded.unit,
+            self.profile.extensions,
+            self.request,
+            word,
+        ) {
             Some(told) => self.telling.put_by(out, self.claim, &told),
             None => false,
         }
@@ -89,25 +93,33 @@ impl Denial<'_> {
         let End::Granted { pa, .. } = self.claim.end else {
             return false;
         };
-        match seek_refusal(&self.recorded.unit, self.extensions, self.request, pa) {
+        match seek_refusal(
+            &self.recorded.unit,
+            self.profile.extensions,
+            self.request,
+            pa,
+        ) {
             Some(told) => self.telling.put_refused(out, &told),
             None => false,
         }
     }
 
-    /// Appends that no walk for the access ends or ended at the PTE that the client tells, if none does; returns whether it is so.
+    /// Appends that no walk for the access ends or ended at the PTE that the client tells, and at which it ends, if that is so; returns whether it
+    /// is.
     fn put_unknown(&self, out: &mut Text, word: u64) -> bool
         requires { 1 ≤ self.now.request.width }
     {
-        if self.witness.has_word(self.extensions, self.request, word) {
+        let is_bare = matches!(self.telling.by_address(), Some(By::Bare));
+        if is_bare
+            || self
+                .witness
+                .has_word(self.profile.extensions, self.request, word)
+        {
             return false;
         }
-        let (va, word) = (Hex(self.request.va.0), Hex(word));
-        write!(out, "no walk for {va} ends or ended at a PTE {word}");
-        if let Some(told) = self.by_another() {
-            out.push_str("; ");
-            self.put_another(out, told)
-        }
+        let (va, pte) = (Hex(self.request.va.0), Hex(word));
+        write!(out, "no walk for {va} ends or ended at a PTE {pte}");
+        self.telling.put_last(out, word);
         true
     }
 
@@ -115,7 +127,14 @@ impl Denial<'_> {
     fn put_held(&self, out: &mut Text) -> bool
         requires { 1 ≤ self.now.request.width }
     {
-        if self.telling.put_present(out, self.claim) || self.telling.put_slip(out, self.claim) {
+        let Profile {
+            sv39,
+            sv48,
+            sv57,
+            ..
+        } = self.profile;
+        let (telling, claim) = (&self.telling, self.claim);
+        if telling.put_present(out, claim) || telling.put_slip(out, claim, [sv39, sv48, sv57]) {
             return true;
         }
         match self.claim.by {
@@ -149,20 +168,21 @@ impl Denial<'_> {
             return out.push_str(text);
         }
         let is_held = self.put_held(out);
-        let is_told = is_held || self.put_fault(out);
         let older = self
             .witness
-            .older(self.extensions, self.request, self.claim, is_held);
+            .older(self.profile.extensions, self.request, self.claim, is_held);
         if older.is_nothing() {
-            if !is_told {
+            if !is_held {
                 self.put_instead(out);
             }
             return;
         }
+        // what was is told first of a PTE that the client tells, and what is of any
+        let is_told = is_held || self.claim.by.is_none() && self.put_fault(out);
         if is_told {
             out.push_str("; or ");
         }
         self.witness
-            .put_older(out, self.extensions, self.request.va, &older)
+            .put_older(out, self.profile.extensions, self.request.va, &older)
     }
 }

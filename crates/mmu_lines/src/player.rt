@@ -230,7 +230,7 @@ impl MmuPlayer {
         let denial = Denial {
             recorded: &self.recorded,
             witness: &self.witness,
-            extensions: self.profile.extensions,
+            profile: self.profile,
             telling: self.telling(request, &[]),
             found: self.findings.found(),
             request,

@@ -4,6 +4,7 @@ ghost use Rattle.std.specs.Prelude.{◌≤◌};
 
 use crate::causes::access_text;
 use crate::reasons::{Why, why_fault};
+use crate::recorded::A_AND_D;
 use crate::telling::Telling;
 use crate::ways::{Stop, end_of, put_pte, stop_of};
 use access_history::Outcome;
@@ -295,12 +296,29 @@ impl Telling<'_> {
         write!(out, ": that is access fault {fault}, not page fault {page}")
     }
 
+    /// Appends at which PTE the walk ends, which is another than the one that a client tells.
+    pub fn put_last(&self, out: &mut Text, told: u64) {
+        let Some(way) = self.walk() else {
+            return;
+        };
+        if let Some(step) = end_of(self.extensions, way) {
+            out.push_str(": it ends at ");
+            put_pte(out, self.extensions, &step);
+            if step.entry.to_word() | A_AND_D == told | A_AND_D {
+                out.push_str(", which differs in A or D alone")
+            }
+        }
+    }
+
     /// Appends that the walk ends with a page fault, and why.
     fn put_page_fault_at(&self, out: &mut Text, step: &Step, why: Why) {
         out.push_str("the walk ends with a page fault: ");
         put_pte(out, self.extensions, step);
         let text = why.text;
-        write!(out, ": {text}")
+        write!(out, ": {text}");
+        if self.request.privilege == Privilege::Machine {
+            out.push_str(", and MPRV is 1")
+        }
     }
 
     /// Appends at which PTE the walk ends, if a client tells that the access is granted at a physical address.
@@ -382,11 +400,8 @@ impl Telling<'_> {
         true
     }
 
-    /// Appends what an access that isn't translated comes to. `pa`: where a client tells that it is granted, if it tells so.
-    fn put_bare(&self, out: &mut Text, pa: Option<u64>) {
-        if pa == Some(self.request.va.0) {
-            return self.put_fault_at(out, self.request.va.0);
-        }
+    /// Appends that the access isn't translated, and why.
+    fn put_untranslated(&self, out: &mut Text) {
         let (fetches, mprv) = (self.request.kind == Access::Fetch, self.request.status.mprv);
         let why = match self.privilege() {
             Privilege::Machine if fetches && mprv => "MPRV does not act on a fetch",
@@ -396,6 +411,15 @@ impl Telling<'_> {
         write!(out, "the access isn't translated: {why}")
     }
 
+    /// Appends what an access that isn't translated comes to in place of a grant at a physical address that a client tells.
+    fn put_bare(&self, out: &mut Text, pa: u64) {
+        if pa == self.request.va.0 {
+            self.put_fault_at(out, pa)
+        } else {
+            self.put_untranslated(out)
+        }
+    }
+
     /// Appends what the walk comes to in place of a fault that a client tells.
     fn put_for_fault(&self, out: &mut Text, cause: u64) {
         if self.put_other_cause(out, cause) {
@@ -403,10 +427,12 @@ impl Telling<'_> {
         }
         match self.walk() {
             Some(way) => self.put_other(out, way, cause),
-            None if cause == self.request.kind.page_fault_cause() => self.put_bare(out, None),
             None => {
-                let (access, pa) = (access_text(self.request.kind), Hex(self.request.va.0));
-                write!(out, "nothing refuses the {access} at {pa}")
+                self.put_untranslated(out);
+                if cause == self.request.kind.access_fault_cause() {
+                    let (access, pa) = (access_text(self.request.kind), Hex(self.request.va.0));
+                    write!(out, ", and nothing refuses the {access} at {pa}")
+                }
             }
         }
     }
@@ -418,7 +444,7 @@ impl Telling<'_> {
         }
         match self.walk() {
             Some(way) => self.put_end(out, way, pa),
-            None => self.put_bare(out, Some(pa)),
+            None => self.put_bare(out, pa),
         }
     }
 

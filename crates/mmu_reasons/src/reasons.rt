@@ -40,10 +40,16 @@ fn why_reserved(extensions: Extensions, entry: Entry) -> Option<Why> {
 }
 
 /// Why a PTE without reserved bits is neither a leaf nor a pointer at a level.
-fn why_no_kind(entry: Entry) -> Option<Why> {
+fn why_no_kind(entry: Entry, level: u32) -> Option<Why> {
     let word = entry.to_word();
-    let (step, text) = if entry.has(EntryFlags::READ) || entry.has(EntryFlags::EXECUTE) {
-        (3, "bit 63 (N) is set, and this is no leaf of 64 KiB")
+    let is_leaf = entry.has(EntryFlags::READ) || entry.has(EntryFlags::EXECUTE);
+    let (step, text) = if is_leaf && level > 0 {
+        (3, "bit 63 (N) is set above level 0")
+    } else if is_leaf {
+        (
+            3,
+            "bit 63 (N) is set, and bits 3 to 0 of the PPN are not 1000",
+        )
     } else if word >= NAPOT || (word >> 61) % 4 != 0 {
         (3, "it is a pointer with N or PBMT")
     } else if entry.has(EntryFlags::USER)
@@ -58,7 +64,7 @@ fn why_no_kind(entry: Entry) -> Option<Why> {
 }
 
 /// Why a PTE is invalid at a level.
-fn why_invalid(extensions: Extensions, entry: Entry) -> Option<Why> {
+fn why_invalid(extensions: Extensions, entry: Entry, level: u32) -> Option<Why> {
     if !entry.has(EntryFlags::VALID) {
         return at(3, "V is 0");
     }
@@ -67,7 +73,7 @@ fn why_invalid(extensions: Extensions, entry: Entry) -> Option<Why> {
     }
     match why_reserved(extensions, entry) {
         Some(why) => Some(why),
-        None => why_no_kind(entry),
+        None => why_no_kind(entry, level),
     }
 }
 
@@ -75,9 +81,9 @@ fn why_invalid(extensions: Extensions, entry: Entry) -> Option<Why> {
 fn why_no_right(status: Status, access: Access, entry: Entry) -> Option<Why> {
     let text = match access {
         Access::Fetch if !entry.has(EntryFlags::EXECUTE) => "X is 0 at a fetch",
-        Access::Load
-            if !entry.has(EntryFlags::READ) && !(status.mxr && entry.has(EntryFlags::EXECUTE)) =>
-            "R is 0 at a load",
+        Access::Load if entry.has(EntryFlags::READ) => return None,
+        Access::Load if !entry.has(EntryFlags::EXECUTE) => "R is 0 at a load",
+        Access::Load if !status.mxr => "R is 0 at a load, with X 1 and MXR 0",
         Access::Store if !entry.has(EntryFlags::WRITE) => "W is 0 at a store",
         _ => return None,
     };
@@ -124,7 +130,7 @@ pub(crate) fn why_fault(
         return None;
     }
     if extensions.kind(entry, level) != Kind::Leaf {
-        return why_invalid(extensions, entry);
+        return why_invalid(extensions, entry, level);
     }
     if let Some(why) = why_no_mode(status, mode, access, entry) {
         return Some(why);

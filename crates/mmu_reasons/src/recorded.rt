@@ -14,7 +14,7 @@ use text_builder::Text;
 use walk_rules::{Extensions, PmpEntry, top_level};
 
 /// The bits of a leaf that a hart may set.
-const A_AND_D: u64 = 0xc0;
+pub(crate) const A_AND_D: u64 = 0xc0;
 
 /// A write of satp.
 #[derive(Clone, Copy)]

@@ -90,10 +90,13 @@ impl Telling<'_> {
         }
     }
 
-    /// Appends by which other MODE of satp the walk ends as a client may mean; returns whether it does by one.
-    fn put_other_mode(&self, out: &mut Text, claim: Claim) -> bool {
+    /// Appends by which other MODE of satp, of those that the hart has, the walk ends as a client may mean; returns whether it does by one.
+    fn put_other_mode(&self, out: &mut Text, claim: Claim, has: [bool; 3]) -> bool {
         let satp = self.recorded.unit.satp();
-        for (mode, name) in MODES.as_slice() {
+        for (n, (mode, name)) in MODES.iter().enumerate() {
+            if has.get(n) != Some(&true) {
+                continue;
+            }
             let other = Satp::from_word((mode << 60) + satp.to_word() % (1 << 60));
             if self.slipped(other, Slip::None, claim).is_some() {
                 let present = mode_name(satp);
@@ -107,8 +110,9 @@ impl Telling<'_> {
         false
     }
 
-    /// Appends which one check of the walk stands against what a client tells, if one does; returns whether it does.
-    pub fn put_slip(&self, out: &mut Text, claim: Claim) -> bool {
+    /// Appends which one check of the walk stands against what a client tells, if one does; returns whether it does. `has`: whether the hart has
+    /// Sv39, Sv48 and Sv57.
+    pub fn put_slip(&self, out: &mut Text, claim: Claim, has: [bool; 3]) -> bool {
         let Some(walk) = self.walk() else {
             return false;
         };
@@ -124,6 +128,6 @@ impl Telling<'_> {
             self.put_no_pointer(out, &way);
             return true;
         }
-        self.put_other_mode(out, claim)
+        self.put_other_mode(out, claim, has)
     }
 }

@@ -12,7 +12,7 @@ use access_history::Request;
 use access_judge::{Log, Step, Told};
 use mmu_requests::Claim;
 use std::alloc::{AllocError, Global};
-use sv39_entry::{Satp, Va};
+use sv39_entry::{Kind, Satp, Va};
 use text_builder::Text;
 use walk_rules::{Extensions, PmpEntry};
 
@@ -28,6 +28,11 @@ pub struct Witness {
 
 fn without_asid(satp: Satp) -> Satp {
     Satp::from_word(((satp.to_word() >> 60) << 60) + satp.ppn())
+}
+
+/// Whether a PTE is invalid at its level.
+fn is_invalid(extensions: Extensions, step: &Step) -> bool {
+    step.level <= 4 && extensions.kind(step.entry, step.level) == Kind::Invalid
 }
 
 /// A fence that excludes a way that was possible before it.
@@ -203,7 +208,7 @@ impl Witness {
         found
     }
 
-    /// The last PTE on a way of those that a walk may have read up to a moment and that are not global.
+    /// The last PTE on a way of those that a walk may have read up to a moment and that are not global: a valid one, if there is one.
     fn last_of_space(&self, extensions: Extensions, told: &Told, moment: usize) -> Option<Step> {
         let mut found = None;
         'levels: for n in 0..LEVELS {
@@ -211,7 +216,7 @@ impl Witness {
                 if !self.unspaced.was_there(extensions, &step, moment) {
                     return found;
                 }
-                if !step.global {
+                if !step.global && (found.is_none() || !is_invalid(extensions, &step)) {
                     found = Some(step);
                 }
             }
@@ -349,10 +354,43 @@ impl Witness {
                 out.push_str(", read by ");
                 self.unfenced.put_step(out, extensions, &above)
             }
-            None => {
-                put_pte(out, extensions, step);
-                self.unfenced.put_root(out, told, ", read by ")
-            }
+            None => self.put_by_root(out, extensions, exclusion, step),
+        }
+    }
+
+    /// The pointer to an invalid PTE that a fence excludes, if the fence excludes that too.
+    fn pointer_to(
+        &self,
+        extensions: Extensions,
+        exclusion: &Exclusion,
+        step: &Step,
+    ) -> Option<Step> {
+        let fence = &exclusion.fence;
+        let above = step_at(&exclusion.told.way, step.level.saturating_add(1))?;
+        if is_invalid(extensions, step)
+            && fence.va.is_none()
+            && (fence.asid.is_none() || !above.global)
+        {
+            Some(above)
+        } else {
+            None
+        }
+    }
+
+    /// Appends a PTE that a fence excludes, with the satp by which it was read, if that is an older one.
+    fn put_by_root(
+        &self,
+        out: &mut Text,
+        extensions: Extensions,
+        exclusion: &Exclusion,
+        step: &Step,
+    ) {
+        let pointer = self.pointer_to(extensions, exclusion, step);
+        put_pte(out, extensions, &pointer.unwrap_or(*step));
+        self.unfenced.put_root(out, &exclusion.told, ", read by ");
+        if pointer.is_some() {
+            out.push_str(", which leads to ");
+            put_pte(out, extensions, step)
         }
     }
 
