@@ -2,8 +2,8 @@
 
 use crate::class_order::{in_order, note_repeats};
 use crate::content::{Content, MOST_BYTES};
-use crate::grade::play_handout;
 use crate::handed_in::{Kind, Target, Targets, kind_of};
+use crate::played_handouts::play_handout;
 use crate::printed::put_grades;
 use command_words::{GradeForm, GradeWords, Source};
 use grade_reports::{

@@ -1,6 +1,6 @@
 // `key`: the handout of a lab with the machine's answers in place of its blanks.
 
-use crate::grade::play_handout;
+use crate::played_handouts::play_handout;
 use handouts::Asked;
 use lab_host::{Fault, Printout, put_lossy};
 use text_builder::Text;

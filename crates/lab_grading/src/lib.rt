@@ -4,11 +4,11 @@
 
 mod class_order;
 mod content;
-mod grade;
 mod grade_files;
 mod handed_in;
 mod keys;
 mod lab_scripts;
+mod played_handouts;
 mod printed;
 
 pub use grade_files::grade;
