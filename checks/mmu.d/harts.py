@@ -20,6 +20,8 @@ Entry = collections.namedtuple("Entry", "level page place word asid is_global le
 # Where a walk may be: by a global pointer or not
 Stand = collections.namedtuple("Stand", "level table is_global")
 Use = collections.namedtuple("Use", "level page place")
+# Of all MODEs: a PTE serves under each
+HIGHEST = 4
 
 
 def page_of(va, level):
@@ -120,7 +122,8 @@ class Hart:
         return None if top is None or not is_canonical(va, top) else Stand(top, root_of(self.satp), False)
 
     def is_of_now(self, entry):
-        return entry.level <= top_of(self.satp) and (entry.is_global or entry.asid == asid_of(self.satp))
+        """Of whichever MODE it was read under."""
+        return entry.is_global or entry.asid == asid_of(self.satp)
 
     def leads(self, entry):
         """The stand to which a pointer leads now; None for what is no pointer or not of now."""
@@ -195,7 +198,7 @@ class Hart:
         root = self.root(va)
         if root is not None:
             yield root
-            for level in range(1, root.level + 1):
+            for level in range(1, HIGHEST + 1):
                 for it in self.kept.get((level, page_of(va, level)), ()):
                     stand = self.leads(it)
                     if stand is not None:
@@ -207,7 +210,7 @@ class Hart:
         if found is not None:
             return found
         found = set()
-        for level in range(top_of(self.satp) + 1):
+        for level in range(HIGHEST + 1):
             for it in self.kept.get((level, page_of(access.va, level)), ()):
                 if self.is_of_now(it) and kind_of(self.profile, it.word, level) != "pointer":
                     found |= self.says(it, access)
@@ -256,8 +259,9 @@ class HartOfAll(Hart):
             root = self.root(va)
             if root is None:
                 continue
-            stands = {root}
-            for level in reversed(range(root.level + 1)):
+            stands = set()
+            for level in reversed(range(HIGHEST + 1)):
+                stands |= {root} if level == root.level else set()
                 kept = self.kept[level, page_of(va, level)]
                 for stand in stands:
                     kept.update(self.reads(stand, va))
@@ -338,7 +342,7 @@ class RandomHart(Hart):
         """The outcome of an access."""
         found = self.untranslated(access)
         while not found:
-            here = [it for level in range(top_of(self.satp) + 1) for it in sorted(self.kept.get((level, page_of(access.va, level)), ()))]
+            here = [it for level in range(HIGHEST + 1) for it in sorted(self.kept.get((level, page_of(access.va, level)), ()))]
             here = [it for it in here if self.is_of_now(it) and kind_of(self.profile, it.word, it.level) != "pointer"]
             entry = self.rng.choice(here) if here and self.rng.random() < 0.7 else self.walk(access.va)
             # none by a PTE that memory has no more, and whose A is clear: it walks anew

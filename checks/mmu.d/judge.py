@@ -108,7 +108,7 @@ class Judge:
 
     def follows(self, use, va, read, epoch):
         """At a use of satp a pointer may be followed."""
-        return has_level(use.satp, va, read.level) and (read.is_global or (asid_of(use.satp), use.epoch) == (read.asid, epoch))
+        return is_translated(use.satp, va) and (read.is_global or (asid_of(use.satp), use.epoch) == (read.asid, epoch))
 
     def search(self, stand, va):
         """All stands from one on, and the PTEs at them that are no pointers."""
@@ -147,7 +147,7 @@ class Judge:
 
     def serves(self, read, va):
         """A PTE serves under satp as it is."""
-        return has_level(self.satp, va, read.level) and (read.is_global or read.asid == asid_of(self.satp)) and not self.is_fenced(read, va)
+        return is_translated(self.satp, va) and (read.is_global or read.asid == asid_of(self.satp)) and not self.is_fenced(read, va)
 
     def words_of(self, read, va):
         """A PTE's word; and of a leaf those that the hart may have made of it since, by setting A or D in its place."""
@@ -218,9 +218,9 @@ def is_valid(va, satp):
     return top is None or is_canonical(va, top)
 
 
-def has_level(satp, va, level):
+def is_translated(satp, va):
     top = top_of(satp)
-    return top is not None and is_canonical(va, top) and level <= top
+    return top is not None and is_canonical(va, top)
 
 
 def read_profile(words):

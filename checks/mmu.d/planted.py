@@ -47,16 +47,16 @@ ERRORS = [
     ),
     ("a leaf is looked for after the fence too", "judge.py", ("self.place(read, va), number - 1)", "self.place(read, va), self.now)")),
     (
-        "the present MODE is ignored: a PTE of each level serves",
+        "a PTE of a level that the present MODE has not does not serve",
         "judge.py",
-        ("return has_level(self.satp, va, read.level) and (read", "return (read"),
+        ("return is_translated(self.satp, va) and (read", "return is_translated(self.satp, va) and read.level <= top_of(self.satp) and (read"),
     ),
     ("an address need not be canonical now", "judge.py", ("        if not is_canonical(access.va, top):\n", "        if False:\n")),
     (
         "an address need not be canonical when a PTE was read",
         "judge.py",
         ("if top is not None and is_canonical(va, top):", "if top is not None:"),
-        ("and is_canonical(va, top) and level <= top", "and level <= top"),
+        ("return top is not None and is_canonical(va, top)", "return top is not None"),
     ),
     ("MXR stands for R at stores too", "rules.py", ('"store": word & W}[kind]', '"store": word & W or (status.mxr and word & X)}[kind]')),
     ("MXR is ignored", "rules.py", ("word & R or (status.mxr and word & X)", "word & R")),
@@ -216,7 +216,10 @@ PROGRAM = {
         "access_judge/src/judge.rt",
         ("let mut moment = number - 1;", "let mut moment = log.now();"),
     ),
-    "the present MODE is ignored: a PTE of each level serves": ("access_judge/src/judge.rt", ("has_level(satp, va, step.level) && (", "(")),
+    "a PTE of a level that the present MODE has not does not serve": (
+        "access_judge/src/judge.rt",
+        ("is_translated(satp, va) && (", "is_translated(satp, va) && (match walk_rules::top_level(satp) { None => false, Some(top) => step.level <= top }) && ("),
+    ),
     "MXR stands for R at stores too": (
         "walk_rules/src/status.rt",
         (

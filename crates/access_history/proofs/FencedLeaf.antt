@@ -19,6 +19,7 @@ use Rattle.access_history.specs.declared.outcome.Outcome.{Outcome}
 use Rattle.access_history.specs.declared.outcome.Outcome.TheVariants.{Granted}
 use Rattle.access_history.specs.declared.outcome.Update.{Update}
 use Rattle.access_history.proofs.FullFence.{covered_after}
+use Rattle.access_history.proofs.HeldLevels.{held_low}
 
 -- a word that is held was in memory, as A and D are left to software
 had_word : (x : Extensions) (f : First) (va : ℕ) → may_update x.ad ≡ false → (h past : List Event) (r : Read) → IsHeld x f va h r past → HadWord x f va past r
@@ -51,22 +52,21 @@ no_leaf level w (inr (inl is)) leaf = elim (cases_eq level 0) [
 ]
 no_leaf level w (inr (inr is)) leaf = let bad = rw is at leaf in cc
 
-elsewhere : (level w : ℕ) → level ≤ 2 → w ≡ example_leaf 5 → leads_to level w 0x1000 ≡ 0x4000 → ⊥
+elsewhere : (level w : ℕ) → level ≤ 4 → w ≡ example_leaf 5 → leads_to level w 0x1000 ≡ 0x4000 → ⊥
 elsewhere zero w low is leads = let bad = rw is at leads in omega (arith, bad)
 elsewhere (suc zero) w low is leads = let bad = rw is at leads in omega (arith, bad)
 elsewhere (suc (suc zero)) w low is leads = let bad = rw is at leads in omega (arith, bad)
-elsewhere (suc (suc (suc n))) w low is leads = absurd (omega (arith, low))
+elsewhere (suc (suc (suc zero))) w low is leads = let bad = rw is at leads in omega (arith, bad)
+elsewhere (suc (suc (suc (suc zero)))) w low is leads = let bad = rw is at leads in omega (arith, bad)
+elsewhere (suc (suc (suc (suc (suc n))))) w low is leads = absurd (omega (arith, low))
 
 abbrev moment : List Event
 moment = example_fence ∷ example_store ∷ []
 
-level_two : (level top : ℕ) → Some 2 ≡ Some top → level ≤ top → level ≤ 2
-level_two level top is low = let two : 2 ≡ top = cc in omega (arith, low, two)
-
 not_old : (r : Read) → Serves example_hart (example_past moment) example_load r → kind_in example_hart r.level r.word ≡ Leaf
     → leads_to r.level r.word 0x1000 ≡ 0x4000 → ⊥
 not_old r serves leaf leads =
-    let low = level_two r.level serves.present.0 serves.present.1 serves.present.3 in
+    let low = held_low example_hart example_first 0x1000 moment serves.since r serves.held in
     let anew = covered_after example_hart example_first 0x1000 (example_store ∷ []) serves.since example_fence r serves.held
     (tt, ((λ top is. canonical top is), refl, inl leaf)) in
     let had = subst (λ (past : List Event). HadWord example_hart example_first 0x1000 past r) anew

@@ -70,10 +70,10 @@ module _ (x : Extensions) (f : First) (va : ℕ) (h : List Event) (top : ℕ) (i
   HeldNow level table word =
       (global : Bool) × IsHeld x f va (Fence None None ∷ h) (read_of level table word (asid (satp_at f.satp h)) global) (Fence None None ∷ h)
 
-  may_now : (level table word : ℕ) (global : Bool) → level ≤ top → memory_at f.memory h table (vpn (page_of va) level) ≡ Some word
+  may_now : (level table word : ℕ) (global : Bool) → memory_at f.memory h table (vpn (page_of va) level) ≡ Some word
       → MayRead x f va (Fence None None ∷ h) (read_of level table word (asid (satp_at f.satp h)) global) (Fence None None ∷ h)
-  may_now level table word global low read =
-      record { had = inl read; kept = now; active = (top, is, canonical, low); allowed = free table (vpn (page_of va) level); under = refl }
+  may_now level table word global read =
+      record { had = inl read; kept = now; active = (top, is, canonical); allowed = free table (vpn (page_of va) level); under = refl }
 
   pub walk_held : (k table word : ℕ) → k ≤ top → IsWay x (memory_at f.memory h) (root_ppn (satp_at f.satp h)) (page_of va) top k table
       → memory_at f.memory h table (vpn (page_of va) (top - k)) ≡ Some word → HeldNow (top - k) table word
@@ -81,14 +81,14 @@ module _ (x : Extensions) (f : First) (va : ℕ) (h : List Event) (top : ℕ) (i
       let all : top ≡ top - zero = omega arith in
       let highest = subst (λ (level : ℕ). top_of (satp_at f.satp h) ≡ Some level) all is in (
         has_global word,
-        at_root (may_now (top - zero) table word (has_global word) (omega arith) read)
+        at_root (may_now (top - zero) table word (has_global word) read)
             (record { highest = highest; root = way; global = refl }),
       )
   walk_held (suc k) table word low way read =
       let up = walk_held k way.0 way.1 (omega (arith, low)) way.2 way.3 in
       let next_one : top - k ≡ suc (top - suc k) = omega (arith, low) in
-      let may = may_now (top - suc k) table word (up.0 || has_global word) (omega arith) read in (
+      let may = may_now (top - suc k) table word (up.0 || has_global word) read in (
         up.0 || has_global word,
         below up.1 may
-            (record { pointer = way.4; serves = inl refl; within = (top, is, omega arith); next_level = next_one; table = way.5; global = refl }),
+            (record { pointer = way.4; serves = inl refl; next_level = next_one; table = way.5; global = refl }),
       )

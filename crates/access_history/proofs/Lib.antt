@@ -3,6 +3,7 @@ pub mod Covering
 pub mod FencedLeaf
 pub mod FullFence
 pub mod HartRuns
+pub mod HeldLevels
 pub mod PlainKinds
 pub mod PlainRights
 pub mod StaleLeaf

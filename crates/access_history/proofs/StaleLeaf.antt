@@ -1,5 +1,5 @@
 -- The worked example: the walk before the store, the walk after it, and what each says of the load.
-use Rattle.std.proofs.Common.{ℕ, ◌+◌, ◌*◌, ◌^◌, refl, inl, arith, false, None, [], ◌∷◌}
+use Rattle.std.proofs.Common.{ℕ, ◌+◌, ◌*◌, ◌^◌, refl, inl, false, None, [], ◌∷◌}
 use Rattle.std.proofs.lemmas.List.Elements.{Contains-push}
 use Rattle.sv39_entry.specs.declared.access.Mode.TheVariants as mode
 use Rattle.walk_rules.specs.declared.memory_type.MemoryType.TheVariants.{Pma}
@@ -21,33 +21,33 @@ leaf ppn = read_of 0 3 (example_leaf ppn) 0 false
 held_before : IsHeld example_hart example_first 0x1000 [] (leaf 4) []
 held_before =
     let first : IsHeld example_hart example_first 0x1000 [] upper [] = at_root
-    (record { had = inl refl; kept = now; active = (2, refl, refl, omega arith); allowed = ([], Contains-push [] [], refl); under = refl })
+    (record { had = inl refl; kept = now; active = (2, refl, refl); allowed = ([], Contains-push [] [], refl); under = refl })
     (record { highest = refl; root = refl; global = refl }) in
     let second : IsHeld example_hart example_first 0x1000 [] middle [] = below first
-    (record { had = inl refl; kept = now; active = (2, refl, refl, omega arith); allowed = ([], Contains-push [] [], refl); under = refl })
-    (record { pointer = refl; serves = inl refl; within = (2, refl, omega arith); next_level = refl; table = refl; global = refl }) in
+    (record { had = inl refl; kept = now; active = (2, refl, refl); allowed = ([], Contains-push [] [], refl); under = refl })
+    (record { pointer = refl; serves = inl refl; next_level = refl; table = refl; global = refl }) in
     below second
-    (record { had = inl refl; kept = now; active = (2, refl, refl, omega arith); allowed = ([], Contains-push [] [], refl); under = refl })
-    (record { pointer = refl; serves = inl refl; within = (2, refl, omega arith); next_level = refl; table = refl; global = refl })
+    (record { had = inl refl; kept = now; active = (2, refl, refl); allowed = ([], Contains-push [] [], refl); under = refl })
+    (record { pointer = refl; serves = inl refl; next_level = refl; table = refl; global = refl })
 
 held_after : IsHeld example_hart example_first 0x1000 (example_store ∷ []) (leaf 5) (example_store ∷ [])
 held_after =
     let first : IsHeld example_hart example_first 0x1000 (example_store ∷ []) upper (example_store ∷ []) = at_root
-    (record { had = inl refl; kept = now; active = (2, refl, refl, omega arith); allowed = ([], Contains-push [] [], refl); under = refl })
+    (record { had = inl refl; kept = now; active = (2, refl, refl); allowed = ([], Contains-push [] [], refl); under = refl })
     (record { highest = refl; root = refl; global = refl }) in
     let second : IsHeld example_hart example_first 0x1000 (example_store ∷ []) middle (example_store ∷ []) = below first
-    (record { had = inl refl; kept = now; active = (2, refl, refl, omega arith); allowed = ([], Contains-push [] [], refl); under = refl })
-    (record { pointer = refl; serves = inl refl; within = (2, refl, omega arith); next_level = refl; table = refl; global = refl }) in
+    (record { had = inl refl; kept = now; active = (2, refl, refl); allowed = ([], Contains-push [] [], refl); under = refl })
+    (record { pointer = refl; serves = inl refl; next_level = refl; table = refl; global = refl }) in
     below second
-    (record { had = inl refl; kept = now; active = (2, refl, refl, omega arith); allowed = ([], Contains-push [] [], refl); under = refl })
-    (record { pointer = refl; serves = inl refl; within = (2, refl, omega arith); next_level = refl; table = refl; global = refl })
+    (record { had = inl refl; kept = now; active = (2, refl, refl); allowed = ([], Contains-push [] [], refl); under = refl })
+    (record { pointer = refl; serves = inl refl; next_level = refl; table = refl; global = refl })
 
 pub stale : Permits example_hart (example_past (example_store ∷ [])) example_load (Granted 0x4000 Pma None)
 stale = served {mode = mode.User} {r = leaf 4} (0x200, refl) refl
-    (record { since = []; held = stays held_before (λ c. c); present = (2, refl, refl, omega arith); space = inl refl; last = λ e. cc })
+    (record { since = []; held = stays held_before (λ c. c); present = (2, refl, refl); space = inl refl; last = λ e. cc })
     (ready (record { leaf = refl; right = refl }) refl refl (granted refl ([], Contains-push [] [], refl)))
 
 pub fresh : Permits example_hart (example_past (example_store ∷ [])) example_load (Granted 0x5000 Pma None)
 fresh = served {mode = mode.User} {r = leaf 5} (0x200, refl) refl
-    (record { since = example_store ∷ []; held = held_after; present = (2, refl, refl, omega arith); space = inl refl; last = λ e. cc })
+    (record { since = example_store ∷ []; held = held_after; present = (2, refl, refl); space = inl refl; last = λ e. cc })
     (ready (record { leaf = refl; right = refl }) refl refl (granted refl ([], Contains-push [] [], refl)))

@@ -1,7 +1,7 @@
 -- Which page table entries (PTEs) a hart may hold for a virtual address at a moment (`IsHeld`): each that a walk may have read, if no
 -- fence has covered it since (`IsCovered`); a leaf also with A and D as the hart sets them (`IsUpdate`). No event says when a hart caches: this is
 -- what any hart may hold. (The standard, 4.2.1, SFENCE.VMA; 4.3.1, global mappings; 4.3.2, the walk; 3.7.2, PMP and caches; chapter 5, Svnapot.)
-use Rattle.std.specs.Prelude.{◌≡◌, ◌⊎◌, ℕ, Bool, true, false, suc, not, ◌+◌, ◌*◌, ◌/◌, ◌^◌, ◌==◌, ◌||◌, ◌&&◌, ◌≤◌, Option, None, Some, List, ◌∷◌}
+use Rattle.std.specs.Prelude.{◌≡◌, ◌⊎◌, ℕ, Bool, true, false, suc, not, ◌+◌, ◌*◌, ◌/◌, ◌^◌, ◌==◌, ◌||◌, ◌&&◌, Option, None, Some, List, ◌∷◌}
 use Rattle.std.specs.List.{Contains}
 use Rattle.sv39_entry.specs.Address.{has, page_of, vpn}
 use Rattle.sv39_entry.specs.Satp.{asid, root_ppn}
@@ -95,8 +95,8 @@ MayPassRead f h table index =
 pub record MayRead (x : Extensions) (f : First) (va : ℕ) (h : List Event) (r : Read) (past : List Event) : Type 0 where
   pub had : HadWord x f va past r
   pub kept : IsKept x f va r h past
-  -- satp translates by tables that have this level, and the address is canonical
-  pub active : (top : ℕ) × (top_of (satp_at f.satp h) ≡ Some top) × (is_canonical top va ≡ true) × (r.level ≤ top)
+  -- satp translates, and the address is canonical
+  pub active : (top : ℕ) × (top_of (satp_at f.satp h) ≡ Some top) × (is_canonical top va ≡ true)
   pub allowed : MayPassRead f h r.table (vpn (page_of va) r.level)
   pub under : r.asid ≡ asid (satp_at f.satp h)
 
@@ -110,11 +110,11 @@ pub record IsAtRoot (f : First) (h : List Event) (r : Read) : Type 0 where
   pub root : r.table ≡ root_ppn (satp_at f.satp h)
   pub global : r.global ≡ has_global r.word
 
--- the walk goes on at a read's table, by a pointer of this ASID or a global one
+-- the walk goes on at a read's table, by a pointer of this ASID or a global one, whichever MODE it was read under: of a level, then, that the
+-- present MODE may not have
 pub record IsBelow (x : Extensions) (f : First) (h : List Event) (above r : Read) : Type 0 where
   pub pointer : kind_in x above.level above.word ≡ Pointer
   pub serves : (above.asid ≡ asid (satp_at f.satp h)) ⊎ (above.global ≡ true)
-  pub within : (top : ℕ) × (top_of (satp_at f.satp h) ≡ Some top) × (above.level ≤ top)
   pub next_level : above.level ≡ suc r.level
   pub table : r.table ≡ ppn above.word
   pub global : r.global ≡ (above.global || has_global r.word)

@@ -1,6 +1,6 @@
 -- Which outcomes the standard permits for an access (`Permits`), by what its hart may hold at that moment, memory, satp and PMP (4.3.2; 3.7.1 and
 -- 3.7.2, PMP; 3.1.6.3, the effective privilege mode; 4.3.1, A and D).
-use Rattle.std.specs.Prelude.{◌≡◌, ◌⊎◌, ℕ, Bool, true, false, ◌+◌, ◌*◌, ◌/◌, ◌%◌, ◌≤◌, Option, None, Some, is_some, List}
+use Rattle.std.specs.Prelude.{◌≡◌, ◌⊎◌, ℕ, Bool, true, false, ◌+◌, ◌*◌, ◌/◌, ◌%◌, Option, None, Some, is_some, List}
 use Rattle.std.specs.List.{Contains}
 use Rattle.sv39_entry.specs.Address.{page_of, vpn}
 use Rattle.sv39_entry.specs.Causes.{access_fault_cause, misaligned_cause, page_fault_cause}
@@ -64,11 +64,12 @@ pub data Ends (p : Past) (q : Request) (pa : ℕ) (t : MemoryType) (u : Option U
   refused : {made : Option Update} → (made ≡ u) ⊎ (made ≡ None) → (is_there p pa ≡ false) ⊎ MayFail p (privilege_of q) q.kind pa q.width
       → Ends p q pa t u (Refused (access_fault_cause q.kind) made)
 
--- the hart may hold a PTE at which a walk of the access may end: of a level that the present MODE has, of the present ASID or global, and no pointer
+-- the hart may hold a PTE at which a walk of the access may end: of the present ASID or global, and no pointer. Its level may be one of another
+-- MODE alone: no match asks for the MODE (4.2.1, 4.3.2)
 pub record Serves (x : Extensions) (p : Past) (q : Request) (r : Read) : Type 0 where
   pub since : List Event
   pub held : IsHeld x p.first q.va.0 p.events r since
-  pub present : (top : ℕ) × (top_of (satp_of p) ≡ Some top) × (is_canonical top q.va.0 ≡ true) × (r.level ≤ top)
+  pub present : (top : ℕ) × (top_of (satp_of p) ≡ Some top) × (is_canonical top q.va.0 ≡ true)
   pub space : (r.asid ≡ asid (satp_of p)) ⊎ (r.global ≡ true)
   pub last : kind_in x r.level r.word ≡ Pointer → ⊥
 

@@ -210,7 +210,7 @@ module _ (f : First) (h : List Event) where
           record {
             had = had;
             kept = kept.2;
-            active = (may.active.0, sym (ap (λ (w : ℕ). top_of w) (satp_is since)) ∙ may.active.1, may.active.2, may.active.3);
+            active = (may.active.0, sym (ap (λ (w : ℕ). top_of w) (satp_is since)) ∙ may.active.1, may.active.2);
             allowed = (allowed.0, subst (λ (ess : List (List PmpEntry)). Contains ess allowed.0) (pmps_is since) allowed.1, allowed.2);
             under = may.under ∙ ap (λ (w : ℕ). asid w) (satp_is since);
           },
@@ -222,7 +222,7 @@ module _ (f : First) (h : List Event) where
         record {
           had = had_each past r may.had;
           kept = kept_each r since past may.kept;
-          active = (may.active.0, ap (λ (w : ℕ). top_of w) (satp_is since) ∙ may.active.1, may.active.2, may.active.3);
+          active = (may.active.0, ap (λ (w : ℕ). top_of w) (satp_is since) ∙ may.active.1, may.active.2);
           allowed = (allowed.0, subst (λ (ess : List (List PmpEntry)). Contains ess allowed.0) (sym (pmps_is since)) allowed.1, allowed.2);
           under = may.under ∙ sym (ap (λ (w : ℕ). asid w) (satp_is since));
         }
@@ -245,7 +245,6 @@ module _ (f : First) (h : List Event) where
     below_only since above r is = record {
       pointer = is.pointer;
       serves = subst (λ (w : ℕ). (above.asid ≡ asid w) ⊎ (above.global ≡ true)) (satp_is since) is.serves;
-      within = (is.within.0, sym (ap (λ (w : ℕ). top_of w) (satp_is since)) ∙ is.within.1, is.within.2);
       next_level = is.next_level;
       table = is.table;
       global = is.global;
@@ -255,7 +254,6 @@ module _ (f : First) (h : List Event) where
     below_each since above r is = record {
       pointer = is.pointer;
       serves = subst (λ (w : ℕ). (above.asid ≡ asid w) ⊎ (above.global ≡ true)) (sym (satp_is since)) is.serves;
-      within = (is.within.0, ap (λ (w : ℕ). top_of w) (satp_is since) ∙ is.within.1, is.within.2);
       next_level = is.next_level;
       table = is.table;
       global = is.global;
@@ -368,7 +366,7 @@ module _ (x : Extensions) (p n : Past) (q : Request) (within : IsWithin x p n q.
       record {
         since = up.0;
         held = up.1;
-        present = (serves.present.0, sym top_within ∙ serves.present.1, serves.present.2, serves.present.3);
+        present = (serves.present.0, sym top_within ∙ serves.present.1, serves.present.2);
         space = subst (λ (w : ℕ). (r.asid ≡ asid w) ⊎ (r.global ≡ true)) within.satp serves.space;
         last = serves.last;
       }
@@ -384,7 +382,6 @@ module _ (x : Extensions) (p n : Past) (q : Request) (within : IsWithin x p n q.
       permits.below up.1 (record {
         pointer = way.pointer;
         serves = subst (λ (w : ℕ). (above.asid ≡ asid w) ⊎ (above.global ≡ true)) within.satp way.serves;
-        within = (way.within.0, sym top_within ∙ way.within.1, way.within.2);
         next_level = way.next_level;
         table = way.table;
         global = way.global;

@@ -18,13 +18,13 @@ use Rattle.access_history.specs.declared.event.Event.TheVariants.{Store}
 use Rattle.access_history.specs.declared.outcome.Request.{Request}
 use Rattle.access_history.proofs.AdWords.{global_still}
 use Rattle.access_history.proofs.Updates.{covered_still, had_update, leaf_now, set_in}
-use Rattle.access_judge.specs.Search.{AreUses, Found, IsUnfenced, Item, Stand, Use, Version, below_of, ended, follows, found_by, has_level_in, is_fenced, is_of_epoch, is_pointer, reads_at, root_at, search, search_all, search_from, space_fence, stood, until}
+use Rattle.access_judge.specs.Search.{AreUses, Found, IsUnfenced, Item, Stand, Use, Version, below_of, ended, follows, found_by, is_fenced, is_of_epoch, is_pointer, is_translated_in, reads_at, root_at, search, search_all, search_from, space_fence, stood, until}
 use Rattle.access_judge.proofs.FencedReads.{kept_unfenced}
 use Rattle.access_judge.proofs.FenceNumbers.{space_fence_low}
 use Rattle.access_judge.proofs.KeptReads.{held_kept, kept_past, space_kept}
 use Rattle.access_judge.proofs.Moments.{past_between, past_length, past_trans, past_until, unfenced_past, until_length, until_past}
 use Rattle.access_judge.proofs.Parts.{EndedEach, IsAlike, IsUpdated, StoodEach}
-use Rattle.access_judge.proofs.SearchKinds.{is_other_kind, is_same_kind, latest_from, latest_late, level_in}
+use Rattle.access_judge.proofs.SearchKinds.{is_other_kind, is_same_kind, latest_from, latest_late, translated_in}
 use Rattle.access_judge.proofs.SearchLists.{contains_head, contains_later, flat_contains, map_contains}
 use Rattle.access_judge.proofs.SearchReads.{IsFoundFor, IsStandOf, by_read, found_for, read_by, version_at, version_was}
 use Rattle.access_judge.proofs.SearchStands.{below_at, onward}
@@ -151,7 +151,7 @@ module _ (x : Extensions) (f : First) (h : List Event) (us : List Use) (va : ℕ
         },
       ) where
         test : Use → Bool
-        test = follows va c.read.level c.read s.epoch
+        test = follows va c.read s.epoch
 
         pointer : is_pointer x c ≡ true
         pointer = is_same_kind (kind_in x c.read.level c.read.word) Pointer (ap₂ (kind_in x) found.alike.level found.alike.word ∙ is.pointer)
@@ -178,13 +178,8 @@ module _ (x : Extensions) (f : First) (h : List Event) (us : List Use) (va : ℕ
 
         followed : (v : Use) → IsUseAt u v → test v ≡ true
         followed v at =
-            let within = is.within in
-            let same : canonical.0 ≡ within.0 = cc (canonical.1, within.1) in
-            let low = within.2 in
-            let level = found.alike.level in
-            let high = level_in (top_of v.satp) va c.read.level canonical.0 (ap top_of at.satp ∙ canonical.1) canonical.2
-            (omega (arith, same, low, level)) in
-            and_from (has_level_in (top_of v.satp) va c.read.level) (c.read.global || (asid v.satp == c.read.asid && v.epoch == s.epoch)) high
+            let translated = translated_in (top_of v.satp) va canonical.0 (ap top_of at.satp ∙ canonical.1) canonical.2 in
+            and_from (is_translated_in (top_of v.satp) va) (c.read.global || (asid v.satp == c.read.asid && v.epoch == s.epoch)) translated
             (elim (cases_Bool above.global) [
               | inl global ↦ or_left c.read.global (asid v.satp == c.read.asid && v.epoch == s.epoch) (found.alike.global ∙ global)
               | inr none ↦
@@ -197,7 +192,7 @@ module _ (x : Extensions) (f : First) (h : List Event) (us : List Use) (va : ℕ
 
         space : (w : Use) → test w ≡ true → (c.read.global ≡ true) ⊎ ((asid w.satp ≡ r.asid) × (s.epoch ≡ space_fence u r.asid))
         space w passes =
-            let parts = and_parts (has_level_in (top_of w.satp) va c.read.level) (c.read.global || (asid w.satp == c.read.asid && w.epoch == s.epoch)) passes in
+            let parts = and_parts (is_translated_in (top_of w.satp) va) (c.read.global || (asid w.satp == c.read.asid && w.epoch == s.epoch)) passes in
             elim (or_cases c.read.global (asid w.satp == c.read.asid && w.epoch == s.epoch) parts.1) [
               | inl global ↦ inl global
               | inr serves ↦ elim (cases_Bool above.global) [
@@ -327,7 +322,7 @@ module _ (x : Extensions) (f : First) (h : List Event) (us : List Use) (va : ℕ
       let s = up.2 in
       let c = up.3 in
       let above_found = found_pointer u up.1 since up.0 above s c up.5 is.pointer up.4.found in
-      let stand = below_stand_of u since above r s c was held up.4.reached above_found is (may.active.0, may.active.1, may.active.2) may.under in
+      let stand = below_stand_of u since above r s c was held up.4.reached above_found is may.active may.under in
       let found = found_for x f h va stand.0 u past r un stand.2 may (kept_past x f va r u past may.kept) in
       (r, past, stand.0, found.0, record { low = stand.2.low; reached = stand.1; found = found.1; kept = may.kept }, itself)
   finds u past r was (stays {h = before} {e = e} held free) =
@@ -423,7 +418,6 @@ stood_each x p us q un uses r top is canonical (permits.below {above = above} {s
     (record {
       pointer = under.pointer;
       serves = under.serves;
-      within = under.within;
       next_level = under.next_level;
       table = under.table;
       global = under.global;

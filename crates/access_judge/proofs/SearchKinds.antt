@@ -1,6 +1,6 @@
 -- Lemmas of the tests of kinds, levels and PMP that the search makes.
 use Rattle.std.proofs.Common.{◌≡◌, ◌≢◌, ◌⊎◌, ℕ, zero, suc, ◌+◌, ◌*◌, ◌≤◌, ◌&&◌, ◌||◌, not, nat_le, Bool, true, false, if◌then◌else◌, List, [], ◌∷◌, refl, ◌∙◌, ap, subst, inl, inr, arith, Option, Some, None}
-use Rattle.std.proofs.lemmas.Bool.{and_parts, and_from, cases_Bool, false≢true, le-leb, leb-false, leb-true}
+use Rattle.std.proofs.lemmas.Bool.{cases_Bool, false≢true, leb-false, leb-true}
 use Rattle.std.specs.List.{Contains}
 use Rattle.sv39_entry.specs.Address.{has}
 use Rattle.sv39_entry.specs.declared.access.Access.TheVariants as access
@@ -16,7 +16,7 @@ use Rattle.access_history.specs.Held.{MayPassRead}
 use Rattle.access_history.specs.History.{First, IsPast, now, older, pmps_at}
 use Rattle.access_history.specs.declared.event.Event.{Event}
 use Rattle.access_history.specs.declared.event.Event.TheVariants.{Store, WriteSatp, WritePmp, Fence}
-use Rattle.access_judge.specs.Search.{IsUnfenced, Use, has_level_in, is_kind, later, latest, may_pass}
+use Rattle.access_judge.specs.Search.{IsUnfenced, Use, is_kind, is_translated_in, later, latest, may_pass}
 use Rattle.access_judge.proofs.Moments.{not_full, unfenced_tail}
 use Rattle.access_judge.proofs.SearchLists.{any_contains, any_from, contains_cases, contains_head, contains_later, contains_none}
 
@@ -72,18 +72,14 @@ no_pointer_low x zero w low is =
     kind_by (not (has w 0) || (has w 2 && not (has w 1)) || has_reserved x w) (has w 1 || has w 3) (reserved_in_pointer w) w is
 no_pointer_low x (suc level) w low is = absurd (omega (arith, low))
 
--- ---- levels
+-- ---- addresses that are translated
 
-pub level_from : (top : Option ℕ) (va level : ℕ) → has_level_in top va level ≡ true
-    → (t : ℕ) × (top ≡ Some t) × (is_canonical t va ≡ true) × (level ≤ t)
-level_from None va level is = absurd (false≢true is)
-level_from (Some t) va level is = let parts = and_parts (is_canonical t va) (nat_le level t) is in (t, refl, parts.0, leb-true level t parts.1)
+pub translated_from : (top : Option ℕ) (va : ℕ) → is_translated_in top va ≡ true → (t : ℕ) × (top ≡ Some t) × (is_canonical t va ≡ true)
+translated_from None va is = absurd (false≢true is)
+translated_from (Some t) va is = (t, refl, is)
 
-pub level_in : (top : Option ℕ) (va level t : ℕ) → top ≡ Some t → is_canonical t va ≡ true → level ≤ t → has_level_in top va level ≡ true
-level_in None va level t is canonical low = cc
-level_in (Some u) va level t is canonical low =
-    let same : t ≡ u = cc in
-    and_from (is_canonical u va) (nat_le level u) (subst (λ (n : ℕ). is_canonical n va ≡ true) same canonical) (le-leb level u (omega (arith, low, same)))
+pub translated_in : (top : Option ℕ) (va t : ℕ) → top ≡ Some t → is_canonical t va ≡ true → is_translated_in top va ≡ true
+translated_in top va t is canonical = rw is canonical
 
 -- ---- uses
 

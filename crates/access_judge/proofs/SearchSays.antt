@@ -1,5 +1,5 @@
 -- The outcomes that the search gives are those that are permitted, if what it comes by is held, or may be stood at, and it comes by all of that.
-use Rattle.std.proofs.Common.{◌≡◌, ◌⊎◌, ℕ, ◌+◌, ◌*◌, ◌/◌, ◌%◌, ◌≤◌, ◌==◌, ◌&&◌, ◌||◌, not, Bool, true, false, Option, None, Some, List, [], ◌∷◌, ◌++◌, ap, length, refl, sym, ◌∙◌, inl, inr, subst, arith}
+use Rattle.std.proofs.Common.{◌≡◌, ◌⊎◌, ℕ, ◌+◌, ◌*◌, ◌/◌, ◌%◌, ◌==◌, ◌&&◌, ◌||◌, not, Bool, true, false, Option, None, Some, List, [], ◌∷◌, ◌++◌, ap, length, refl, sym, ◌∙◌, inl, inr, subst, arith}
 use Rattle.std.specs.List.{Contains, flat_map, range_with_len}
 use Rattle.std.specs.Prelude.{is_some}
 use Rattle.std.proofs.Math.Nat.{div-add-mod, mul-mod_left}
@@ -27,12 +27,12 @@ use Rattle.access_history.specs.declared.outcome.Outcome.{Outcome}
 use Rattle.access_history.specs.declared.outcome.Outcome.TheVariants.{Refused}
 use Rattle.access_history.specs.declared.outcome.Request.{Request}
 use Rattle.access_history.proofs.Updates.{leaf_now}
-use Rattle.access_judge.specs.Search.{AreUses, ArePermitted, Found, IsUnfenced, Item, SearchIsExact, Stand, Use, access_fault, ended, has_level_in, is_fenced, is_kind, is_multiple, is_of_group, is_of_now, is_unread, may_fail, outcomes_by, outcomes_in, page_fault, place_at, place_says, places_say, said, says, search_all, stood, translated, until, update_says, updated_says, updated_words, versions}
+use Rattle.access_judge.specs.Search.{AreUses, ArePermitted, Found, IsUnfenced, Item, SearchIsExact, Stand, Use, access_fault, ended, is_fenced, is_kind, is_multiple, is_of_group, is_of_now, is_translated_in, is_unread, may_fail, outcomes_by, outcomes_in, page_fault, place_at, place_says, places_say, said, says, search_all, stood, translated, until, update_says, updated_says, updated_words, versions}
 use Rattle.access_judge.proofs.Ending.{ends_each, ends_only, fail_each, fail_only, is_nowhere, nowhere, says_alike, says_each, says_only}
 use Rattle.access_judge.proofs.Listed.{alone, either, guarded, past_guard}
 use Rattle.access_judge.proofs.Moments.{past_between, past_length, past_trans, until_length, until_past}
 use Rattle.access_judge.proofs.Parts.{EndedEach, EndedOnly, IsAlike, IsUpdated, StoodEach, StoodOnly}
-use Rattle.access_judge.proofs.SearchKinds.{is_same_kind, kind_is, level_from, level_in}
+use Rattle.access_judge.proofs.SearchKinds.{is_same_kind, kind_is, translated_from, translated_in}
 use Rattle.access_judge.proofs.SearchLists.{contains_head, flat_contains, flat_from, range_contains, range_low}
 use Rattle.access_judge.proofs.UpdatedReads.{held_updated}
 use Rattle.access_judge.proofs.UpdatedWords.{of_update, update_of}
@@ -63,7 +63,7 @@ module _ (x : Extensions) (p : Past) (us : List Use) (q : Request)
 
   serves : (c : Found) → Contains (search_all x p.first p.events us q.va.0) (ended c) → is_now c ≡ true → not (fenced c) ≡ true → Serves x p q c.read
   serves c has now free =
-      let both = and_parts (has_level_in (top_of (satp_of p)) q.va.0 c.read.level) (c.read.asid == asid (satp_of p) || c.read.global) now in
+      let both = and_parts (is_translated_in (top_of (satp_of p)) q.va.0) (c.read.asid == asid (satp_of p) || c.read.global) now in
       let held = ended_only c has (not-true (fenced c) free) in
       let space = elim (or_cases (c.read.asid == asid (satp_of p)) c.read.global both.1) as (λ _. (c.read.asid ≡ asid (satp_of p)) ⊎ (c.read.global ≡ true)) [
         | inl own ↦ inl (eqb-true c.read.asid (asid (satp_of p)) own)
@@ -72,7 +72,7 @@ module _ (x : Extensions) (p : Past) (us : List Use) (q : Request)
       record {
         since = until p.events c.last;
         held = held.0;
-        present = level_from (top_of (satp_of p)) q.va.0 c.read.level both.0;
+        present = translated_from (top_of (satp_of p)) q.va.0 both.0;
         space = space;
         last = held.1;
       }
@@ -225,9 +225,8 @@ module _ (x : Extensions) (p : Past) (us : List Use) (q : Request)
   -- a read of now is so whatever its word
   now_of : (d r : Read) → Serves x p q r → IsAlike d r → is_of_now (satp_of p) q.va.0 d ≡ true
   now_of d r serve alike =
-      let level = level_in (top_of (satp_of p)) q.va.0 d.level serve.present.0 serve.present.1 serve.present.2
-      (subst (λ (n : ℕ). n ≤ serve.present.0) (sym alike.level) serve.present.3) in
-      and_from (has_level_in (top_of (satp_of p)) q.va.0 d.level) (d.asid == asid (satp_of p) || d.global) level space where
+      let translated = translated_in (top_of (satp_of p)) q.va.0 serve.present.0 serve.present.1 serve.present.2 in
+      and_from (is_translated_in (top_of (satp_of p)) q.va.0) (d.asid == asid (satp_of p) || d.global) translated space where
         space : (d.asid == asid (satp_of p) || d.global) ≡ true
         space = elim alike.asid [
           | inr global ↦ or_right (d.asid == asid (satp_of p)) d.global (alike.global ∙ global)

@@ -12,10 +12,10 @@ use Rattle.walk_rules.specs.declared.extensions.Extensions.{Extensions}
 use Rattle.access_history.specs.Held.{IsAtRoot, IsBelow, IsHeld, MayRead, Read, at_root, below, has_global, read_of}
 use Rattle.access_history.specs.History.{First, IsPast, satp_at}
 use Rattle.access_history.specs.declared.event.Event.{Event}
-use Rattle.access_judge.specs.Search.{AreUses, Found, IsUnfenced, IsUse, Item, Stand, Use, Version, below_of, ended, follows, found_by, has_level_in, is_pointer, latest, reads_at, root_at, search, search_all, search_from, space_fence, stand_at, stood, until}
+use Rattle.access_judge.specs.Search.{AreUses, Found, IsUnfenced, IsUse, Item, Stand, Use, Version, below_of, ended, follows, found_by, is_pointer, is_translated_in, latest, reads_at, root_at, search, search_all, search_from, space_fence, stand_at, stood, until}
 use Rattle.access_judge.proofs.KeptReads.{IsUncovered, held_later, kept_from, pointer_uncovered}
 use Rattle.access_judge.proofs.Moments.{past_between, unfenced_past, until_length, until_past}
-use Rattle.access_judge.proofs.SearchKinds.{is_same_kind, kind_is, latest_from, latest_late, level_from, level_in, may_pass_read, no_pointer_low}
+use Rattle.access_judge.proofs.SearchKinds.{is_same_kind, kind_is, latest_from, latest_late, may_pass_read, no_pointer_low, translated_from, translated_in}
 use Rattle.access_judge.proofs.SearchLists.{contains_cases, contains_none, flat_from, map_from}
 use Rattle.access_judge.proofs.SearchReads.{IsReadBy, read_by, version_was}
 
@@ -38,7 +38,7 @@ module _ (x : Extensions) (f : First) (h : List Event) (us : List Use) (va : ℕ
     pub among : Contains us u
     pub last : u.last ≡ s.last
     pub asid : asid u.satp ≡ s.asid
-    pub level : has_level_in (top_of u.satp) va s.level ≡ true
+    pub translated : is_translated_in (top_of u.satp) va ≡ true
     pub epoch : (s.global ≡ true) ⊎ (u.epoch ≡ s.epoch)
 
   -- a stand of the search
@@ -75,11 +75,11 @@ module _ (x : Extensions) (f : First) (h : List Event) (us : List Use) (va : ℕ
   pub read_held : (s : Stand) (v : Version) → IsStand s → IsReadBy x f h va s v → IsUncovered x f va (found_by s v).read (until h s.last) (until h v.last)
       → IsHeld x f va (until h s.last) (found_by s v).read (until h v.last)
   read_held s v stand is free =
-      let level = rw (← stand_satp s stand) at stand.of.level in
+      let translated = rw (← stand_satp s stand) at stand.of.translated in
       let may : MayRead x f va (until h s.last) (found_by s v).read (until h v.last) = record {
         had = (version_was x f h va s v (stand_low s stand) is.among).1;
         kept = kept_from x f va (found_by s v).read (until h s.last) (until h v.last) (version_past s v stand is).0 free;
-        active = level_from (top_of (satp_at f.satp (until h s.last))) va s.level level;
+        active = translated_from (top_of (satp_at f.satp (until h s.last))) va translated;
         allowed = may_pass_read f (until h s.last) s.table (vpn (page_of va) s.level) is.passes;
         under = sym (ap asid (stand_satp s stand) ∙ stand.of.asid);
       } in
@@ -105,12 +105,12 @@ module _ (x : Extensions) (f : First) (h : List Event) (us : List Use) (va : ℕ
 
   -- at a use of satp that is not before the stand, and at which its pointer may be followed, the walk may be below it
   below_stand : (s : Stand) (v : Version) (u : Use) → IsStand s → IsReadBy x f h va s v → kind_in x s.level v.word ≡ Pointer → Contains us u
-      → has_level_in (top_of u.satp) va s.level ≡ true
+      → is_translated_in (top_of u.satp) va ≡ true
       → ((s.global || has_global v.word) ≡ true) ⊎ ((asid u.satp ≡ s.asid) × (u.epoch ≡ s.epoch)) → s.last ≤ u.last
       → IsStand (below_at s (found_by s v).read u)
-  below_stand s v u stand is pointer among level serves late = record {
+  below_stand s v u stand is pointer among translated serves late = record {
     by = u;
-    of = record { among = among; last = refl; asid = refl; level = level_in (top_of u.satp) va (s.level - 1) at.0 at.1 at.2 (omega (arith, under)); epoch = epoch };
+    of = record { among = among; last = refl; asid = refl; translated = translated; epoch = epoch };
     may_be = λ w. inr (
       r,
       past,
@@ -118,7 +118,6 @@ module _ (x : Extensions) (f : First) (h : List Event) (us : List Use) (va : ℕ
       record {
         pointer = pointer;
         serves = served;
-        within = (at.0, ap top_of satp ∙ at.1, under);
         next_level = omega (arith, above);
         table = refl;
         global = refl;
@@ -130,12 +129,6 @@ module _ (x : Extensions) (f : First) (h : List Event) (us : List Use) (va : ℕ
 
     past : List Event
     past = until h v.last
-
-    at : (t : ℕ) × (top_of u.satp ≡ Some t) × (is_canonical t va ≡ true) × (s.level ≤ t)
-    at = level_from (top_of u.satp) va s.level level
-
-    under : s.level ≤ at.0
-    under = at.3
 
     only : IsUse f.satp h u
     only = uses.only u among
@@ -206,11 +199,11 @@ module _ (x : Extensions) (f : First) (h : List Event) (us : List Use) (va : ℕ
       → Contains (below_of us va s (found_by s v).read) t → IsStand t × (t.level ≡ s.level - 1)
   stand_below s t v stand is pointer has =
       let r = (found_by s v).read in
-      let made = stand_from s t r (latest (follows va s.level r s.epoch) us) has in
+      let made = stand_from s t r (latest (follows va r s.epoch) us) has in
       let u = made.0 in
-      let passes = latest_from (follows va s.level r s.epoch) us u made.1 in
-      let parts = and_parts (has_level_in (top_of u.satp) va s.level) (r.global || (asid u.satp == r.asid && u.epoch == s.epoch)) passes.1 in
-      let late = latest_late (follows va s.level r s.epoch) us stand.by stand.of.among own in
+      let passes = latest_from (follows va r s.epoch) us u made.1 in
+      let parts = and_parts (is_translated_in (top_of u.satp) va) (r.global || (asid u.satp == r.asid && u.epoch == s.epoch)) passes.1 in
+      let late = latest_late (follows va r s.epoch) us stand.by stand.of.among own in
       let stands = below_stand s v u stand is pointer passes.0 parts.0 (serves_by u parts.1) (later u late made.1) in
       (subst (λ (d : Stand). IsStand d) made.2 stands, ap (λ (d : Stand). d.level) (sym made.2)) where
         serves_by : (u : Use) → ((s.global || has_global v.word) || (asid u.satp == s.asid && u.epoch == s.epoch)) ≡ true
@@ -222,8 +215,8 @@ module _ (x : Extensions) (f : First) (h : List Event) (us : List Use) (va : ℕ
               inr (eqb-true (asid u.satp) s.asid both.0, eqb-true u.epoch s.epoch both.1)
         ]
 
-        own : follows va s.level (found_by s v).read s.epoch stand.by ≡ true
-        own = and_from (has_level_in (top_of stand.by.satp) va s.level) _ stand.of.level (elim stand.of.epoch [
+        own : follows va (found_by s v).read s.epoch stand.by ≡ true
+        own = and_from (is_translated_in (top_of stand.by.satp) va) _ stand.of.translated (elim stand.of.epoch [
           | inl global ↦ or_left (s.global || has_global v.word) (asid stand.by.satp == s.asid && stand.by.epoch == s.epoch)
               (or_left s.global (has_global v.word) global)
           | inr same ↦ or_right (s.global || has_global v.word) (asid stand.by.satp == s.asid && stand.by.epoch == s.epoch)
@@ -231,8 +224,8 @@ module _ (x : Extensions) (f : First) (h : List Event) (us : List Use) (va : ℕ
               (eq-eqb stand.by.epoch s.epoch same))
         ])
 
-        later : (u : Use) → ((w : Use) × (latest (follows va s.level (found_by s v).read s.epoch) us ≡ Some w) × (stand.by.last ≤ w.last))
-            → latest (follows va s.level (found_by s v).read s.epoch) us ≡ Some u → s.last ≤ u.last
+        later : (u : Use) → ((w : Use) × (latest (follows va (found_by s v).read s.epoch) us ≡ Some w) × (stand.by.last ≤ w.last))
+            → latest (follows va (found_by s v).read s.epoch) us ≡ Some u → s.last ≤ u.last
         later u late same =
             let equal : late.0 ≡ u = cc (late.1, same) in
             let last = ap (λ (w : Use). w.last) equal in
@@ -293,7 +286,7 @@ module _ (x : Extensions) (f : First) (h : List Event) (us : List Use) (va : ℕ
       | inr none ↦ absurd (contains_none s none)
       | inl same ↦ subst (λ (t : Stand). IsStand t) same (record {
         by = u;
-        of = record { among = among; last = refl; asid = refl; level = level_in (top_of u.satp) va top top is canonical (omega arith); epoch = inr refl };
+        of = record { among = among; last = refl; asid = refl; translated = translated_in (top_of u.satp) va top is canonical; epoch = inr refl };
         may_be = λ w. inl (record { highest = ap top_of satp ∙ is; root = ap root_ppn (sym satp); global = refl });
       })
     ]

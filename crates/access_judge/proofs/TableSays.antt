@@ -167,7 +167,7 @@ goes a p us levels s e v = choose (is_pointer a.extensions (found_by s v)) where
       let r = (found_by s v).read in
       let one : s.level - 1 ≡ levels = omega arith in
       flat_flat say (down levels) (below_of us a.request.va.0 s r)
-      ∙ stand_flat (λ (n : ℕ) (t : Stand). flat_map say (down n t)) s r (latest (follows a.request.va.0 r.level r s.epoch) us) levels one
+      ∙ stand_flat (λ (n : ℕ) (t : Stand). flat_map say (down n t)) s r (latest (follows a.request.va.0 r s.epoch) us) levels one
   choose false = append-nil (said a.extensions p a.request a.mode (ended (found_by s v)))
 
 ends_here : (a : Question) (p : Past) (us : List Use) (s : Stand) → s.level ≡ 0 → (v : Version)

@@ -39,7 +39,6 @@ module _ (x : Extensions) (f : First) (va : ℕ) (e : Event) (k : List Event) (w
       below up (may_updated h past r may at since is) (record {
         pointer = step.pointer;
         serves = step.serves;
-        within = step.within;
         next_level = step.next_level;
         table = step.table;
         global = step.global ∙ ap (λ b. above.global || b) (same_global r is);

@@ -124,14 +124,14 @@ pub record Stand : Type 0 where
   pub epoch : ℕ
   pub last : ℕ
 
--- a walk for an address under a use of satp has tables of a level
-abbrev pub has_level_in : Option ℕ → ℕ → ℕ → Bool
-has_level_in None va level = false
-has_level_in (Some top) va level = is_canonical top va && nat_le level top
+-- an address is translated under a use of satp: it is canonical
+abbrev pub is_translated_in : Option ℕ → ℕ → Bool
+is_translated_in None va = false
+is_translated_in (Some top) va = is_canonical top va
 
 -- a use of satp at which a pointer of an ASID and an epoch, or a global one, may be followed
-abbrev pub follows : ℕ → ℕ → Read → ℕ → Use → Bool
-follows va level r epoch u = has_level_in (top_of u.satp) va level && (r.global || (asid u.satp == r.asid && u.epoch == epoch))
+abbrev pub follows : ℕ → Read → ℕ → Use → Bool
+follows va r epoch u = is_translated_in (top_of u.satp) va && (r.global || (asid u.satp == r.asid && u.epoch == epoch))
 
 abbrev pub later : Use → Option Use → Use
 later u None = u
@@ -148,7 +148,7 @@ stand_at s r None = []
 stand_at s r (Some u) = record { level = r.level - 1; table = ppn r.word; asid = asid u.satp; global = r.global; epoch = s.epoch; last = u.last } ∷ []
 
 abbrev pub below_of : List Use → ℕ → Stand → Read → List Stand
-below_of us va s r = stand_at s r (latest (follows va r.level r s.epoch) us)
+below_of us va s r = stand_at s r (latest (follows va r s.epoch) us)
 
 -- the stand at the root under a use of satp
 abbrev pub root_at : ℕ → Use → Option ℕ → List Stand
@@ -261,9 +261,9 @@ is_fenced x f h va c =
     is_fenced_by x f h va c (address_fence f.satp h (page_bits c.read.level) va (space_of c.read))
     || (not c.read.global && nat_lt c.last (space_fence h c.read.asid))
 
--- a PTE serves under satp as it is: its level is one of the present MODE, under which the address is canonical, and it is of the present ASID or global
+-- a PTE serves under satp as it is: the address is canonical, and the PTE is of the present ASID or global
 abbrev pub is_of_now : ℕ → ℕ → Read → Bool
-is_of_now satp va r = has_level_in (top_of satp) va r.level && (r.asid == asid satp || r.global)
+is_of_now satp va r = is_translated_in (top_of satp) va && (r.asid == asid satp || r.global)
 
 -- ---- outcomes
 

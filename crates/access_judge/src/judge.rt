@@ -10,7 +10,7 @@ ghost use Rattle.access_judge.specs.Search.{address_fence, became_leaf, ended, i
 use crate::log::Log;
 use crate::question::Question;
 use crate::saying::say;
-use crate::search::has_level;
+use crate::search::is_translated;
 use crate::sink::{Sink, Step};
 use crate::updated::say_updated;
 use sv39_entry::{Entry, Kind, Satp, Va};
@@ -32,7 +32,7 @@ pub(crate) fn judge<L: Log, S: Sink>(log: &L, question: &Question, step: &Step, 
 fn is_of_now(satp: Satp, va: Va, step: &Step) -> bool
     ensures { result ≡ is_of_now satp va.0 (found_of step.now).read }
 {
-    has_level(satp, va, step.level) && (step.asid == satp.asid() || step.global)
+    is_translated(satp, va) && (step.asid == satp.asid() || step.global)
 }
 
 /// Whether a fence covers an entry since it was read. None covers what memory has now.

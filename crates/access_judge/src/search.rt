@@ -13,7 +13,7 @@ ghost use Rattle.access_judge.specs.Judging.{stand_of, step_says, IsBelowTable, 
 ghost use Rattle.access_judge.specs.Log.{use_of};
 ghost use Rattle.access_judge.specs.Older.{HidesOlder};
 ghost use Rattle.access_judge.specs.Sifting.{Sifts};
-ghost use Rattle.access_judge.specs.Search.{below_of, found_by, follows, has_level_in, is_kind, is_pointer, is_unread, later, latest, may_pass, place_at, stood, until};
+ghost use Rattle.access_judge.specs.Search.{below_of, found_by, follows, is_translated_in, is_kind, is_pointer, is_unread, later, latest, may_pass, place_at, stood, until};
 
 use crate::judge::{is_leaf, is_napot, judge};
 use crate::log::{Log, PastSatp};
@@ -359,7 +359,7 @@ fn has_global(entry: Entry) -> bool
 
 /// Of the words that satp had by which a pointer may be followed, returns one of the latest moment.
 fn latest<L: Log>(log: &L, va: Va, step: &Step, epoch: usize) -> Option<PastSatp>
-    ensures { use_if result ≡ latest (follows va.0 step.now.level (found_of step.now).read epoch) (L.uses_of log.now) }
+    ensures { use_if result ≡ latest (follows va.0 (found_of step.now).read epoch) (L.uses_of log.now) }
 {
     match present(log, va, step, epoch) {
         None => latest_of_all(log, va, step, epoch),
@@ -369,7 +369,7 @@ fn latest<L: Log>(log: &L, va: Va, step: &Step, epoch: usize) -> Option<PastSatp
 
 /// Returns the first word of satp if it is the present one and the pointer may be followed by it: no other is of a later moment.
 fn present<L: Log>(log: &L, va: Va, step: &Step, epoch: usize) -> Option<PastSatp>
-    ensures { IsLatestIfSome (latest (follows va.0 step.now.level (found_of step.now).read epoch) (L.uses_of log.now)) result }
+    ensures { IsLatestIfSome (latest (follows va.0 (found_of step.now).read epoch) (L.uses_of log.now)) result }
 {
     if log.use_count() == 0 {
         return None;
@@ -384,7 +384,7 @@ fn present<L: Log>(log: &L, va: Va, step: &Step, epoch: usize) -> Option<PastSat
 
 /// Looks at all words that satp had.
 fn latest_of_all<L: Log>(log: &L, va: Va, step: &Step, epoch: usize) -> Option<PastSatp>
-    ensures { use_if result ≡ latest (follows va.0 step.now.level (found_of step.now).read epoch) (L.uses_of log.now) }
+    ensures { use_if result ≡ latest (follows va.0 (found_of step.now).read epoch) (L.uses_of log.now) }
 {
     let mut best: Option<PastSatp> = None;
     'uses: for number in (0..log.use_count()).rev() {
@@ -406,20 +406,20 @@ fn later(root: PastSatp, best: Option<PastSatp>) -> PastSatp
     }
 }
 
-/// Whether walks by a word of satp have tables of a level, and an address is canonical.
-pub(crate) fn has_level(satp: Satp, va: Va, level: u32) -> bool
-    ensures { result ≡ has_level_in (top_of satp) va.0 level }
+/// Whether a word of satp translates an address: it is canonical.
+pub(crate) fn is_translated(satp: Satp, va: Va) -> bool
+    ensures { result ≡ is_translated_in (top_of satp) va.0 }
 {
     match top_level(satp) {
         None => false,
-        Some(top) => is_canonical(top, va) && level <= top,
+        Some(top) => is_canonical(top, va),
     }
 }
 
 /// Whether a pointer of an ASID and epoch, or a global one, may be followed by a word that satp had.
 fn follows(va: Va, step: &Step, epoch: usize, root: &PastSatp) -> bool
-    ensures { result ≡ follows va.0 step.now.level (found_of step.now).read epoch (use_of root.now) }
+    ensures { result ≡ follows va.0 (found_of step.now).read epoch (use_of root.now) }
 {
-    has_level(root.satp, va, step.level)
+    is_translated(root.satp, va)
         && (step.global || (root.satp.asid() == step.asid && root.epoch == epoch))
 }

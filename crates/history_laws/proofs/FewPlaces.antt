@@ -2,10 +2,7 @@
 use Rattle.std.proofs.Common.{◌≡◌, ℕ, ◌+◌, ◌≤◌, ◌==◌, Bool, true, false, subst, inl, inr, arith, None, Some, List, [], ◌∷◌, ◌++◌, length, if◌then◌else◌}
 use Rattle.std.proofs.lemmas.List.{length_push}
 use Rattle.std.proofs.lemmas.List.Elements.{Contains-push, Contains-push_cases}
-use Rattle.std.proofs.lemmas.Option.{same_Some}
 use Rattle.std.specs.List.{Contains}
-use Rattle.sv39_entry.specs.Satp.{mode}
-use Rattle.walk_rules.specs.Addresses.{top_of}
 use Rattle.walk_rules.specs.declared.extensions.Extensions.{Extensions}
 use Rattle.access_history.specs.Harts.{IsLeft, Kept, Runs, happens, kept, reads, starts}
 use Rattle.access_history.specs.Held.{IsHeld, Read, at_root, below, stays, updated, with_word}
@@ -17,15 +14,7 @@ use Rattle.access_history.specs.declared.outcome.Outcome.{Outcome}
 use Rattle.access_history.specs.declared.outcome.Request.{Request}
 use Rattle.history_laws.specs.HartAnswers.{IsWithin, MayAnswer, misaligned, not_canonical, served, unread, untranslated}
 use Rattle.history_laws.specs.HartAnswers as answers
-
-top_by : (a b c : Bool) (top : ℕ) → (if a then Some 2 else (if b then Some 3 else (if c then Some 4 else None))) ≡ Some top → top ≤ 4
-top_by true b c top is = let same = same_Some 2 top is in omega (arith, same)
-top_by false true c top is = let same = same_Some 3 top is in omega (arith, same)
-top_by false false true top is = let same = same_Some 4 top is in omega (arith, same)
-top_by false false false top is = absurd (cc)
-
-few_levels : (w top : ℕ) → top_of w ≡ Some top → top ≤ 4
-few_levels w top is = top_by (mode w == 8) (mode w == 9) (mode w == 10) top is
+use Rattle.access_history.proofs.HeldLevels.{top_low}
 
 none : (c : Kept) → Contains [] c → ⊥
 none c has = let low = has.1 in omega (arith, low)
@@ -46,7 +35,7 @@ module _ (x : Extensions) (f : First) (va : ℕ) where
   keeps : (h past : List Event) (r : Read) → IsHeld x f va h r past → Keeps h past r
   keeps h past r (at_root may root) =
       let rest = empty h in
-      let few = few_levels (satp_at f.satp h) r.level root.highest in
+      let few = top_low (satp_at f.satp h) r.level root.highest in
       (kept r past ∷ [], (reads rest.0 may (inl root), (rest.1, omega arith)), Contains-push [] (kept r past), omega (arith, few))
   keeps h past r (below {since = since} {above = above} was may step) =
       let up = keeps h since above was in

@@ -255,7 +255,7 @@ module _ (x : Extensions) (plain : IsPlainHart x) (p : Past) (free : p.first.pmp
         record {
           since = p.events;
           held = here.1;
-          present = (top_level s, top_is (satp_of p) s is, same_canonical s q.va.0 ∙ canonical, low);
+          present = (top_level s, top_is (satp_of p) s is, same_canonical s q.va.0 ∙ canonical);
           space = inl refl;
           last = last;
         },
@@ -302,7 +302,6 @@ module _ (x : Extensions) (plain : IsPlainHart x) (p : Past) (free : p.first.pmp
             (record {
               pointer = pointer;
               serves = inl refl;
-              within = (top_level s, top_is (satp_of p) s is, omega arith);
               next_level = next_one;
               table = way.5;
               global = refl;

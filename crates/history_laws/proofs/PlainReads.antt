@@ -61,12 +61,12 @@ module _ (x : Extensions) (plain : IsPlainHart x) (f : First) (free : f.pmp ≡ 
   abbrev space : ℕ
   space = asid (satp_at f.satp h)
 
-  may : (level table word : ℕ) (global : Bool) → level ≤ top_level s → memory table (vpn (page_of va) level) ≡ Some word
+  may : (level table word : ℕ) (global : Bool) → memory table (vpn (page_of va) level) ≡ Some word
       → MayRead x f va h (read_of level table word space global) h
-  may level table word global low read = record {
+  may level table word global read = record {
     had = inl read;
     kept = now;
-    active = (top_level s, top_is (satp_at f.satp h) s is, same_canonical s va ∙ canonical, low);
+    active = (top_level s, top_is (satp_at f.satp h) s is, same_canonical s va ∙ canonical);
     allowed = passes f.pmp free h privilege.Supervisor access.Load (table * 4096 + vpn (page_of va) level * 8) 8;
     under = refl;
   }
@@ -82,7 +82,7 @@ module _ (x : Extensions) (plain : IsPlainHart x) (f : First) (free : f.pmp ≡ 
       let all : top_level s ≡ top_level s - zero = omega arith in
       let highest = subst (λ (level : ℕ). top_of (satp_at f.satp h) ≡ Some level) all (top_is (satp_at f.satp h) s is) in (
         false,
-        at_root (may (top_level s - zero) table word (has_global word) (omega arith) read) (record { highest = highest; root = way; global = refl }),
+        at_root (may (top_level s - zero) table word (has_global word) read) (record { highest = highest; root = way; global = refl }),
         ((λ set. absurd (false≢true set)), (λ mark. absurd (let low = mark.3 in omega (arith, low)))),
       )
   held_at (suc k) table word low way read =
@@ -102,11 +102,10 @@ module _ (x : Extensions) (plain : IsPlainHart x) (f : First) (free : f.pmp ≡ 
       let marks = subst (λ (n : ℕ). IsTrue (up.0 || has way.1 5) ↔ HasMark s memory root (page_of va) (suc n)) (sym back) after in
       let mark = subst (λ (g : Bool). IsTrue (up.0 || g) ↔ HasMark s memory root (page_of va) (suc k)) (sym (valid_global way.1 valid)) marks in (
         up.0 || has_global way.1,
-        below up.1 (may (top_level s - suc k) table word ((up.0 || has_global way.1) || has_global word) (omega arith) read)
+        below up.1 (may (top_level s - suc k) table word ((up.0 || has_global way.1) || has_global word) read)
             (record {
               pointer = pointer;
               serves = inl refl;
-              within = (top_level s, top_is (satp_at f.satp h) s is, omega arith);
               next_level = next_one;
               table = way.5;
               global = refl;

@@ -145,12 +145,12 @@ module _ (x : Extensions) (p : Past) (q : Request) (mode : Mode) (s : Scheme) (p
   ]
 
   -- a PTE that the walk of the fill read serves the access
-  serves_still : (r : Read) → IsMadeBy q.va.0 e r → is_canonical s q.va.0 ≡ true → r.level ≤ top_level s → IsHeld x p.first q.va.0 past r past
+  serves_still : (r : Read) → IsMadeBy q.va.0 e r → is_canonical s q.va.0 ≡ true → IsHeld x p.first q.va.0 past r past
       → (kind_in x r.level r.word ≡ Pointer → ⊥) → Serves x p q r
-  serves_still r made canonical low was last = record {
+  serves_still r made canonical was last = record {
     since = past;
     held = still_held x p.first q.va.0 e r p.events past made remains was;
-    present = (top_level s, top_is (satp_of p) s plain.scheme, same_canonical s q.va.0 ∙ canonical, low);
+    present = (top_level s, top_is (satp_of p) s plain.scheme, same_canonical s q.va.0 ∙ canonical);
     space = space_by r made;
     last = last;
   }
@@ -173,7 +173,7 @@ module _ (x : Extensions) (p : Past) (q : Request) (mode : Mode) (s : Scheme) (p
           global = λ c. clear;
           leaf = subst (λ (l : Option leaves.Leaf). LeafIs l r) (sym is) tt;
         } in
-        end_faults x plain.hart p plain.unprotected q mode plain.access r (serves_still r made canonical end.low was.1 end.last) end.no_leaf
+        end_faults x plain.hart p plain.unprotected q mode plain.access r (serves_still r made canonical was.1 end.last) end.no_leaf
   ]
 
   -- an entry with one
@@ -202,7 +202,7 @@ module _ (x : Extensions) (p : Past) (q : Request) (mode : Mode) (s : Scheme) (p
         leaf = subst (λ (l : Option leaves.Leaf). LeafIs l r) (sym is)
             (record { level = refl; low = omega (arith, low, levels) });
       } in
-      let serves = serves_still r made canonical low was.1
+      let serves = serves_still r made canonical was.1
       (λ pointer. let bad : Leaf ≡ Pointer = sym (of_leaf x plain.hart.napot plain.hart.pbmt leaf.level leaf.word maps.kind) ∙ pointer in cc) in
       elim (cases_Bool (permits mode q.kind leaf.word)) [
         | inl right ↦ rw right

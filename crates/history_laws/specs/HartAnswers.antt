@@ -21,10 +21,10 @@ use Rattle.access_history.specs.declared.outcome.Outcome.{Outcome}
 use Rattle.access_history.specs.declared.outcome.Outcome.TheVariants.{Refused}
 use Rattle.access_history.specs.declared.outcome.Request.{Request}
 
--- the hart goes by a PTE that it keeps: of a level that the present MODE has, of the present ASID or global, and no pointer
+-- the hart goes by a PTE that it keeps: of the present ASID or global, and no pointer
 pub record GoesBy (x : Extensions) (p : Past) (q : Request) (cs : List Kept) (c : Kept) : Type 0 where
   pub keeps : Contains cs c
-  pub present : (top : ℕ) × (top_of (satp_of p) ≡ Some top) × (is_canonical top q.va.0 ≡ true) × (c.read.level ≤ top)
+  pub present : (top : ℕ) × (top_of (satp_of p) ≡ Some top) × (is_canonical top q.va.0 ≡ true)
   pub space : (c.read.asid ≡ asid (satp_of p)) ⊎ (c.read.global ≡ true)
   pub last : kind_in x c.read.level c.read.word ≡ Pointer → ⊥
 

@@ -7,7 +7,7 @@ use Rattle.access_judge.proofs.search.latest_of_all.Goals as goal
 
 pub uses-preserved-then-follows : goal.uses-preserved-then-follows
 uses-preserved-then-follows g c =
-    let test = follows c.args.va.0 c.args.step.now.level (found_of c.args.step.now).read c.args.epoch in
+    let test = follows c.args.va.0 (found_of c.args.step.now).read c.args.epoch in
     let u = use_of c.use_at-root.result in
     let next : c.uses.number ≡ suc (c.uses.number - 1) = omega arith in
     ap Some (c.later.ensures ∙ ap (later u) c.uses.invariant)
@@ -15,7 +15,7 @@ uses-preserved-then-follows g c =
 
 pub uses-preserved : goal.uses-preserved
 uses-preserved g c =
-    let test = follows c.args.va.0 c.args.step.now.level (found_of c.args.step.now).read c.args.epoch in
+    let test = follows c.args.va.0 (found_of c.args.step.now).read c.args.epoch in
     let u = use_of c.use_at-root.result in
     let next : c.uses.number ≡ suc (c.uses.number - 1) = omega arith in
     c.uses.invariant

@@ -16,7 +16,7 @@ returns-in-Some g c =
     let is = c.in-Some.ensures in
     let up = pointer_above c.args.question.now.extensions c.args.step.now.level c.args.step.now.entry c.requires.pointer in
     let used = (g.met.L.Log.are_uses c.args.log.now).only (use_of c.in-Some.root)
-    (latest_in (follows c.args.question.now.request.va.0 c.args.step.now.level r c.args.table.now.epoch) us (use_of c.in-Some.root) (sym is)) in
+    (latest_in (follows c.args.question.now.request.va.0 r c.args.table.now.epoch) us (use_of c.in-Some.root) (sym is)) in
     let past : c.in-Some.root.last ≤ length p.events = used.0 in
     let above = up.1 in
     let stand : ℕ → ℕ → List Stand = λ n m. record { level = c.args.step.now.level - 1; table = n; asid = m; global = c.args.step.now.global; epoch = c.args.table.now.epoch; last = c.in-Some.root.last } ∷ [] in (
