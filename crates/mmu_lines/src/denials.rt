@@ -123,18 +123,32 @@ impl Denial<'_> {
         true
     }
 
-    /// Appends what PTEs that the hart may read or hold say against what the client tells; returns whether one says something.
-    fn put_held(&self, out: &mut Text) -> bool
+    /// Appends under which other MODE of satp what the client tells would be so; returns whether it would under one that the hart has, and no
+    /// fence and no ASID says why it is not.
+    fn put_mode(&self, out: &mut Text) -> bool
         requires { 1 ≤ self.now.request.width }
     {
+        let older = self
+            .witness
+            .older(self.profile.extensions, self.request, self.claim, false);
+        if !older.is_nothing() {
+            return false;
+        }
         let Profile {
             sv39,
             sv48,
             sv57,
             ..
         } = self.profile;
+        self.telling.put_mode(out, self.claim, [sv39, sv48, sv57])
+    }
+
+    /// Appends what PTEs that the hart may read or hold say against what the client tells; returns whether one says something.
+    fn put_held(&self, out: &mut Text) -> bool
+        requires { 1 ≤ self.now.request.width }
+    {
         let (telling, claim) = (&self.telling, self.claim);
-        if telling.put_present(out, claim) || telling.put_slip(out, claim, [sv39, sv48, sv57]) {
+        if telling.put_present(out, claim) || telling.put_slip(out, claim) || self.put_mode(out) {
             return true;
         }
         match self.claim.by {

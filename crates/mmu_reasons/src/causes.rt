@@ -38,12 +38,12 @@ impl Telling<'_> {
             let region = entry.region(below);
             if region.overlaps(pa, width) {
                 let line = self.recorded.entry_line(number);
-                let part = if region.contains(pa, width) {
-                    ""
-                } else {
-                    ", which matches a part of it"
+                let how = match (region.contains(pa, width), privilege) {
+                    (false, _) => ", which matches a part of it",
+                    (true, Privilege::Machine) => ", with L 1",
+                    (true, _) => "",
                 };
-                return write!(out, ", by entry {number} of line {line}{part}");
+                return write!(out, ", by entry {number} of line {line}{how}");
             }
             below = entry.address;
         }

@@ -140,6 +140,33 @@ impl Telling<'_> {
         }
     }
 
+    /// Appends that MPRV gives the access the mode of MPP, if it does.
+    fn put_mprv(&self, out: &mut Text) {
+        if self.request.privilege == Privilege::Machine {
+            let mode = match self.privilege() {
+                Privilege::User => "U",
+                Privilege::Supervisor => "S",
+                Privilege::Machine => "M",
+            };
+            write!(out, ", as MPRV is 1 and MPP {mode}")
+        }
+    }
+
+    /// Appends by which right and in which mode a leaf grants the access.
+    fn put_right(&self, out: &mut Text, step: &Step) {
+        let right = match self.request.kind {
+            Access::Fetch => "X",
+            Access::Load => "R",
+            Access::Store => "W",
+        };
+        let mode = match self.mode() {
+            Some(Mode::User) => "U is 1, in U-mode",
+            _ => "U is 0, in S-mode",
+        };
+        write!(out, ": {right} is 1, and {mode}");
+        self.put_mprv(out)
+    }
+
     /// Appends by what a leaf grants an access that a client tells to be a page fault, if that is a bit of mstatus or an extension; returns
     /// whether it is.
     fn put_overlooked(&self, out: &mut Text, step: &Step) -> bool {
@@ -189,6 +216,23 @@ impl Telling<'_> {
         put_pte(out, self.extensions, &step);
         let text = why.text;
         write!(out, " leads there, but {text}");
+        if why.step == 7 && claim.update.is_some() {
+            out.push_str(", and the profile has Svade")
+        }
+        true
+    }
+
+    /// Appends why an access that isn't translated is refused at the address, if a client tells that it is granted there; returns whether it is.
+    fn put_refused_bare(&self, out: &mut Text, claim: Claim) -> bool {
+        let va = self.request.va.0;
+        let is_told = match claim.end {
+            End::Granted { pa, .. } => pa == va,
+            End::Refused(_) => false,
+        };
+        if self.walk().is_some() || !is_told || !self.is_refused_at(va) {
+            return false;
+        }
+        self.put_fault_at(out, va);
         true
     }
 
@@ -213,7 +257,9 @@ impl Telling<'_> {
     /// Appends what the walk over all as it is says against what a client tells, if one bit or check decides; returns whether one does.
     pub fn put_present(&self, out: &mut Text, claim: Claim) -> bool {
         match claim.end {
-            End::Granted { pa, .. } => self.put_lack(out, claim, pa),
+            End::Granted { pa, .. } => {
+                self.put_refused_bare(out, claim) || self.put_lack(out, claim, pa)
+            }
             End::Refused(cause) => {
                 cause == self.request.kind.page_fault_cause() && self.put_granted(out, claim)
             }
@@ -239,6 +285,9 @@ impl Telling<'_> {
                 self.put_grants(out, &step);
                 true
             }
+            (End::Refused(cause), Outcome::Refused { cause: other, .. }) if cause != other => {
+                self.put_other_fault(out, told, &step, cause)
+            }
             _ => false,
         }
     }
@@ -257,14 +306,46 @@ impl Telling<'_> {
         true
     }
 
-    /// Appends that a leaf grants the access, by a bit of mstatus or an extension if it is by one.
+    /// Appends that a PTE has the other fault of the access than the one that a client tells; returns whether that is one of its faults.
+    fn put_other_fault(&self, out: &mut Text, told: &Told, step: &Step, cause: u64) -> bool {
+        let (page, fault) = (
+            self.request.kind.page_fault_cause(),
+            self.request.kind.access_fault_cause(),
+        );
+        if cause == page {
+            self.put_refusal(out, &told.way, &told.outcome);
+            self.put_no_page_fault(out);
+            return true;
+        }
+        let Some(why) = self.wrong_in(step) else {
+            return false;
+        };
+        if cause != fault {
+            return false;
+        }
+        put_pte(out, self.extensions, step);
+        let text = why.text;
+        write!(
+            out,
+            " gives page fault {page}, not access fault {fault}: {text}"
+        );
+        true
+    }
+
+    /// Appends that a leaf grants the access, and by what; or that it leads where PMP as it is, or the memory, refuses it.
     fn put_grants(&self, out: &mut Text, step: &Step) {
+        let there = leads_to(step.entry, step.level.min(4), self.request.va);
+        if self.is_refused_at(there) {
+            self.put_fault_at(out, there);
+            return self.put_no_page_fault(out);
+        }
         if self.put_overlooked(out, step) {
             return;
         }
         put_pte(out, self.extensions, step);
         let access = access_text(self.request.kind);
-        write!(out, " grants the {access}")
+        write!(out, " grants the {access}");
+        self.put_right(out, step)
     }
 
     /// Appends where a leaf leads; `pa`: where a client tells that it does, if it tells so.
@@ -273,6 +354,13 @@ impl Telling<'_> {
         let there = leads_to(step.entry, level, self.request.va);
         let hex = Hex(there);
         put_pte(out, self.extensions, step);
+        match self.wrong_in(step) {
+            Some(why) if why.step == 6 => {
+                let text = why.text;
+                return write!(out, " leads nowhere: {text}");
+            }
+            _ => {}
+        }
         write!(out, " leads to {hex}");
         let bits = reach(step.entry, level);
         match pa {
@@ -310,15 +398,24 @@ impl Telling<'_> {
         }
     }
 
-    /// Appends that the walk ends with a page fault, and why.
-    fn put_page_fault_at(&self, out: &mut Text, step: &Step, why: Why) {
-        out.push_str("the walk ends with a page fault: ");
+    /// Appends that the walk ends with a page fault, and why. `told`: the exception code that a client tells, if it tells a fault.
+    fn put_page_fault_at(&self, out: &mut Text, step: &Step, why: Why, told: Option<u64>) {
+        let (page, fault) = (
+            self.request.kind.page_fault_cause(),
+            self.request.kind.access_fault_cause(),
+        );
+        if told == Some(fault) {
+            write!(
+                out,
+                "the walk ends with page fault {page}, not access fault {fault}: "
+            )
+        } else {
+            out.push_str("the walk ends with a page fault: ")
+        }
         put_pte(out, self.extensions, step);
         let text = why.text;
         write!(out, ": {text}");
-        if self.request.privilege == Privilege::Machine {
-            out.push_str(", and MPRV is 1")
-        }
+        self.put_mprv(out)
     }
 
     /// Appends at which PTE the walk ends, if a client tells that the access is granted at a physical address.
@@ -330,7 +427,7 @@ impl Telling<'_> {
         }
         match self.wrong_in(step) {
             Some(why) if leads_to(step.entry, level, self.request.va) == pa => {
-                self.put_page_fault_at(out, step, why)
+                self.put_page_fault_at(out, step, why, None)
             }
             _ => self.put_leads(out, step, Some(pa)),
         }
@@ -348,9 +445,6 @@ impl Telling<'_> {
     /// Appends that a leaf grants an access for which a client tells a fault.
     fn put_no_fault(&self, out: &mut Text, step: &Step, cause: u64) {
         self.put_grants(out, step);
-        if self.request.privilege == Privilege::Machine {
-            out.push_str(", and MPRV is 1");
-        }
         if cause == self.request.kind.access_fault_cause() {
             let there = Hex(leads_to(step.entry, step.level.min(4), self.request.va));
             write!(out, ", and nothing refuses it at {there}")
@@ -364,7 +458,7 @@ impl Telling<'_> {
         }
         match self.wrong_in(step) {
             Some(why) if why.step != 7 || !self.extensions.ad.may_update() => {
-                self.put_page_fault_at(out, step, why)
+                self.put_page_fault_at(out, step, why, Some(cause))
             }
             _ => {
                 self.put_fault_by(out, step, false);
@@ -405,6 +499,7 @@ impl Telling<'_> {
         let (fetches, mprv) = (self.request.kind == Access::Fetch, self.request.status.mprv);
         let why = match self.privilege() {
             Privilege::Machine if fetches && mprv => "MPRV does not act on a fetch",
+            Privilege::Machine if mprv => "MPRV is 1, but MPP is M",
             Privilege::Machine => "it is of M-mode",
             _ => "satp is Bare",
         };

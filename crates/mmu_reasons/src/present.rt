@@ -46,6 +46,11 @@ impl Telling<'_> {
         )
     }
 
+    /// Whether the access is refused at a physical address.
+    pub(crate) fn is_refused_at(&self, pa: u64) -> bool {
+        !self.has_byte(pa) || !self.pmp_permits(pa)
+    }
+
     /// Whether PMP permits to set A and D in a PTE.
     pub(crate) fn may_set(&self, step: &Step) -> bool {
         let place = place_at(step.ppn, self.index(step.level));
@@ -93,7 +98,7 @@ impl Telling<'_> {
         update: Option<Update>,
         outcome: Outcome,
     ) -> bool {
-        if self.has_byte(pa) && self.pmp_permits(pa) {
+        if !self.is_refused_at(pa) {
             let granted = Outcome::Granted {
                 pa,
                 memory_type,

@@ -110,13 +110,23 @@ impl Telling<'_> {
         false
     }
 
-    /// Appends which one check of the walk stands against what a client tells, if one does; returns whether it does. `has`: whether the hart has
-    /// Sv39, Sv48 and Sv57.
-    pub fn put_slip(&self, out: &mut Text, claim: Claim, has: [bool; 3]) -> bool {
-        let Some(walk) = self.walk() else {
-            return false;
-        };
-        if self.is_meant(walk, claim) {
+    /// Whether a client may mean the end of another walk than the one over memory as it is.
+    fn means_another(&self, claim: Claim) -> bool {
+        match self.walk() {
+            Some(walk) => !self.is_meant(walk, claim),
+            None => false,
+        }
+    }
+
+    /// Appends that what a client tells would be so under another MODE of satp, if it would under one that the hart has; returns whether it
+    /// would. `has`: whether the hart has Sv39, Sv48 and Sv57.
+    pub fn put_mode(&self, out: &mut Text, claim: Claim, has: [bool; 3]) -> bool {
+        self.means_another(claim) && self.put_other_mode(out, claim, has)
+    }
+
+    /// Appends which one check of the walk stands against what a client tells, if one does; returns whether it does.
+    pub fn put_slip(&self, out: &mut Text, claim: Claim) -> bool {
+        if !self.means_another(claim) {
             return false;
         }
         let satp = self.recorded.unit.satp();
@@ -128,6 +138,6 @@ impl Telling<'_> {
             self.put_no_pointer(out, &way);
             return true;
         }
-        self.put_other_mode(out, claim, has)
+        false
     }
 }
