@@ -59,6 +59,19 @@ impl Seen {
         self.pictures.push(picture)?;
         Ok(())
     }
+
+    /// Plays lines, the first ones of a script.
+    fn play_each(&mut self, player: &mut LinePlayer, lines: &[Line]) -> Result<(), AllocError>
+        requires played { (s : Played) × HasPlayed player.old s }
+    {
+        let mut number = 0u64;
+        'lines: for line in lines {
+            number = number.saturating_add(1);
+            let text = plain_line(self.alloc, line.text.as_bytes())?;
+            self.play(player, number, text.as_slice())?;
+        }
+        Ok(())
+    }
 }
 
 /// Plays the lines of a script, and returns what happens on each; `draws`: the machine is drawn.
@@ -66,7 +79,6 @@ impl Seen {
 /// # Errors
 /// `AllocError`: the host is out of memory.
 fn look_at(alloc: Global, lines: &[Line], draws: bool) -> Result<Seen, AllocError> {
-    let mut player = LinePlayer::new(alloc)?;
     let mut seen = Seen {
         alloc,
         draws,
@@ -74,12 +86,8 @@ fn look_at(alloc: Global, lines: &[Line], draws: bool) -> Result<Seen, AllocErro
         traces: Vec::new(alloc),
         pictures: Vec::new(alloc),
     };
-    let mut number = 0u64;
-    'lines: for line in lines {
-        number = number.saturating_add(1);
-        let text = plain_line(alloc, line.text.as_bytes())?;
-        seen.play(&mut player, number, text.as_slice())?;
-    }
+    let mut player = LinePlayer::new(alloc)?;
+    seen.play_each(&mut player, lines)?;
     Ok(seen)
 }
 
@@ -107,17 +115,23 @@ fn mmu_answer(alloc: Global, player: &mut MmuPlayer, line: &Line) -> Result<Vec<
     Vec::from_slice(alloc, text.finish()?.as_bytes().trim_ascii())
 }
 
+/// Appends the answers of the reference MMU to some lines.
+fn put_mmu_answers(
+    alloc: Global,
+    player: &mut MmuPlayer,
+    lines: &[Line],
+    answers: &mut Vec<Vec<u8>>,
+) -> Result<(), AllocError> {
+    'lines: for line in lines {
+        answers.push(mmu_answer(alloc, player, line)?)?;
+    }
+    Ok(())
+}
+
 /// Returns the answers of the reference MMU to some lines.
 fn mmu_answers(alloc: Global, lines: &[Line]) -> Result<Vec<Vec<u8>>, PlayFault> {
-    let mut player = MmuPlayer::new(alloc);
     let mut answers = Vec::new(alloc);
-    'lines: for line in lines {
-        let answer = mmu_answer(alloc, &mut player, line)?;
-        match answers.push(answer) {
-            Ok(()) => {}
-            Err(_) => return Err(PlayFault::Memory),
-        }
-    }
+    put_mmu_answers(alloc, &mut MmuPlayer::new(alloc), lines, &mut answers)?;
     compare(alloc, lines, answers.as_slice())?;
     Ok(answers)
 }
@@ -308,7 +322,7 @@ impl Game {
     /// Notes what happens on each line.
     fn look(&mut self, draws: bool) -> Result<(), AllocError> {
         if self.quiz.teller == Teller::Mmu {
-            return self.look_at_mmu();
+            return self.look_at_mmu(&mut MmuPlayer::new(self.alloc));
         }
         let seen = look_at(self.alloc, self.quiz.lines.as_slice(), draws)?;
         self.traces = seen.traces;
@@ -317,12 +331,11 @@ impl Game {
     }
 
     /// Notes what the reference MMU says of each line.
-    fn look_at_mmu(&mut self) -> Result<(), AllocError> {
-        let mut player = MmuPlayer::new(self.alloc);
+    fn look_at_mmu(&mut self, player: &mut MmuPlayer) -> Result<(), AllocError> {
         for at in 0..self.quiz.lines.len() {
             let trace = mmu_trace(
                 self.alloc,
-                &player,
+                player,
                 at.saturating_add(1),
                 self.line(at),
                 self.answer(at),
@@ -381,13 +394,12 @@ impl Game {
         has_form(self.alloc, self.form(at), guess)
     }
 
-    /// Returns a reference MMU that was told the lines before a line.
-    fn mmu_before(&self, at: usize) -> Result<MmuPlayer, AllocError> {
-        let mut player = MmuPlayer::new(self.alloc);
+    /// Tells a reference MMU the lines before a line.
+    fn tell_before(&self, player: &mut MmuPlayer, at: usize) -> Result<(), AllocError> {
         for before in 0..at {
             player.line(self.line(before).as_bytes())?;
         }
-        Ok(player)
+        Ok(())
     }
 
     /// Appends the outcomes that a guess lacks, one a line, with why they are permitted too.
@@ -405,13 +417,23 @@ impl Game {
 
     /// Appends what the reference MMU says of the outcomes in a guess, one a line.
     fn put_reasons(&self, out: &mut Text, at: usize, guess: &[u8]) {
-        let (Ok(mut player), Ok(parts)) = (self.mmu_before(at), plain_parts(self.alloc, guess))
-        else {
-            return out.note(Err(AllocError));
-        };
-        'parts: for part in parts.as_slice() {
+        match plain_parts(self.alloc, guess) {
+            Ok(parts) => {
+                let mut player = MmuPlayer::new(self.alloc);
+                self.put_reasons_by(out, &mut player, at, parts.as_slice());
+            }
+            Err(error) => out.note(Err(error)),
+        }
+    }
+
+    /// Appends what a new reference MMU says of outcomes, one a line.
+    fn put_reasons_by(&self, out: &mut Text, player: &mut MmuPlayer, at: usize, parts: &[Vec<u8>]) {
+        if let Err(error) = self.tell_before(player, at) {
+            return out.note(Err(error));
+        }
+        'parts: for part in parts {
             match told_outcome(self.alloc, part.as_slice()) {
-                Ok(outcome) => put_reason(out, &mut player, self.line(at), outcome.as_str()),
+                Ok(outcome) => put_reason(out, player, self.line(at), outcome.as_str()),
                 Err(error) => out.note(Err(error)),
             }
         }

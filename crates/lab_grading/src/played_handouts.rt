@@ -63,24 +63,41 @@ fn right_answer(
     Ok(right)
 }
 
-/// Plays the lines of a handout, and returns each with the machine's answer. Tells if a line is refused, an answer is faulty, or there is
-/// no `boot`; only lines before such a line are returned.
+/// Plays lines, and appends each with the machine's answer.
 ///
 /// # Errors
-/// `AllocError`: the host is out of memory.
-fn play_lines(out: &mut Printout, file: &str, lines: Vec<Line>) -> Result<Vec<Asked>, AllocError> {
-    let mut player = LinePlayer::new(out.allocator())?;
-    let mut handout = Vec::new(out.allocator());
+/// Those of `play_lines`.
+fn play_each(
+    out: &mut Printout,
+    file: &str,
+    lines: Vec<Line>,
+    player: &mut LinePlayer,
+    handout: &mut Vec<Asked>,
+) -> Result<(), AllocError>
+    requires played { (s : Played) × HasPlayed player.old s }
+{
     let mut last = 0u64;
     'lines: for line in lines {
         if !out.is_open() {
             break;
         }
         last = line.number as u64;
-        let right = right_answer(out, file, &mut player, &line)?;
+        let right = right_answer(out, file, player, &line)?;
         handout.push(Asked { line, right })?;
     }
-    tell_end(out, file, &player, last);
+    tell_end(out, file, player, last);
+    Ok(())
+}
+
+/// Plays the lines of a handout, and returns each with the machine's answer. Tells if a line is refused, an answer is faulty, or there is
+/// no `boot`; only lines before such a line are returned.
+///
+/// # Errors
+/// `AllocError`: the host is out of memory.
+fn play_lines(out: &mut Printout, file: &str, lines: Vec<Line>) -> Result<Vec<Asked>, AllocError> {
+    let mut handout = Vec::new(out.allocator());
+    let mut player = LinePlayer::new(out.allocator())?;
+    play_each(out, file, lines, &mut player, &mut handout)?;
     Ok(handout)
 }
 

@@ -85,6 +85,55 @@ fn give_line<S: Screen, L: Listener>(
     }
 }
 
+/// Reads lines to the end, unless printing fails, and gives each to the listener. Returns how many there were.
+///
+/// # Errors
+/// Those of `each_line`.
+fn give_lines<R: Read + Drop, S: Screen, L: Listener>(
+    reader: &mut BufReader<R>,
+    screen: &mut S,
+    listener: &mut L,
+    player: &mut LinePlayer,
+    line: &mut Vec<u8>,
+) -> Result<u64, Fault>
+    requires played { (s : Played) × HasPlayed player.old s }
+    ensures played { IfOk result (λ _. (s : Played) × HasPlayed player.new s) }
+{
+    let (alloc, mut lines) = (*line.allocator(), 0);
+    'lines: for number in 1..u64::MAX {
+        if listener.is_over() || !screen.is_whole() {
+            break;
+        }
+        line.clear();
+        if read_line(reader, line)? == 0 {
+            break;
+        }
+        lines = number;
+        give_line(alloc, screen, listener, player, number, line.as_slice())?;
+    }
+    Ok(lines)
+}
+
+/// Gives the lines to the listener, and tells it of the end.
+///
+/// # Errors
+/// Those of `each_line`.
+fn give_all<R: Read + Drop, S: Screen, L: Listener>(
+    alloc: Global,
+    reader: &mut BufReader<R>,
+    screen: &mut S,
+    listener: &mut L,
+    player: &mut LinePlayer,
+) -> Result<(), Fault>
+    requires played { (s : Played) × HasPlayed player.old s }
+{
+    let mut line = Vec::new(alloc);
+    let lines = give_lines(reader, screen, listener, player, &mut line)?;
+    let mut out = Printout::new(alloc);
+    listener.end(&mut out, player, lines);
+    out.print(screen)
+}
+
 /// Reads a script to its end, unless printing fails, and gives each of its lines to the listener, with a player that has taken no line at
 /// first.
 ///
@@ -96,29 +145,7 @@ pub fn each_line<R: Read + Drop, S: Screen, L: Listener>(
     screen: &mut S,
     listener: &mut L,
 ) -> Result<(), Fault> {
-    let mut player = LinePlayer::new(alloc)?;
     let mut reader = BufReader::new(alloc, reader)?;
-    let mut line = Vec::new(alloc);
-    let mut lines = 0;
-    'lines: for number in 1..u64::MAX {
-        if listener.is_over() || !screen.is_whole() {
-            break;
-        }
-        line.clear();
-        if read_line(&mut reader, &mut line)? == 0 {
-            break;
-        }
-        lines = number;
-        give_line(
-            alloc,
-            screen,
-            listener,
-            &mut player,
-            number,
-            line.as_slice(),
-        )?;
-    }
-    let mut out = Printout::new(alloc);
-    listener.end(&mut out, &player, lines);
-    out.print(screen)
+    let mut player = LinePlayer::new(alloc)?;
+    give_all(alloc, &mut reader, screen, listener, &mut player)
 }

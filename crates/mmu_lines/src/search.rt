@@ -61,17 +61,27 @@ fn keep_of(player: &mut MmuPlayer, line: &Line) -> Result<Option<bool>, AllocErr
     }
 }
 
-/// Whether each line before the first that is not permitted is one that is answered without an error; `None` if none is not permitted.
-fn fine_lines(alloc: Global, lines: &[Line]) -> Result<Option<Vec<bool>>, AllocError> {
-    let mut player = MmuPlayer::new(alloc);
-    let mut keeps = Vec::new(alloc);
+/// Appends, of each line before the first that is not permitted, whether it is answered without an error. Returns whether one is not
+/// permitted.
+fn put_fine(
+    player: &mut MmuPlayer,
+    lines: &[Line],
+    keeps: &mut Vec<bool>,
+) -> Result<bool, AllocError> {
     'lines: for line in lines {
-        match keep_of(&mut player, line)? {
+        match keep_of(player, line)? {
             Some(keep) => keeps.push(keep)?,
-            None => return Ok(Some(keeps)),
+            None => return Ok(true),
         }
     }
-    Ok(None)
+    Ok(false)
+}
+
+/// Whether each line before the first that is not permitted is one that is answered without an error; `None` if none is not permitted.
+fn fine_lines(alloc: Global, lines: &[Line]) -> Result<Option<Vec<bool>>, AllocError> {
+    let mut keeps = Vec::new(alloc);
+    let ends = put_fine(&mut MmuPlayer::new(alloc), lines, &mut keeps)?;
+    Ok(if ends { Some(keeps) } else { None })
 }
 
 /// Whether the first word of a line is this one.
