@@ -32,7 +32,7 @@ def toy_translate(memory, va, access, mode):
     if pte & needed != needed or (mode == "U" and not pte & 0x10) or (pte >> 10) % (1 << 9 * level):
         return page_fault
     pa = (pte >> 10 << 12) + va % (1 << 12 + 9 * level)
-    return f"pa {pa:#x}" if FIRST <= pa < END else access_fault
+    return f"pa {pa:#x} by {pte:#x}" if FIRST <= pa < END else access_fault
 
 
 # ---- the client
