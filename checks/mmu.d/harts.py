@@ -1,7 +1,7 @@
 """Harts with caches, for checks/mmu: what each of them may do with an access. They know tags and no history.
 
 At any moment a hart may fetch a word from memory ahead of a use that it guesses (level, page, ASID, global), may let a walk read one
-PTE more and keep it, and may forget anything. A store that sets A or D in the place of a leaf that it keeps may be its own, and then it keeps
+PTE more and keep it, and may forget anything. A walk that began may end after satp is written, if no fence ends it. A store that sets A or D in the place of a leaf that it keeps may be its own, and then it keeps
 the leaf so. A fence removes what its tags tell it to. Numbers are sections of the standard.
 
     Hart          what is kept, and what it says
@@ -17,8 +17,8 @@ from rules import with_entry
 
 # A word with its tags. place: where the walk looks for it. leafed: since it was read, a leaf was stored there
 Entry = collections.namedtuple("Entry", "level page place word asid is_global leafed")
-# Where a walk may be: by a global pointer or not
-Stand = collections.namedtuple("Stand", "level table is_global")
+# Where a walk may be: its ASID, and whether a pointer on its way is global
+Stand = collections.namedtuple("Stand", "level table asid is_global")
 Use = collections.namedtuple("Use", "level page place")
 # Of all MODEs: a PTE serves under each
 HIGHEST = 4
@@ -40,6 +40,8 @@ class Hart:
     def __init__(self, profile, uses, asids):
         self.profile, self.uses, self.asids = profile, uses, asids
         self.memory, self.runs, self.satp, self.status = {}, [], 0, Status(0, 0, 0, "U")
+        # the words of satp under which walks may be
+        self.begun = {self.satp}
         self.pmp = ((0, 0),) * profile.pmps
         # copies of the PMP entries by which checks may be made until a fence of all (3.7.2)
         self.copies = {self.pmp}
@@ -74,6 +76,7 @@ class Hart:
 
     def write_satp(self, word):
         self.satp = word
+        self.begun = self.begun | {word}
 
     def write_pmp(self, number, config, address):
         if not is_locked(self.pmp, number):
@@ -87,6 +90,8 @@ class Hart:
             return
         if va is None and asid is None:
             self.copies = {self.pmp}
+        if va is None:
+            self.begun = {satp for satp in self.begun if asid is not None and asid_of(satp) != asid} | {self.satp}
         for entries in self.fetched, self.kept:
             for key, group in list(entries.items()):
                 entries[key] = {it for it in group if not self.is_covered(it, va, asid)}
@@ -116,27 +121,31 @@ class Hart:
         """What may be fetched ahead of a use."""
         return [] if self.profile.ordered else [Entry(*use, word, asid, globally, False) for word in self.sources(use)]
 
-    def root(self, va):
-        """Where walks begin now."""
-        top = top_of(self.satp)
-        return None if top is None or not is_canonical(va, top) else Stand(top, root_of(self.satp), False)
+    def root(self, va, satp):
+        """Where walks under a word of satp begin."""
+        top = top_of(satp)
+        return None if top is None or not is_canonical(va, top) else Stand(top, root_of(satp), asid_of(satp), False)
 
-    def is_of_now(self, entry):
-        """Of whichever MODE it was read under."""
-        return entry.is_global or entry.asid == asid_of(self.satp)
+    def roots(self, va):
+        """Where walks begin, and those that began under another satp may still be."""
+        return sorted({self.root(va, satp) for satp in self.begun} - {None})
+
+    def is_of_now(self, it):
+        """A PTE, or a stand; of whichever MODE it was read under."""
+        return it.is_global or it.asid == asid_of(self.satp)
 
     def leads(self, entry):
-        """The stand to which a pointer leads now; None for what is no pointer or not of now."""
-        if not self.is_of_now(entry) or kind_of(self.profile, entry.word, entry.level) != "pointer":
+        """The stand to which a pointer leads; None for what is no pointer."""
+        if kind_of(self.profile, entry.word, entry.level) != "pointer":
             return None
-        return Stand(entry.level - 1, ppn_of(entry.word), entry.is_global)
+        return Stand(entry.level - 1, ppn_of(entry.word), entry.asid, entry.is_global)
 
     def use_at(self, stand, va):
         return Use(stand.level, page_of(va, stand.level), stand.table * 4096 + index_of(va, stand.level) * 8)
 
     def reads(self, stand, va):
         """The PTEs that a walk at a stand may read now."""
-        use, asid = self.use_at(stand, va), asid_of(self.satp)
+        use, asid = self.use_at(stand, va), stand.asid
         if not self.may(True, "S", "load", use.place, 8):
             return
         for word in self.sources(use):
@@ -194,15 +203,17 @@ class Hart:
         return found
 
     def stands(self, va):
-        """Where a walk may be now, by what is kept."""
-        root = self.root(va)
-        if root is not None:
-            yield root
-            for level in range(1, HIGHEST + 1):
-                for it in self.kept.get((level, page_of(va, level)), ()):
-                    stand = self.leads(it)
-                    if stand is not None:
-                        yield stand
+        """Where a walk may be, by what is kept."""
+        yield from self.roots(va)
+        for level in range(1, HIGHEST + 1):
+            for it in self.kept.get((level, page_of(va, level)), ()):
+                stand = self.leads(it)
+                if stand is not None:
+                    yield stand
+
+    def stands_now(self, va):
+        """Where a walk of the present satp may be."""
+        return (it for it in self.stands(va) if self.is_of_now(it))
 
     def outcomes(self, access):
         """The outcomes of an access by what is kept alone."""
@@ -214,7 +225,7 @@ class Hart:
             for it in self.kept.get((level, page_of(access.va, level)), ()):
                 if self.is_of_now(it) and kind_of(self.profile, it.word, level) != "pointer":
                     found |= self.says(it, access)
-        if any(self.is_unread(it, access.va) for it in self.stands(access.va)):
+        if any(self.is_unread(it, access.va) for it in self.stands_now(access.va)):
             found.add(f"fault {ACCESS_FAULT[access.kind]}")
         return found
 
@@ -228,7 +239,7 @@ class PlainHart(Hart):
         self.pmp, self.copies = hart.pmp, {hart.pmp}
 
     def outcomes(self, access):
-        found, stand = self.untranslated(access), self.root(access.va)
+        found, stand = self.untranslated(access), self.root(access.va, self.satp)
         while found is None:
             if self.is_unread(stand, access.va):
                 return {f"fault {ACCESS_FAULT[access.kind]}"}
@@ -256,12 +267,9 @@ class HartOfAll(Hart):
 
     def walk_all(self):
         for va in self.vas:
-            root = self.root(va)
-            if root is None:
-                continue
-            stands = set()
+            roots, stands = self.roots(va), set()
             for level in reversed(range(HIGHEST + 1)):
-                stands |= {root} if level == root.level else set()
+                stands |= {root for root in roots if root.level == level}
                 kept = self.kept[level, page_of(va, level)]
                 for stand in stands:
                     kept.update(self.reads(stand, va))
@@ -321,11 +329,12 @@ class RandomHart(Hart):
                 for it in self.ahead(use, self.rng.choice(self.asids), self.rng.random() < 0.3)[:1]:
                     self.keep(self.fetched, use, it)
             else:
-                self.walk(self.rng.choice(self.vas))
+                va = self.rng.choice(self.vas)
+                self.walk(va, self.stands(va))
 
-    def walk(self, va):
-        """Walks from the root or a kept pointer until a PTE that is no pointer. Returns it; None for an access fault."""
-        stands = list(self.stands(va))
+    def walk(self, va, stands):
+        """Walks from a root or a kept pointer until a PTE that is no pointer. Returns it; None for an access fault."""
+        stands = list(stands)
         stand = self.rng.choice(sorted(stands)) if stands else None
         while stand is not None:
             found = sorted(set(self.reads(stand, va)))
@@ -344,7 +353,7 @@ class RandomHart(Hart):
         while not found:
             here = [it for level in range(HIGHEST + 1) for it in sorted(self.kept.get((level, page_of(access.va, level)), ()))]
             here = [it for it in here if self.is_of_now(it) and kind_of(self.profile, it.word, it.level) != "pointer"]
-            entry = self.rng.choice(here) if here and self.rng.random() < 0.7 else self.walk(access.va)
+            entry = self.rng.choice(here) if here and self.rng.random() < 0.7 else self.walk(access.va, self.stands_now(access.va))
             # none by a PTE that memory has no more, and whose A is clear: it walks anew
             found = self.says(entry, access) if entry else {f"fault {ACCESS_FAULT[access.kind]}"}
             if not found:

@@ -14,7 +14,7 @@ from rules import is_address_locked, is_canonical, is_global, is_locked, is_napo
 from rules import root_of, top_of, updates, with_entry
 
 MODES = {"sv39": 8, "sv48": 9, "sv57": 10}
-# A word that satp had, the last fence of its ASID then, and its last moment since that fence
+# A word that satp had, the last fence of its ASID then, and the last moment at which a walk under it may go on
 Use = collections.namedtuple("Use", "satp epoch last")
 Stand = collections.namedtuple("Stand", "level table asid is_global epoch last")
 # A PTE with the last moment at which the walk may have read its word
@@ -31,18 +31,20 @@ class Judge:
         """After a fence of all, what was before counts no more."""
         self.now, self.spaces, self.addresses = 0, collections.Counter(), []
         self.words = {place: [(0, had[-1][1])] for place, had in self.words.items()}
-        self.uses, self.pmps = [Use(self.satp, 0, 0)], [(0, self.pmp)]
+        self.used, self.ended, self.pmps = [(self.satp, 0)], {}, [(0, self.pmp)]
 
     # ---- events
 
     def tick(self):
         self.now += 1
-        asid = asid_of(self.satp)
-        last = self.uses[-1]
-        if (last.satp, last.epoch) == (self.satp, self.spaces[asid]):
-            self.uses[-1] = last._replace(last=self.now)
-        else:
-            self.uses.append(Use(self.satp, self.spaces[asid], self.now))
+        used = self.satp, self.spaces[asid_of(self.satp)]
+        if used not in self.used:
+            self.used.append(used)
+
+    def uses(self):
+        """Under which words of satp walks may be, each with the last moment: right before the next fence of its ASID, or now."""
+        for satp, epoch in self.used:
+            yield Use(satp, epoch, self.ended.get((asid_of(satp), epoch), self.now))
 
     def store(self, place, word):
         had = self.words.setdefault(place, [(0, 0)] if self.is_in_run(place) else [])
@@ -63,6 +65,7 @@ class Judge:
             self.restart()
             return
         if va is None:
+            self.ended[asid, self.spaces[asid]] = self.now
             self.spaces[asid] = self.now + 1
         elif is_valid(va, self.satp):
             self.addresses.append((self.now + 1, va, asid))
@@ -106,10 +109,6 @@ class Judge:
         found = [Read(stand.level, stand.table, word, stand.asid, stand.is_global or is_global(word), last) for word, last in had]
         return [it for it in found if it.is_global or it.last >= stand.epoch]
 
-    def follows(self, use, va, read, epoch):
-        """At a use of satp a pointer may be followed."""
-        return is_translated(use.satp, va) and (read.is_global or (asid_of(use.satp), use.epoch) == (read.asid, epoch))
-
     def search(self, stand, va):
         """All stands from one on, and the PTEs at them that are no pointers."""
         yield stand
@@ -117,14 +116,11 @@ class Judge:
             if kind_of(self.profile, read.word, read.level) != "pointer":
                 yield read
                 continue
-            uses = [use for use in self.uses if self.follows(use, va, read, stand.epoch)]
-            if uses:
-                use = max(uses, key=lambda it: it.last)
-                asid = asid_of(use.satp)
-                yield from self.search(Stand(read.level - 1, ppn_of(read.word), asid, read.is_global, stand.epoch, use.last), va)
+            last = self.now if read.is_global else stand.last
+            yield from self.search(Stand(read.level - 1, ppn_of(read.word), read.asid, read.is_global, stand.epoch, last), va)
 
     def search_all(self, va):
-        for use in self.uses:
+        for use in self.uses():
             top = top_of(use.satp)
             if top is not None and is_canonical(va, top):
                 yield from self.search(Stand(top, root_of(use.satp), asid_of(use.satp), False, use.epoch, use.last), va)
@@ -206,7 +202,7 @@ class Judge:
                 if self.serves(it, access.va):
                     for word in self.words_of(it, access.va):
                         found |= self.says(word, access)
-            elif it.last == self.now:
+            elif it.last == self.now and (it.is_global or it.asid == asid_of(self.satp)):
                 place = self.place(it, access.va)
                 if self.word(place) is None or self.may(False, self.now, "S", "load", place, 8):
                     found.add(f"fault {ACCESS_FAULT[access.kind]}")

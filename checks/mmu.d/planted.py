@@ -56,7 +56,6 @@ ERRORS = [
         "an address need not be canonical when a PTE was read",
         "judge.py",
         ("if top is not None and is_canonical(va, top):", "if top is not None:"),
-        ("return top is not None and is_canonical(va, top)", "return top is not None"),
     ),
     ("MXR stands for R at stores too", "rules.py", ('"store": word & W}[kind]', '"store": word & W or (status.mxr and word & X)}[kind]')),
     ("MXR is ignored", "rules.py", ("word & R or (status.mxr and word & X)", "word & R")),
@@ -119,9 +118,16 @@ ERRORS = [
         ("return [it for it in found if it.is_global or it.last >= stand.epoch]", "return found"),
     ),
     (
-        "a fence of an ASID does not end its root",
+        "a fence of an ASID does not end its walks",
         "judge.py",
-        ("(asid_of(use.satp), use.epoch) == (read.asid, epoch)", "asid_of(use.satp) == read.asid"),
+        ("self.ended.get((asid_of(satp), epoch), self.now)", "self.now"),
+    ),
+    (
+        "a write of satp ends each walk",
+        "judge.py",
+        ("        self.used, self.ended", "        self.lasts = {(self.satp, 0): 0}\n        self.used, self.ended"),
+        ("        if used not in self.used:", "        self.lasts[used] = self.now\n        if used not in self.used:"),
+        ("self.ended.get((asid_of(satp), epoch), self.now)", "self.lasts[satp, epoch]"),
     ),
     ("no update of A and D reaches what is kept", "judge.py", ("if last >= read.last and updates(read.word, was, new):", "if False:")),
     ("each store reaches the leaves that are kept", "judge.py", ("if last >= read.last and updates(read.word, was, new):", "if last >= read.last:")),
@@ -130,8 +136,9 @@ ERRORS = [
     (
         "a pointer of another ASID is followed",
         "judge.py",
-        ("(read.is_global or (asid_of(use.satp), use.epoch) == (read.asid, epoch))", "True"),
+        ("ppn_of(read.word), read.asid, read.is_global", "ppn_of(read.word), asid_of(self.satp), read.is_global"),
     ),
+    ("a walk goes on by each pointer until now", "judge.py", ("last = self.now if read.is_global else stand.last", "last = self.now")),
     ("a fence for an address that is not canonical covers", "judge.py", ("elif is_valid(va, self.satp):", "else:")),
     (
         "a fence for an address removes a superpage for its first page alone",
@@ -143,7 +150,7 @@ ERRORS = [
         "judge.py",
         (
             "        self.satp = word\n        self.tick()\n",
-            "        self.satp = word\n        self.uses = self.uses[-1:]\n        self.tick()\n        self.uses = self.uses[-1:]\n",
+            "        self.satp = word\n        self.used = []\n        self.tick()\n",
         ),
     ),
     (
@@ -154,8 +161,9 @@ ERRORS = [
             "        self.satp = word\n        if not word:\n            self.restart()\n        self.tick()\n",
         ),
     ),
-    ("an older table may be unreadable", "judge.py", ("elif it.last == self.now:", "else:")),
-    ("no table is unreadable but the root", "judge.py", ("elif it.last == self.now:", "elif it.last == self.now and it.level == top:")),
+    ("an older table may be unreadable", "judge.py", ("elif it.last == self.now and (", "elif (")),
+    ("no table is unreadable but the root", "judge.py", ("elif it.last == self.now and (", "elif it.last == self.now and it.level == top and (")),
+    ("a table of another ASID may be unreadable", "judge.py", ("elif it.last == self.now and (it.is_global or", "elif it.last == self.now and (True or")),
     (
         "what is below a global pointer is not global",
         "judge.py",
@@ -166,8 +174,8 @@ ERRORS = [
         "a fence of all leaves older PMP entries",
         "judge.py",
         (
-            "self.uses, self.pmps = [Use(self.satp, 0, 0)], [(0, self.pmp)]",
-            "self.uses, self.pmps = [Use(self.satp, 0, 0)], [(0, it) for _, it in getattr(self, 'pmps', [])] + [(0, self.pmp)]",
+            "{}, [(0, self.pmp)]",
+            "{}, [(0, it) for _, it in getattr(self, 'pmps', [])] + [(0, self.pmp)]",
         ),
     ),
     ("no fence is needed after a write of PMP", "judge.py", ("for since, entries in self.pmps)", "for since, entries in self.pmps[-1:])")),
@@ -273,7 +281,10 @@ PROGRAM = {
         "access_judge/src/search.rt",
         ("(step.global || table.epoch <= step.last)", "(step.global || table.epoch < 1_000_000_000)"),
     ),
-    "a fence of an ASID does not end its root": ("access_judge/src/search.rt", ("== epoch", "< 1_000_000_000")),
+    "a fence of an ASID does not end its walks": (
+        "mmu/src/history.rt",
+        ("last: end.unwrap_or(self.events.len()),", "last: end.unwrap_or(0).max(self.events.len()),"),
+    ),
     "A and D are compared with what was read": (
         "access_judge/src/saying.rt",
         ("Some(word) => word == step.entry.to_word(),", "Some(_) => true,"),
@@ -297,10 +308,10 @@ PROGRAM = {
             "        self.past.clear();\n        self.places.clear();\n        let place = 0;\n        let word",
         ),
     ),
-    "an older table may be unreadable": ("access_judge/src/search.rt", ("if table.last == log.now() && is_unread", "if is_unread")),
+    "an older table may be unreadable": ("access_judge/src/search.rt", ("table.last == log.now() && (", "(")),
     "no table is unreadable but the root": (
         "access_judge/src/search.rt",
-        ("if table.last == log.now() && is_unread", "if table.last == log.now() && table.level > 1 && is_unread"),
+        ("table.last == log.now() && (", "table.last == log.now() && table.level > 1 && ("),
     ),
     "what is below a global pointer is not global": (
         "access_judge/src/search.rt",

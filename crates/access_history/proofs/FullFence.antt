@@ -1,6 +1,6 @@
 -- Lemmas of the moment after a fence of everything: what is kept through it, and what is held after it, is of that moment; and each
 -- entry that is held is one that a walk over memory as it is reads.
-use Rattle.std.proofs.Common.{◌≡◌, ℕ, zero, suc, ◌-◌, ◌≤◌, refl, sym, subst, arith, inl, inr, Bool, true, false, ◌∙◌, ◌||◌, None, Some, List, ◌∷◌}
+use Rattle.std.proofs.Common.{◌≡◌, ℕ, zero, suc, ◌-◌, ◌≤◌, refl, sym, ap, subst, arith, inl, inr, Bool, true, false, ◌∙◌, ◌||◌, None, Some, List, ◌∷◌}
 use Rattle.std.proofs.lemmas.Bool.{false≢true}
 use Rattle.sv39_entry.specs.Address.{page_of, vpn}
 use Rattle.sv39_entry.specs.Satp.{asid, root_ppn}
@@ -8,11 +8,12 @@ use Rattle.sv39_entry.specs.declared.entry.Kind.TheVariants.{Pointer}
 use Rattle.walk_rules.specs.Addresses.{is_canonical, top_of}
 use Rattle.walk_rules.specs.Kinds.{kind_in}
 use Rattle.walk_rules.specs.declared.extensions.Extensions.{Extensions}
-use Rattle.access_history.specs.Held.{HadWord, IsCovered, MayPassRead, IsHeld, IsKept, MayRead, Read, has_global, read_of, at_root, below, stays, updated, now, next}
+use Rattle.access_history.specs.Held.{HadWord, IsCovered, MayPassRead, IsHeld, IsKept, MayRead, Read, has_global, read_of, at_root, below, is_active, stays, updated, now, next}
 use Rattle.access_history.specs.History.{First, memory_at, satp_at}
 use Rattle.access_history.specs.Walks.{IsWay, levels_above}
 use Rattle.access_history.specs.declared.event.Event.{Event}
 use Rattle.access_history.specs.declared.event.Event.TheVariants.{Fence}
+use Rattle.access_history.proofs.Covering.{under_after}
 
 -- what an event covers is read anew, or not held
 pub kept_after : (x : Extensions) (f : First) (va : ℕ) (r : Read) (h past : List Event) (e : Event) → IsKept x f va r (e ∷ h) past
@@ -46,9 +47,11 @@ read_now x f va h past r plain same (inr other) = absurd (false≢true (sym plai
 pub walk_reads : (x : Extensions) (f : First) (va : ℕ) (h past : List Event) (r : Read) → x.svnapot ≡ false → IsHeld x f va (Fence None None ∷ h) r past
     → WalkReads x f va h r
 walk_reads x f va h past r plain (at_root may root) =
+    let own = under_after f root.satp h None tt root.under in
     let none : levels_above r.level r.level ≡ zero = omega arith in
-    let here = subst (λ (k : ℕ). IsWay x (memory_at f.memory h) (root_ppn (satp_at f.satp h)) (page_of va) r.level k r.table) (sym none) root.root in
-    (r.level, root.highest, omega arith, here, read_now x f va h past r plain (kept_after x f va r h past (Fence None None) may.kept (tt, tt)) may.had)
+    let here = subst (λ (k : ℕ). IsWay x (memory_at f.memory h) (root_ppn (satp_at f.satp h)) (page_of va) r.level k r.table) (sym none)
+    (root.root ∙ ap root_ppn (sym own)) in
+    (r.level, ap top_of own ∙ root.highest, omega arith, here, read_now x f va h past r plain (kept_after x f va r h past (Fence None None) may.kept (tt, tt)) may.had)
 walk_reads x f va h past r plain (below {since = since} {above = above} was may is) =
     let up = walk_reads x f va h since above plain was in
     let le = up.2 in
@@ -73,16 +76,25 @@ module _ (x : Extensions) (f : First) (va : ℕ) (h : List Event) (top : ℕ) (i
   may_now : (level table word : ℕ) (global : Bool) → memory_at f.memory h table (vpn (page_of va) level) ≡ Some word
       → MayRead x f va (Fence None None ∷ h) (read_of level table word (asid (satp_at f.satp h)) global) (Fence None None ∷ h)
   may_now level table word global read =
-      record { had = inl read; kept = now; active = (top, is, canonical); allowed = free table (vpn (page_of va) level); under = refl }
+      record { had = inl read; kept = now; allowed = free table (vpn (page_of va) level) }
 
   pub walk_held : (k table word : ℕ) → k ≤ top → IsWay x (memory_at f.memory h) (root_ppn (satp_at f.satp h)) (page_of va) top k table
       → memory_at f.memory h table (vpn (page_of va) (top - k)) ≡ Some word → HeldNow (top - k) table word
   walk_held zero table word low way read =
       let all : top ≡ top - zero = omega arith in
-      let highest = subst (λ (level : ℕ). top_of (satp_at f.satp h) ≡ Some level) all is in (
+      let highest = subst (λ (level : ℕ). top_of (satp_at f.satp h) ≡ Some level) all is in
+      let valid = subst (λ (level : ℕ). is_canonical level va ≡ true) all canonical in (
         has_global word,
         at_root (may_now (top - zero) table word (has_global word) read)
-            (record { highest = highest; root = way; global = refl }),
+            (record {
+              satp = satp_at f.satp h;
+              under = is_active refl;
+              highest = highest;
+              canonical = valid;
+              root = way;
+              space = refl;
+              global = refl;
+            }),
       )
   walk_held (suc k) table word low way read =
       let up = walk_held k way.0 way.1 (omega (arith, low)) way.2 way.3 in
@@ -90,5 +102,5 @@ module _ (x : Extensions) (f : First) (va : ℕ) (h : List Event) (top : ℕ) (i
       let may = may_now (top - suc k) table word (up.0 || has_global word) read in (
         up.0 || has_global word,
         below up.1 may
-            (record { pointer = way.4; serves = inl refl; next_level = next_one; table = way.5; global = refl }),
+            (record { pointer = way.4; next_level = next_one; table = way.5; space = refl; global = refl }),
       )

@@ -26,6 +26,6 @@ IsLeft x f va e h cs c =
 pub data Runs (x : Extensions) (f : First) (va : ℕ) : List Event → List Kept → Type 0 where
   starts : Runs x f va [] []
   reads : {h : List Event} {cs : List Kept} {r : Read} {past : List Event} → Runs x f va h cs → MayRead x f va h r past
-      → IsAtRoot f h r ⊎ ((c : Kept) × Contains cs c × IsBelow x f h c.read r) → Runs x f va h (cs ++ kept r past ∷ [])
+      → IsAtRoot f va h r ⊎ ((c : Kept) × Contains cs c × IsBelow x c.read r) → Runs x f va h (cs ++ kept r past ∷ [])
   happens : {h : List Event} {e : Event} {cs ds : List Kept} → Runs x f va h cs → ((c : Kept) → Contains ds c → IsLeft x f va e h cs c)
       → Runs x f va (e ∷ h) ds

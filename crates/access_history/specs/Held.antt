@@ -95,28 +95,43 @@ MayPassRead f h table index =
 pub record MayRead (x : Extensions) (f : First) (va : ℕ) (h : List Event) (r : Read) (past : List Event) : Type 0 where
   pub had : HadWord x f va past r
   pub kept : IsKept x f va r h past
-  -- satp translates, and the address is canonical
-  pub active : (top : ℕ) × (top_of (satp_at f.satp h) ≡ Some top) × (is_canonical top va ≡ true)
   pub allowed : MayPassRead f h r.table (vpn (page_of va) r.level)
-  pub under : r.asid ≡ asid (satp_at f.satp h)
+
+-- a fence of each address, of this ASID or of all, ends the walks of an ASID
+abbrev pub EndsWalks : Event → ℕ → Type 0
+EndsWalks (Store p i w) space = ⊥
+EndsWalks (WriteSatp w) space = ⊥
+EndsWalks (WritePmp n e) space = ⊥
+EndsWalks (Fence (Some a) s) space = ⊥
+EndsWalks (Fence None None) space = Unit {0}
+EndsWalks (Fence None (Some s)) space = s ≡ space
+
+-- a walk under a word of satp may be at its root: satp has it, or had it, and no fence has ended the walk since. A walk begins only while its satp is
+-- active; that it ends before satp is written again, nothing asks (4.1.11)
+pub data IsUnder (f : First) (satp : ℕ) : List Event → Type 0 where
+  is_active : {h : List Event} → satp_at f.satp h ≡ satp → IsUnder f satp h
+  goes_on : {h : List Event} {e : Event} → IsUnder f satp h → (EndsWalks e (asid satp) → ⊥) → IsUnder f satp (e ∷ h)
 
 -- a PTE makes what it maps global: V and G
 abbrev pub has_global : ℕ → Bool
 has_global w = has w 0 && has w 5
 
--- the walk begins at a read's table
-pub record IsAtRoot (f : First) (h : List Event) (r : Read) : Type 0 where
-  pub highest : top_of (satp_at f.satp h) ≡ Some r.level
-  pub root : r.table ≡ root_ppn (satp_at f.satp h)
+-- a walk is at a read's table: the root of a satp that translates, under which the address is canonical
+pub record IsAtRoot (f : First) (va : ℕ) (h : List Event) (r : Read) : Type 0 where
+  pub satp : ℕ
+  pub under : IsUnder f satp h
+  pub highest : top_of satp ≡ Some r.level
+  pub canonical : is_canonical r.level va ≡ true
+  pub root : r.table ≡ root_ppn satp
+  pub space : r.asid ≡ asid satp
   pub global : r.global ≡ has_global r.word
 
--- the walk goes on at a read's table, by a pointer of this ASID or a global one, whichever MODE it was read under: of a level, then, that the
--- present MODE may not have
-pub record IsBelow (x : Extensions) (f : First) (h : List Event) (above r : Read) : Type 0 where
+-- the walk that read a pointer goes on at a read's table, whatever satp is by then. Another walk that goes by it reads the same
+pub record IsBelow (x : Extensions) (above r : Read) : Type 0 where
   pub pointer : kind_in x above.level above.word ≡ Pointer
-  pub serves : (above.asid ≡ asid (satp_at f.satp h)) ⊎ (above.global ≡ true)
   pub next_level : above.level ≡ suc r.level
   pub table : r.table ≡ ppn above.word
+  pub space : r.asid ≡ above.asid
   pub global : r.global ≡ (above.global || has_global r.word)
 
 -- ---- what a hart makes of a leaf that it holds
@@ -152,8 +167,8 @@ with_word r w = read_of r.level r.table w r.asid r.global
 -- at the first moment a hart may hold a read, of a word of the second: a walk reads it, from the root or by a pointer that the hart may hold at
 -- that time; or the hart held it before, and no event since covers it; or the last event sets A or D in a leaf that it held
 pub data IsHeld (x : Extensions) (f : First) (va : ℕ) : List Event → Read → List Event → Type 0 where
-  at_root : {h past : List Event} {r : Read} → MayRead x f va h r past → IsAtRoot f h r → IsHeld x f va h r past
-  below : {h past since : List Event} {above r : Read} → IsHeld x f va h above since → MayRead x f va h r past → IsBelow x f h above r
+  at_root : {h past : List Event} {r : Read} → MayRead x f va h r past → IsAtRoot f va h r → IsHeld x f va h r past
+  below : {h past since : List Event} {above r : Read} → IsHeld x f va h above since → MayRead x f va h r past → IsBelow x above r
       → IsHeld x f va h r past
   stays : {h past : List Event} {r : Read} {e : Event} → IsHeld x f va h r past → (IsCovered x f va e h r past → ⊥) → IsHeld x f va (e ∷ h) r past
   updated : {h past : List Event} {r : Read} {e : Event} {w : ℕ} → IsHeld x f va h r past → IsUpdate x f va e h r w

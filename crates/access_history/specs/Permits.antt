@@ -111,10 +111,12 @@ pub data Says (x : Extensions) (p : Past) (q : Request) (mode : Mode) (r : Read)
 abbrev pub IsMultiple : ℕ → ℕ → Type 0
 IsMultiple va width = (n : ℕ) × (va ≡ n * width)
 
--- the walk of an access may be at a table now: the root, or where a pointer leads that the hart may hold. Of r only level and table count
+-- the walk of an access may be at a table now: a root of its ASID, or where a pointer leads that the hart may hold and that serves the present satp. Of r
+-- only level, table and ASID count
 pub data MayStandAt (x : Extensions) (p : Past) (q : Request) (r : Read) : Type 0 where
-  at_root : IsAtRoot p.first p.events r → MayStandAt x p q r
-  below : {above : Read} {since : List Event} → IsHeld x p.first q.va.0 p.events above since → IsBelow x p.first p.events above r → MayStandAt x p q r
+  at_root : IsAtRoot p.first q.va.0 p.events r → r.asid ≡ asid (satp_of p) → MayStandAt x p q r
+  below : {above : Read} {since : List Event} → IsHeld x p.first q.va.0 p.events above since → IsBelow x above r
+      → (r.asid ≡ asid (satp_of p)) ⊎ (above.global ≡ true) → MayStandAt x p q r
 
 -- the outcomes that the standard permits. A misaligned address: its exception alone (own choice: the standard also permits to split the access).
 -- In M-mode and under Bare: the address itself (4.1.11). An address that is not canonical: a page fault, whatever is held (4.4.1, 4.5.1, 4.6.1)

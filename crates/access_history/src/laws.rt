@@ -6,7 +6,7 @@
 ghost use Rattle.std.specs.Prelude.{◌&&◌, ◌*◌, ◌/◌, ◌%◌, ◌^◌, ◌≡◌, ◌≢◌, ◌+◌, ◌-◌, ◌≤◌, false, ℕ, Bool, true, List, Option, None, Some, [], ◌∷◌};
 ghost use Rattle.access_history.specs.Examples.{example_fence, example_hart, example_load, example_past, example_store};
 ghost use Rattle.access_history.specs.Harts.{Kept, Runs, kept};
-ghost use Rattle.access_history.specs.Held.{IsCovered, IsHeld, MayPassRead, Read, has_global, is_with_ad, read_of};
+ghost use Rattle.access_history.specs.Held.{EndsWalks, IsCovered, IsHeld, IsUnder, MayPassRead, Read, has_global, is_with_ad, read_of};
 ghost use Rattle.access_history.specs.History.{First, memory_at, satp_at};
 ghost use Rattle.access_history.specs.Permits.{Permits};
 ghost use Rattle.access_history.specs.Walks.{IsWay, levels_above};
@@ -37,7 +37,8 @@ pub fn full_fence_forgets()
 {}
 
 /// What an event covers, a hart may hold right after it only if it was read anew (`forgets`). No fence with an address covers a pointer
-/// (`pointer`) or what serves another page or superpage, of a NAPOT leaf too (`page`), and none with an ASID a global PTE (`global`).
+/// (`pointer`) or what serves another page or superpage, of a NAPOT leaf too (`page`), and none with an ASID a global PTE (`global`). After a fence of
+/// each address no walk of its address space is under an earlier satp (`walks`).
 pub fn fences_cover()
     ensures forgets { (x : Extensions) (f : First) (va : ℕ) (h past : List Event) (e : Event) (r : Read) → IsHeld x f va (e ∷ h) r past
         → IsCovered x f va e h r past → past ≡ e ∷ h }
@@ -47,6 +48,8 @@ pub fn fences_cover()
         → IsCovered x f va (Fence (Some a) s) h r past → a.0 / 2 ^ (12 + 9 * r.level) ≡ va / 2 ^ (12 + 9 * r.level) }
     ensures global { (x : Extensions) (f : First) (va : ℕ) (h past : List Event) (a : Option Va) (s : ℕ) (r : Read)
         → IsCovered x f va (Fence a (Some s)) h r past → r.global ≡ false }
+    ensures walks { (f : First) (satp : ℕ) (h : List Event) (s : Option ℕ) → EndsWalks (Fence None s) (asid satp) → IsUnder f satp (Fence None s ∷ h)
+        → satp_at f.satp h ≡ satp }
 {}
 
 /// A hart may hold a PTE exactly if some hart keeps it, which at any moment reads one PTE more by a walk, and at any event loses at least what

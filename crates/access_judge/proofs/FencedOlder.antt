@@ -18,7 +18,7 @@ use Rattle.access_history.specs.declared.outcome.Outcome.{Outcome}
 use Rattle.access_judge.specs.Judging.{counts, item_says, step_says, word_says, words_say}
 use Rattle.access_judge.specs.Log.{versions_before}
 use Rattle.access_judge.specs.Older.{HidesOlder}
-use Rattle.access_judge.specs.Search.{Found, Stand, Use, Version, address_fence, became_leaf, before, ended, found_by, is_address_under, is_fenced, is_for, is_kind, is_pointer, space_of, until, versions}
+use Rattle.access_judge.specs.Search.{Found, Stand, Version, address_fence, became_leaf, before, ended, found_by, is_address_under, is_fenced, is_for, is_kind, is_pointer, space_of, until, versions}
 use Rattle.access_judge.specs.declared.question.Question.{Question}
 use Rattle.access_judge.proofs.FenceNumber.{fence_in_past}
 use Rattle.access_judge.proofs.LaterLeaf.{after}
@@ -123,61 +123,61 @@ fenced_says : (a : Question) (p : Past) (c : Found) → is_fenced a.extensions p
 unfolding item_says
 fenced_says a p c fenced = rw fenced (none_if _ _)
 
-step_none : (a : Question) (p : Past) (us : List Use) (s : Stand) (c : Found) → is_pointer a.extensions c ≡ false → item_says a p (ended c) ≡ []
-    → step_says a p us s c ≡ []
+step_none : (a : Question) (p : Past) (s : Stand) (c : Found) → is_pointer a.extensions c ≡ false → item_says a p (ended c) ≡ []
+    → step_says a p s c ≡ []
 unfolding step_says
-step_none a p us s c ends none = rw ends none
+step_none a p s c ends none = rw ends none
 
-word_none : (a : Question) (p : Past) (us : List Use) (s : Stand) (napot : Bool) (v : Version) (b : Bool) → counts a s napot (found_by s v) ≡ b
-    → step_says a p us s (found_by s v) ≡ [] → word_says a p us s napot v ≡ []
-word_none a p us s napot v true is none = sym (word_at_found a p us s napot v is) ∙ none
-word_none a p us s napot v false is none = sym (word_not_found a p us s napot v is)
+word_none : (a : Question) (p : Past) (s : Stand) (napot : Bool) (v : Version) (b : Bool) → counts a s napot (found_by s v) ≡ b
+    → step_says a p s (found_by s v) ≡ [] → word_says a p s napot v ≡ []
+word_none a p s napot v true is none = sym (word_at_found a p s napot v is) ∙ none
+word_none a p s napot v false is none = sym (word_not_found a p s napot v is)
 
-older_says : (a : Question) (p : Past) (us : List Use) (s : Stand) (napot : Bool) (index word last : ℕ) (u : Version) → HidesOlder a p s index word last
+older_says : (a : Question) (p : Past) (s : Stand) (napot : Bool) (index word last : ℕ) (u : Version) → HidesOlder a p s index word last
     → u.last < last → Contains (versions p.first.memory (until p.events last) s.table index) (record { word = word; last = last })
-    → word_says a p us s napot u ≡ []
-older_says a p us s napot index word last u hides old has =
+    → word_says a p s napot u ≡ []
+older_says a p s napot index word last u hides old has =
     let c = found_by s u in
     let own = hides.own ∙ ap (vpn (page_of a.request.va.0)) hides.level in
     let at = subst (λ (i : ℕ). Contains (versions p.first.memory (until p.events last) s.table i) (record { word = word; last = last })) own has in
     let fenced = older_fenced a.extensions p.first p.events a.request.va.0 c (record { word = word; last = last }) hides.level hides.fenced old at hides.leaf in
-    word_none a p us s napot u (counts a s napot c) refl
-    (step_none a p us s c (is_other_kind (kind_in a.extensions s.level u.word) Pointer (no_pointer_low a.extensions s.level u.word hides.level)) (fenced_says a p c fenced))
+    word_none a p s napot u (counts a s napot c) refl
+    (step_none a p s c (is_other_kind (kind_in a.extensions s.level u.word) Pointer (no_pointer_low a.extensions s.level u.word hides.level)) (fenced_says a p c fenced))
 
-all_none : (a : Question) (p : Past) (us : List Use) (s : Stand) (napot : Bool) (vs : List Version)
-    → ((u : Version) → Contains vs u → word_says a p us s napot u ≡ []) → words_say a p us s napot vs ≡ []
+all_none : (a : Question) (p : Past) (s : Stand) (napot : Bool) (vs : List Version)
+    → ((u : Version) → Contains vs u → word_says a p s napot u ≡ []) → words_say a p s napot vs ≡ []
 unfolding words_say
-all_none a p us s napot [] none = refl
-all_none a p us s napot (v ∷ vs) none =
-    ap (λ (os : List Outcome). os ++ words_say a p us s napot vs) (none v (contains_head v vs))
-    ∙ all_none a p us s napot vs (λ u has. none u (contains_later v u vs has))
+all_none a p s napot [] none = refl
+all_none a p s napot (v ∷ vs) none =
+    ap (λ (os : List Outcome). os ++ words_say a p s napot vs) (none v (contains_head v vs))
+    ∙ all_none a p s napot vs (λ u has. none u (contains_later v u vs has))
 
-older_none : (a : Question) (p : Past) (us : List Use) (s : Stand) (napot : Bool) (index word last since : ℕ) → HidesOlder a p s index word last
+older_none : (a : Question) (p : Past) (s : Stand) (napot : Bool) (index word last since : ℕ) → HidesOlder a p s index word last
     → since ≤ last → last ≤ length p.events → Contains (versions p.first.memory (until p.events last) s.table index) (record { word = word; last = last })
-    → words_say a p us s napot (versions_before p.first.memory p.events s.table index since) ≡ []
-older_none a p us s napot index word last zero hides low now has = all_none a p us s napot [] (λ u none. absurd (contains_nothing u none))
+    → words_say a p s napot (versions_before p.first.memory p.events s.table index since) ≡ []
+older_none a p s napot index word last zero hides low now has = all_none a p s napot [] (λ u none. absurd (contains_nothing u none))
   where
     contains_nothing : (u : Version) → Contains [] u → ⊥
     contains_nothing u none = let less = none.1 in omega (arith, less)
-older_none a p us s napot index word last (suc moment) hides low now has =
-    all_none a p us s napot (versions p.first.memory (until p.events moment) s.table index) (λ u is_u.
+older_none a p s napot index word last (suc moment) hides low now has =
+    all_none a p s napot (versions p.first.memory (until p.events moment) s.table index) (λ u is_u.
     let had = version_had p.first.memory (until p.events moment) s.table index u is_u in
     let short = past_length (until p.events moment) had.0 had.1 in
     let long = until_length p.events moment (omega (arith, low, now)) in
     let is = had.2 in
-    older_says a p us s napot index word last u hides (omega (arith, short, long, is, low)) has)
+    older_says a p s napot index word last u hides (omega (arith, short, long, is, low)) has)
 
 -- the loop over the words of a place may stop behind a word that hides the older ones
-pub words_hide : (a : Question) (p : Past) (us : List Use) (s : Stand) (napot : Bool) (index word last since : ℕ) (done all : List Outcome)
+pub words_hide : (a : Question) (p : Past) (s : Stand) (napot : Bool) (index word last since : ℕ) (done all : List Outcome)
     → HidesOlder a p s index word last → since ≤ last → last ≤ length p.events
     → versions p.first.memory (until p.events last) s.table index
     ≡ record { word = word; last = last } ∷ versions_before p.first.memory p.events s.table index since
-    → done ++ words_say a p us s napot (versions p.first.memory (until p.events last) s.table index) ≡ all
-    → done ++ word_says a p us s napot (record { word = word; last = last }) ≡ all
+    → done ++ words_say a p s napot (versions p.first.memory (until p.events last) s.table index) ≡ all
+    → done ++ word_says a p s napot (record { word = word; last = last }) ≡ all
 unfolding words_say
-words_hide a p us s napot index word last since done all hides low now is total =
+words_hide a p s napot index word last since done all hides low now is total =
     let v : Version = record { word = word; last = last } in
     let first = subst (λ (vs : List Version). Contains vs v) (sym is) (contains_head v (versions_before p.first.memory p.events s.table index since)) in
-    let rest = older_none a p us s napot index word last since hides low now first in
-    let says = ap (words_say a p us s napot) is in
-    ap (λ (os : List Outcome). done ++ os) (sym (append-nil (word_says a p us s napot v)) ∙ ap (λ (os : List Outcome). word_says a p us s napot v ++ os) (sym rest) ∙ sym says) ∙ total
+    let rest = older_none a p s napot index word last since hides low now first in
+    let says = ap (words_say a p s napot) is in
+    ap (λ (os : List Outcome). done ++ os) (sym (append-nil (word_says a p s napot v)) ∙ ap (λ (os : List Outcome). word_says a p s napot v ++ os) (sym rest) ∙ sym says) ∙ total

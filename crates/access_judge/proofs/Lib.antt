@@ -1,12 +1,12 @@
 pub mod Bits
 mod Ending
+pub mod EpochEnds
 pub mod Exact
 pub mod FenceNumber
 mod FenceNumbers
 pub mod FencedOlder
 mod FencedReads
 mod KeptReads
-pub mod LatestUse
 pub mod LaterLeaf
 mod Listed
 pub mod ListedOutcomes

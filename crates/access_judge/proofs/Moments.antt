@@ -28,7 +28,7 @@ until_length h k low = omega (arith, length-drop (length h - k) h)
 pub until_now : (h : List Event) → until h (length h) ≡ h
 until_now h = let none : length h - length h ≡ 0 = omega arith in ap (λ (n : ℕ). drop n h) none
 
-until_older : (e : Event) (h : List Event) (k : ℕ) → k ≤ length h → until (e ∷ h) k ≡ until h k
+pub until_older : (e : Event) (h : List Event) (k : ℕ) → k ≤ length h → until (e ∷ h) k ≡ until h k
 until_older e h k low = let one : suc (length h) - k ≡ suc (length h - k) = omega arith in ap (λ (n : ℕ). drop n (e ∷ h)) one
 
 -- a past moment is the history until its number

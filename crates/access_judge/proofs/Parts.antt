@@ -1,16 +1,15 @@
 -- The four parts of the exactness of the search: what it comes by is held, or may be stood at, and it comes by all of that.
-use Rattle.std.specs.Prelude.{◌≡◌, ◌≢◌, ◌⊎◌, ℕ, ◌≤◌, true, false, Some, List, ◌∷◌, length}
+use Rattle.std.specs.Prelude.{◌≡◌, ◌≢◌, ◌⊎◌, ℕ, ◌≤◌, true, false, List, ◌∷◌, length}
 use Rattle.std.specs.List.{Contains}
 use Rattle.sv39_entry.specs.declared.entry.Kind.TheVariants.{Pointer}
-use Rattle.walk_rules.specs.Addresses.{is_canonical, top_of}
 use Rattle.walk_rules.specs.Kinds.{kind_in}
 use Rattle.walk_rules.specs.declared.extensions.Extensions.{Extensions}
 use Rattle.access_history.specs.Held.{IsHeld, IsUpdate, Read, with_word}
-use Rattle.access_history.specs.Permits.{MayStandAt, Past, satp_of}
+use Rattle.access_history.specs.Permits.{MayStandAt, Past}
 use Rattle.access_history.specs.History.{First, IsPast}
 use Rattle.access_history.specs.declared.event.Event.{Event}
 use Rattle.access_history.specs.declared.outcome.Request.{Request}
-use Rattle.access_judge.specs.Search.{Found, Stand, Use, ended, is_fenced, search_all, stood, until}
+use Rattle.access_judge.specs.Search.{Found, Stand, Use, ended, is_fenced, search_all, stands_now, stood, until}
 
 -- a PTE that the search comes by, and that no fence has covered since, is held
 abbrev pub EndedOnly : Extensions → First → List Event → List Use → ℕ → Type 0
@@ -42,10 +41,10 @@ EndedEach x f h us va = (r : Read) (past : List Event) → IsHeld x f va h r pas
 
 -- a stand of now is one at which the walk may be
 abbrev pub StoodOnly : Extensions → Past → List Use → Request → Type 0
-StoodOnly x p us q = (s : Stand) → Contains (search_all x p.first p.events us q.va.0) (stood s) → s.last ≡ length p.events
+StoodOnly x p us q = (s : Stand) → Contains (search_all x p.first p.events us q.va.0) (stood s) → stands_now p s ≡ true
     → (r : Read) × MayStandAt x p q r × (r.level ≡ s.level) × (r.table ≡ s.table)
 
--- the search comes by each table at which the walk may be now, for an address that is canonical
+-- the search comes by each table at which the walk may be
 abbrev pub StoodEach : Extensions → Past → List Use → Request → Type 0
-StoodEach x p us q = (r : Read) (top : ℕ) → top_of (satp_of p) ≡ Some top → is_canonical top q.va.0 ≡ true → MayStandAt x p q r
-    → (s : Stand) × Contains (search_all x p.first p.events us q.va.0) (stood s) × (s.last ≡ length p.events) × (s.level ≡ r.level) × (s.table ≡ r.table)
+StoodEach x p us q = (r : Read) → MayStandAt x p q r
+    → (s : Stand) × Contains (search_all x p.first p.events us q.va.0) (stood s) × (stands_now p s ≡ true) × (s.level ≡ r.level) × (s.table ≡ r.table)

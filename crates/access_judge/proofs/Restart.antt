@@ -4,7 +4,7 @@ use Rattle.std.specs.Prelude.{is_some, slice_set}
 use Rattle.std.specs.List.{Contains}
 use Rattle.std.proofs.lemmas.List.{append_cancel_right, length-append}
 use Rattle.sv39_entry.specs.Address.{page_of, vpn}
-use Rattle.sv39_entry.specs.Satp.{asid, root_ppn}
+use Rattle.sv39_entry.specs.Satp.{asid}
 use Rattle.sv39_entry.specs.declared.access.Access.{Access}
 use Rattle.sv39_entry.specs.declared.access.Access.TheVariants as access
 use Rattle.sv39_entry.specs.declared.access.Mode.{Mode}
@@ -15,7 +15,7 @@ use Rattle.walk_rules.specs.declared.memory_type.MemoryType.TheVariants.{Pma}
 use Rattle.walk_rules.specs.declared.pmp.PmpEntry.{PmpEntry}
 use Rattle.walk_rules.specs.declared.status.Privilege.{Privilege}
 use Rattle.walk_rules.specs.declared.status.Privilege.TheVariants as privilege
-use Rattle.access_history.specs.Held.{BecameLeaf, HadWord, IsAddress, IsAtRoot, IsBelow, IsCovered, IsHeld, IsKept, MayRead, Read, at_root, below, next, now, stays, updated}
+use Rattle.access_history.specs.Held.{BecameLeaf, EndsWalks, HadWord, IsAddress, IsAtRoot, IsCovered, IsHeld, IsKept, IsUnder, MayRead, Read, at_root, below, goes_on, is_active, next, now, stays, updated}
 use Rattle.access_history.specs.History.{First, IsPast, Memory, memory_at, older, pmp_at, pmps_at, satp_at}
 use Rattle.access_history.specs.History as history
 use Rattle.access_history.specs.Permits.{Ends, MayFail, MayPass, MayStandAt, MayUpdate, Past, Permits, Says, Serves, index_of, is_there, memory_of, place, privilege_of, satp_of, update}
@@ -210,9 +210,7 @@ module _ (f : First) (h : List Event) where
           record {
             had = had;
             kept = kept.2;
-            active = (may.active.0, sym (ap (λ (w : ℕ). top_of w) (satp_is since)) ∙ may.active.1, may.active.2);
             allowed = (allowed.0, subst (λ (ess : List (List PmpEntry)). Contains ess allowed.0) (pmps_is since) allowed.1, allowed.2);
-            under = may.under ∙ ap (λ (w : ℕ). asid w) (satp_is since);
           },
         )
 
@@ -222,41 +220,42 @@ module _ (f : First) (h : List Event) where
         record {
           had = had_each past r may.had;
           kept = kept_each r since past may.kept;
-          active = (may.active.0, ap (λ (w : ℕ). top_of w) (satp_is since) ∙ may.active.1, may.active.2);
           allowed = (allowed.0, subst (λ (ess : List (List PmpEntry)). Contains ess allowed.0) (sym (pmps_is since)) allowed.1, allowed.2);
-          under = may.under ∙ sym (ap (λ (w : ℕ). asid w) (satp_is since));
         }
 
-    root_only : (since : List Event) (r : Read) → IsAtRoot f (since ++ fenced) r → IsAtRoot anew since r
+    under_only : (satp : ℕ) (m since : List Event) → IsUnder f satp m → m ≡ since ++ fenced → IsUnder anew satp since
+    under_only satp m since (is_active has) is =
+        is_active (sym (satp_is since) ∙ ap (satp_at f.satp) (sym is) ∙ has)
+    under_only satp m [] (goes_on {h = n} {e = e} under free) is =
+        absurd (free (subst (λ (d : Event). EndsWalks d (asid satp)) (sym (same_head e (Fence None None) n h is)) tt))
+    under_only satp m (d ∷ more) (goes_on {h = n} {e = e} under free) is =
+        goes_on (under_only satp n more under (same_tail e d n (more ++ fenced) is))
+        (subst (λ (c : Event). EndsWalks c (asid satp) → ⊥) (same_head e d n (more ++ fenced) is) free)
+
+    under_each : (satp : ℕ) (since : List Event) → IsUnder anew satp since → IsUnder f satp (since ++ fenced)
+    under_each satp since (is_active has) = is_active (satp_is since ∙ has)
+    under_each satp since (goes_on {h = n} {e = e} under free) = goes_on (under_each satp n under) free
+
+    root_only : (since : List Event) (r : Read) → IsAtRoot f va (since ++ fenced) r → IsAtRoot anew va since r
     root_only since r root = record {
-      highest = sym (ap (λ (w : ℕ). top_of w) (satp_is since)) ∙ root.highest;
-      root = root.root ∙ ap (λ (w : ℕ). root_ppn w) (satp_is since);
+      satp = root.satp;
+      under = under_only root.satp (since ++ fenced) since root.under refl;
+      highest = root.highest;
+      canonical = root.canonical;
+      root = root.root;
+      space = root.space;
       global = root.global;
     }
 
-    root_each : (since : List Event) (r : Read) → IsAtRoot anew since r → IsAtRoot f (since ++ fenced) r
+    root_each : (since : List Event) (r : Read) → IsAtRoot anew va since r → IsAtRoot f va (since ++ fenced) r
     root_each since r root = record {
-      highest = ap (λ (w : ℕ). top_of w) (satp_is since) ∙ root.highest;
-      root = root.root ∙ sym (ap (λ (w : ℕ). root_ppn w) (satp_is since));
+      satp = root.satp;
+      under = under_each root.satp since root.under;
+      highest = root.highest;
+      canonical = root.canonical;
+      root = root.root;
+      space = root.space;
       global = root.global;
-    }
-
-    below_only : (since : List Event) (above r : Read) → IsBelow x f (since ++ fenced) above r → IsBelow x anew since above r
-    below_only since above r is = record {
-      pointer = is.pointer;
-      serves = subst (λ (w : ℕ). (above.asid ≡ asid w) ⊎ (above.global ≡ true)) (satp_is since) is.serves;
-      next_level = is.next_level;
-      table = is.table;
-      global = is.global;
-    }
-
-    below_each : (since : List Event) (above r : Read) → IsBelow x anew since above r → IsBelow x f (since ++ fenced) above r
-    below_each since above r is = record {
-      pointer = is.pointer;
-      serves = subst (λ (w : ℕ). (above.asid ≡ asid w) ⊎ (above.global ≡ true)) (sym (satp_is since)) is.serves;
-      next_level = is.next_level;
-      table = is.table;
-      global = is.global;
     }
 
     -- ---- what is held
@@ -265,11 +264,11 @@ module _ (f : First) (h : List Event) where
         → (p : List Event) × (past ≡ p ++ fenced) × IsHeld x anew va since r p
     held_only m past since r (at_root may root) is =
         let read = may_only since past r (subst (λ (l : List Event). MayRead x f va l r past) is may) in
-        (read.0, read.1, at_root read.2 (root_only since r (subst (λ (l : List Event). IsAtRoot f l r) is root)))
+        (read.0, read.1, at_root read.2 (root_only since r (subst (λ (l : List Event). IsAtRoot f va l r) is root)))
     held_only m past since r (below {since = was_past} {above = above} was may way) is =
         let up = held_only m was_past since above was is in
         let read = may_only since past r (subst (λ (l : List Event). MayRead x f va l r past) is may) in
-        (read.0, read.1, below up.2 read.2 (below_only since above r (subst (λ (l : List Event). IsBelow x f l above r) is way)))
+        (read.0, read.1, below up.2 read.2 way)
     held_only m past [] r (stays {h = n} {e = e} was free) is = absurd (free (fence_covers e n past r is))
     held_only m past (d ∷ more) r (stays {h = n} {e = e} was free) is =
         let up = held_only n past more r was (same_tail e d n (more ++ fenced) is) in
@@ -300,7 +299,7 @@ module _ (f : First) (h : List Event) where
     held_each : (since past : List Event) (r : Read) → IsHeld x anew va since r past → IsHeld x f va (since ++ fenced) r (past ++ fenced)
     held_each since past r (at_root may root) = at_root (may_each since past r may) (root_each since r root)
     held_each since past r (below {since = was_past} {above = above} was may way) =
-        below (held_each since was_past above was) (may_each since past r may) (below_each since above r way)
+        below (held_each since was_past above was) (may_each since past r may) way
     held_each since past r (stays {h = n} {e = e} was free) = stays (held_each n past r was) (λ covered. free (covered_only e n past r covered))
     held_each since past r (updated {h = n} {past = was_past} {r = b} {e = e} {w = w} was up) = updated (held_each n was_past b was) (record {
       scheme = up.scheme;
@@ -321,6 +320,7 @@ pub record IsWithin (x : Extensions) (p n : Past) (va : ℕ) : Type 0 where
   pub satp : satp_of p ≡ satp_of n
   pub pmps : pmps_at p.first.pmp p.events ≡ pmps_at n.first.pmp n.events
   pub held : (r : Read) (since : List Event) → IsHeld x p.first va p.events r since → (k : List Event) × IsHeld x n.first va n.events r k
+  pub root : (r : Read) → IsAtRoot p.first va p.events r → IsAtRoot n.first va n.events r
 
 module _ (x : Extensions) (p n : Past) (q : Request) (within : IsWithin x p n q.va.0) where
   pass_within : (m : Privilege) (a : Access) (pa width : ℕ) → MayPass p m a pa width → MayPass n m a pa width
@@ -372,20 +372,10 @@ module _ (x : Extensions) (p n : Past) (q : Request) (within : IsWithin x p n q.
       }
 
   stands_within : (r : Read) → MayStandAt x p q r → MayStandAt x n q r
-  stands_within r (permits.at_root root) = permits.at_root (record {
-    highest = sym top_within ∙ root.highest;
-    root = root.root ∙ ap (λ (w : ℕ). root_ppn w) within.satp;
-    global = root.global;
-  })
-  stands_within r (permits.below {above = above} {since = since} was way) =
+  stands_within r (permits.at_root root own) = permits.at_root (within.root r root) (own ∙ ap asid within.satp)
+  stands_within r (permits.below {above = above} {since = since} was way serves) =
       let up = within.held above since was in
-      permits.below up.1 (record {
-        pointer = way.pointer;
-        serves = subst (λ (w : ℕ). (above.asid ≡ asid w) ⊎ (above.global ≡ true)) within.satp way.serves;
-        next_level = way.next_level;
-        table = way.table;
-        global = way.global;
-      })
+      permits.below up.1 way (subst (λ (w : ℕ). (r.asid ≡ asid w) ⊎ (above.global ≡ true)) within.satp serves)
 
   pub permits_within : (o : Outcome) → Permits x p q o → Permits x n q o
   permits_within o (permits.misaligned bad) = permits.misaligned bad
@@ -410,11 +400,13 @@ restart_is_exact x f h since q o =
       satp = satp_is f h since;
       pmps = pmps_is f h since;
       held = λ r past was. let at = held_only f h x q.va.0 (since ++ Fence None None ∷ h) past since r was refl in (at.0, at.2);
+      root = root_only f h x q.va.0 since;
     } in
     let each : IsWithin x short long q.va.0 = record {
       memory = sym (memory_is f h since);
       satp = sym (satp_is f h since);
       pmps = sym (pmps_is f h since);
       held = λ r past was. (past ++ Fence None None ∷ h, held_each f h x q.va.0 since past r was);
+      root = root_each f h x q.va.0 since;
     } in
     (permits_within x long short q only o, permits_within x short long q each o)

@@ -1,6 +1,6 @@
 -- The search comes by all that is held, and by each table at which the walk may be.
-use Rattle.std.proofs.Common.{◌≡◌, ◌≢◌, ◌⊎◌, ℕ, zero, suc, ◌≤◌, ◌==◌, ◌&&◌, ◌||◌, nat_le, Bool, true, false, List, [], ◌∷◌, map, length, refl, sym, ◌∙◌, ap, ap₂, subst, inl, inr, arith, Some}
-use Rattle.std.proofs.lemmas.Bool.{and_parts, and_from, both_ways, cases_Bool, cases_lt, eq-eqb, eqb-true, le-leb, or_left, or_right, or_cases}
+use Rattle.std.proofs.Common.{◌≡◌, ◌≢◌, ◌⊎◌, ℕ, zero, suc, ◌-◌, ◌≤◌, ◌==◌, ◌||◌, nat_le, Bool, true, false, List, [], ◌∷◌, map, length, refl, sym, ◌∙◌, ap, ap₂, subst, inl, inr, arith, Some, if◌then◌else◌}
+use Rattle.std.proofs.lemmas.Bool.{and_from, both_ways, cases_Bool, cases_lt, eq-eqb, le-leb, or_left, or_right}
 use Rattle.std.specs.List.{Contains, flat_map}
 use Rattle.sv39_entry.specs.Satp.{asid, root_ppn}
 use Rattle.sv39_entry.specs.Word.{ppn}
@@ -18,192 +18,192 @@ use Rattle.access_history.specs.declared.event.Event.TheVariants.{Store}
 use Rattle.access_history.specs.declared.outcome.Request.{Request}
 use Rattle.access_history.proofs.AdWords.{global_still}
 use Rattle.access_history.proofs.Updates.{covered_still, had_update, leaf_now, set_in}
-use Rattle.access_judge.specs.Search.{AreUses, Found, IsUnfenced, Item, Stand, Use, Version, below_of, ended, follows, found_by, is_fenced, is_of_epoch, is_pointer, is_translated_in, reads_at, root_at, search, search_all, search_from, space_fence, stood, until}
+use Rattle.access_judge.specs.Search.{AreUses, Found, IsUnfenced, Item, Stand, Use, Version, below_of, ended, found_by, is_fenced, is_of_epoch, is_pointer, last_below, reads_at, root_at, search, search_all, search_from, space_fence, stands_now, stood, until}
+use Rattle.access_judge.proofs.EpochEnds.{epoch_end_late, epoch_end_low, under_since}
 use Rattle.access_judge.proofs.FencedReads.{kept_unfenced}
 use Rattle.access_judge.proofs.FenceNumbers.{space_fence_low}
 use Rattle.access_judge.proofs.KeptReads.{held_kept, kept_past, space_kept}
 use Rattle.access_judge.proofs.Moments.{past_between, past_length, past_trans, past_until, unfenced_past, until_length, until_past}
 use Rattle.access_judge.proofs.Parts.{EndedEach, IsAlike, IsUpdated, StoodEach}
-use Rattle.access_judge.proofs.SearchKinds.{is_other_kind, is_same_kind, latest_from, latest_late, translated_in}
+use Rattle.access_judge.proofs.SearchKinds.{is_other_kind, is_same_kind}
 use Rattle.access_judge.proofs.SearchLists.{contains_head, contains_later, flat_contains, map_contains}
 use Rattle.access_judge.proofs.SearchReads.{IsFoundFor, IsStandOf, by_read, found_for, read_by, version_at, version_was}
-use Rattle.access_judge.proofs.SearchStands.{below_at, onward}
+use Rattle.access_judge.proofs.SearchStands.{onward}
 use Rattle.access_judge.proofs.UpdatedReads.{alike_updated, update_again, update_alike}
 
 module _ (x : Extensions) (f : First) (h : List Event) (us : List Use) (va : ℕ) (un : IsUnfenced h) (uses : AreUses f.satp h us) where
-  -- all that comes from a stand is found
-  abbrev pub IsReached : Stand → Type 0
-  IsReached s = (i : Item) → Contains (search x f h us va s.level s) i → Contains (search_all x f h us va) i
+  -- all that comes from a stand is found, and it is for the last moment of its epoch
+  pub record IsReached (s : Stand) : Type 0 where
+    pub found : (i : Item) → Contains (search x f h va s.level s) i → Contains (search_all x f h us va) i
+    pub latest : (m : ℕ) → m ≤ length h → space_fence (until h m) s.asid ≡ s.epoch → m ≤ s.last
 
-  stood_in : (levels : ℕ) (s : Stand) → Contains (search x f h us va levels s) (stood s)
+  stood_in : (levels : ℕ) (s : Stand) → Contains (search x f h va levels s) (stood s)
   stood_in zero s = contains_head (stood s) (map ended (reads_at x f h va s))
   stood_in (suc levels) s = contains_head (stood s) (flat_map (onward x f h us va un uses levels s) (reads_at x f h va s))
 
   ended_in : (levels : ℕ) (s : Stand) (c : Found) → Contains (reads_at x f h va s) c → is_pointer x c ≡ false
-      → Contains (search x f h us va levels s) (ended c)
+      → Contains (search x f h va levels s) (ended c)
   ended_in zero s c has other = contains_later (stood s) (ended c) (map ended (reads_at x f h va s)) (map_contains ended (reads_at x f h va s) c has)
   ended_in (suc levels) s c has other =
       contains_later (stood s) (ended c) (flat_map (onward x f h us va un uses levels s) (reads_at x f h va s))
       (flat_contains (onward x f h us va un uses levels s) (reads_at x f h va s) c (ended c) has (rw other (contains_head (ended c) [])))
 
-  onward_in : (levels : ℕ) (s t : Stand) (c : Found) (i : Item) → Contains (reads_at x f h va s) c → is_pointer x c ≡ true
-      → Contains (below_of us va s c.read) t → Contains (search x f h us va levels t) i → Contains (search x f h us va (suc levels) s) i
-  onward_in levels s t c i has pointer under inner =
+  onward_in : (levels : ℕ) (s : Stand) (c : Found) (i : Item) → Contains (reads_at x f h va s) c → is_pointer x c ≡ true
+      → Contains (search x f h va levels (below_of h s c.read)) i → Contains (search x f h va (suc levels) s) i
+  onward_in levels s c i has pointer inner =
       contains_later (stood s) i (flat_map (onward x f h us va un uses levels s) (reads_at x f h va s))
-      (flat_contains (onward x f h us va un uses levels s) (reads_at x f h va s) c i has
-      (rw pointer (flat_contains (search x f h us va levels) (below_of us va s c.read) t i under inner)))
+      (flat_contains (onward x f h us va un uses levels s) (reads_at x f h va s) c i has (rw pointer inner))
 
-  reached_below : (s t : Stand) (c : Found) → IsReached s → Contains (reads_at x f h va s) c → is_pointer x c ≡ true
-      → Contains (below_of us va s c.read) t → s.level ≡ suc t.level → IsReached t
-  reached_below s t c reached has pointer under level i inner =
-      let all = onward_in t.level s t c i has pointer under inner in
-      reached i (subst (λ (n : ℕ). Contains (search x f h us va n s) i) (sym level) all)
-
-  -- the use of satp at a moment
-  record IsUseAt (u : List Event) (v : Use) : Type 0 where
-    among : Contains us v
-    low : v.last ≤ length h
-    satp : v.satp ≡ satp_at f.satp u
-    epoch : v.epoch ≡ space_fence u (asid (satp_at f.satp u))
-    late : length u ≤ v.last
-
-  use_at : (u : List Event) → IsPast h u → (v : Use) × IsUseAt u v
-  use_at u was =
-      let found = uses.each (length u) (past_length h u was) in
-      let same = sym (past_until h u was) in (
-        found.0,
-        record {
-          among = found.1;
-          low = (uses.only found.0 found.1).0;
-          satp = found.2 ∙ ap (satp_at f.satp) same;
-          epoch = found.3 ∙ ap (λ (k : List Event). space_fence k (asid (satp_at f.satp k))) same;
-          late = found.4;
-        },
-      )
+  reached_below : (s : Stand) (c : Found) (level : ℕ) → IsReached s → Contains (reads_at x f h va s) c → is_pointer x c ≡ true → s.level ≡ suc level
+      → level ≡ c.read.level - 1 → c.read.asid ≡ s.asid → (c.read.global ≡ true) ⊎ (last_below h s c.read ≡ s.last) → IsReached (below_of h s c.read)
+  reached_below s c level reached has pointer up same space last = record {
+    found = λ i inner. reached.found i (subst (λ (n : ℕ). Contains (search x f h va n s) i) (sym up)
+        (onward_in level s c i has pointer (subst (λ (n : ℕ). Contains (search x f h va n (below_of h s c.read)) i) (sym same) inner)));
+    latest = λ m low epoch. elim last [
+      | inl global ↦ rw global low
+      | inr is ↦
+          let own = reached.latest m low (ap (space_fence (until h m)) (sym space) ∙ epoch) in
+          omega (arith, own, is)
+    ];
+  }
 
   late_past : (u : List Event) (last : ℕ) → IsPast h u → last ≤ length h → length u ≤ last → IsPast (until h last) u
   late_past u last was low late =
       let long = until_length h last low in
       past_between h (until h last) u (until_past h last) was (omega (arith, long, late))
 
-  -- the stand at the root
-  root_stand : (u : List Event) (r : Read) → IsPast h u → IsAtRoot f u r → is_canonical r.level va ≡ true → r.asid ≡ asid (satp_at f.satp u)
-      → (s : Stand) × IsReached s × IsStandOf x f h va s u r
-  root_stand u r was root canonical under =
-      let use_now = use_at u was in
-      let v = use_now.0 in
-      let is = use_now.1 in
-      let t : Stand = record { level = r.level; table = root_ppn v.satp; asid = asid v.satp; global = false; epoch = v.epoch; last = v.last } in
-      let space : asid v.satp ≡ r.asid = ap asid is.satp ∙ sym under in (
-        t,
-        reached v t is.among (in_root v (ap top_of is.satp ∙ root.highest)),
+  -- the stand at the root of a use of satp
+  abbrev root_of : Use → ℕ → Stand
+  root_of w level = record { level = level; table = root_ppn w.satp; asid = asid w.satp; global = false; epoch = w.epoch; last = w.last }
+
+  in_root : (w : Use) (level : ℕ) → top_of w.satp ≡ Some level → is_canonical level va ≡ true → Contains (root_at va w (top_of w.satp)) (root_of w level)
+  in_root w level top canonical = rw (top, canonical) (contains_head (root_of w level) [])
+
+  root_reached : (w : Use) (level : ℕ) → Contains us w → Contains (root_at va w (top_of w.satp)) (root_of w level) → IsReached (root_of w level)
+  root_reached w level among has = record {
+    found = λ i inner. flat_contains (search_from x f h va) us w i among
+        (flat_contains (λ (s : Stand). search x f h va s.level s) (root_at va w (top_of w.satp)) (root_of w level) i has inner);
+    latest = λ m low epoch.
+        let up = epoch_end_late h (asid w.satp) w.epoch m low epoch in
+        let same = (uses.only w among).0 in
+        omega (arith, up, same);
+  }
+
+  root_stand : (u : List Event) (r : Read) → IsPast h u → IsAtRoot f va u r → (s : Stand) × IsReached s × IsStandOf x f h va s u r
+  root_stand u r was root =
+      let began = under_since f root.satp u (unfenced_past h u un was) root.under in
+      let k = began.0 in
+      let at = past_trans h u k was began.1 in
+      let used = uses.each (length k) (past_length h k at) in
+      let moment = sym (past_until h k at) in
+      let w = used.0 in
+      let satp : w.satp ≡ root.satp = used.2 ∙ ap (satp_at f.satp) moment ∙ began.2 in
+      let space : asid w.satp ≡ r.asid = ap asid satp ∙ sym root.space in
+      let epoch : w.epoch ≡ space_fence u r.asid =
+      used.3 ∙ ap (λ (g : List Event). space_fence g (asid (satp_at f.satp g))) moment ∙ ap (λ (n : ℕ). space_fence k (asid n)) began.2
+      ∙ sym began.3 ∙ ap (space_fence u) (sym root.space) in
+      let reached = root_reached w r.level used.1 (in_root w r.level (ap top_of satp ∙ root.highest) root.canonical) in
+      let here : space_fence (until h (length u)) (asid w.satp) ≡ w.epoch =
+      ap (λ (g : List Event). space_fence g (asid w.satp)) (sym (past_until h u was)) ∙ ap (space_fence u) space ∙ sym epoch in
+      let low = last_low w used.1 in (
+        root_of w r.level,
+        reached,
         record {
-          low = is.low;
-          late = late_past u v.last was is.low is.late;
+          low = low;
+          late = late_past u w.last was low (reached.latest (length u) (past_length h u was) here);
           level = refl;
-          table = ap root_ppn is.satp ∙ sym root.root;
+          table = ap root_ppn satp ∙ sym root.root;
           global = root.global;
-          space = inr (space, is.epoch ∙ ap (space_fence u) (sym under));
+          space = inr (space, epoch);
         },
       ) where
-        in_root : (v : Use) → top_of v.satp ≡ Some r.level
-            → Contains (root_at va v (top_of v.satp))
-            (record { level = r.level; table = root_ppn v.satp; asid = asid v.satp; global = false; epoch = v.epoch; last = v.last })
-        in_root v top = rw (top, canonical) (contains_head _ [])
-
-        reached : (v : Use) (t : Stand) → Contains us v → Contains (root_at va v (top_of v.satp)) t → IsReached t
-        reached v t among has i inner =
-            flat_contains (search_from x f h us va) us v i among
-            (flat_contains (λ (s : Stand). search x f h us va s.level s) (root_at va v (top_of v.satp)) t i has inner)
-
-  -- satp translates by tables, for which the address is canonical
-  abbrev IsActive : List Event → Type 0
-  IsActive u = (top : ℕ) × (top_of (satp_at f.satp u) ≡ Some top) × (is_canonical top va ≡ true)
+        last_low : (w : Use) → Contains us w → w.last ≤ length h
+        last_low w among = let low = epoch_end_low h (asid w.satp) w.epoch in let same = (uses.only w among).0 in omega (arith, low, same)
 
   -- the stand below a pointer that is held
   below_stand_of : (u since : List Event) (above r : Read) (s : Stand) (c : Found) → IsPast h u → IsHeld x f va u above since → IsReached s
-      → IsFoundFor x f h va s above since c → IsBelow x f u above r → IsActive u → r.asid ≡ asid (satp_at f.satp u)
-      → (t : Stand) × IsReached t × IsStandOf x f h va t u r
-  below_stand_of u since above r s c was held reached found is canonical under =
-      let use_now = use_at u was in
-      let v = use_now.0 in
-      let at = use_now.1 in
-      let late = latest_late test us v at.among (followed v at) in
-      let w = late.0 in
-      let from = latest_from test us w late.1 in
-      let t = below_at x f h us va un uses s c.read w in
-      let low = (uses.only w from.0).0 in
-      let least = late.2 in
-      let long = at.late in
-      let one = is.next_level in
-      let level = found.alike.level in
-      let here = stands in
-      let under_in : Contains (below_of us va s c.read) t = rw late.1 (contains_head t []) in (
-        t,
-        reached_below s t c reached found.among pointer under_in (omega (arith, one, level, here)),
-        record {
-          low = low;
-          late = late_past u w.last was low (omega (arith, least, long));
-          level = omega (arith, one, level);
-          table = ap ppn found.alike.word ∙ sym is.table;
-          global = is.global ∙ ap (λ (b : Bool). b || has_global r.word) (sym found.alike.global);
-          space = space w from.1;
-        },
-      ) where
-        test : Use → Bool
-        test = follows va c.read s.epoch
+      → s.last ≤ length h → IsFoundFor x f h va s above since c → IsBelow x above r
+      → (t : Stand) × IsReached t × IsStandOf x f h va t u r × (t.global ≡ above.global)
+  below_stand_of u since above r s c was held reached stand_low found is = (
+    t,
+    reached_below s c r.level reached found.among pointer (omega (arith, one, level, stands)) (omega (arith, one, level)) own why,
+    record {
+      low = low;
+      late = late_past u t.last was low late;
+      level = omega (arith, one, level);
+      table = ap ppn found.alike.word ∙ sym is.table;
+      global = is.global ∙ ap (λ (b : Bool). b || has_global r.word) (sym found.alike.global);
+      space = space;
+    },
+    found.alike.global,
+  ) where
+    t : Stand
+    t = below_of h s c.read
 
-        pointer : is_pointer x c ≡ true
-        pointer = is_same_kind (kind_in x c.read.level c.read.word) Pointer (ap₂ (kind_in x) found.alike.level found.alike.word ∙ is.pointer)
+    one : above.level ≡ suc r.level
+    one = is.next_level
 
-        stands : s.level ≡ c.read.level
-        stands = let read = read_by x f h va s c found.among in ap (λ (d : Found). d.read.level) read.2
+    level : c.read.level ≡ above.level
+    level = found.alike.level
 
-        plain : above.global ≡ false
-            → (asid (satp_at f.satp u) ≡ above.asid) × (c.read.asid ≡ above.asid) × (s.epoch ≡ space_fence u above.asid)
-        plain none = (
-          elim is.serves [
-            | inl same ↦ sym same
-            | inr global ↦ absurd (both_ways above.global none global)
-          ],
-          elim found.alike.asid [
-            | inl same ↦ same
-            | inr global ↦ absurd (both_ways above.global none global)
-          ],
-          elim found.epoch [
-            | inl global ↦ absurd (both_ways above.global none global)
-            | inr same ↦ same ∙ sym (space_kept x f va above u since (unfenced_past h u un was) none (held_kept x f va u since above held))
-          ],
-        )
+    pointer : is_pointer x c ≡ true
+    pointer = is_same_kind (kind_in x c.read.level c.read.word) Pointer (ap₂ (kind_in x) found.alike.level found.alike.word ∙ is.pointer)
 
-        followed : (v : Use) → IsUseAt u v → test v ≡ true
-        followed v at =
-            let translated = translated_in (top_of v.satp) va canonical.0 (ap top_of at.satp ∙ canonical.1) canonical.2 in
-            and_from (is_translated_in (top_of v.satp) va) (c.read.global || (asid v.satp == c.read.asid && v.epoch == s.epoch)) translated
-            (elim (cases_Bool above.global) [
-              | inl global ↦ or_left c.read.global (asid v.satp == c.read.asid && v.epoch == s.epoch) (found.alike.global ∙ global)
-              | inr none ↦
-                  let own = plain none in
-                  let same_space : asid v.satp ≡ c.read.asid = ap asid at.satp ∙ own.0 ∙ sym own.1 in
-                  let same_epoch : v.epoch ≡ s.epoch = at.epoch ∙ ap (space_fence u) own.0 ∙ sym own.2 in
-                  or_right c.read.global (asid v.satp == c.read.asid && v.epoch == s.epoch)
-                  (and_from (asid v.satp == c.read.asid) (v.epoch == s.epoch) (eq-eqb (asid v.satp) c.read.asid same_space) (eq-eqb v.epoch s.epoch same_epoch))
-            ])
+    stands : s.level ≡ c.read.level
+    stands = let read = read_by x f h va s c found.among in ap (λ (d : Found). d.read.level) read.2
 
-        space : (w : Use) → test w ≡ true → (c.read.global ≡ true) ⊎ ((asid w.satp ≡ r.asid) × (s.epoch ≡ space_fence u r.asid))
-        space w passes =
-            let parts = and_parts (is_translated_in (top_of w.satp) va) (c.read.global || (asid w.satp == c.read.asid && w.epoch == s.epoch)) passes in
-            elim (or_cases c.read.global (asid w.satp == c.read.asid && w.epoch == s.epoch) parts.1) [
-              | inl global ↦ inl global
-              | inr serves ↦ elim (cases_Bool above.global) [
-                | inl global ↦ inl (found.alike.global ∙ global)
-                | inr none ↦
-                    let own = plain none in
-                    let both = and_parts (asid w.satp == c.read.asid) (w.epoch == s.epoch) serves in
-                    let same : above.asid ≡ r.asid = sym own.0 ∙ sym under in
-                    inr (eqb-true (asid w.satp) c.read.asid both.0 ∙ own.1 ∙ same, own.2 ∙ ap (space_fence u) same)
-              ]
-            ]
+    own : c.read.asid ≡ s.asid
+    own = let read = read_by x f h va s c found.among in ap (λ (d : Found). d.read.asid) (sym read.2)
+
+    last : (b : Bool) → c.read.global ≡ b → (c.read.global ≡ true) ⊎ ((c.read.global ≡ false) × ((if c.read.global then length h else s.last) ≡ s.last))
+    last true all = inl all
+    last false local = inr (local, rw local refl)
+
+    cases : (c.read.global ≡ true) ⊎ ((c.read.global ≡ false) × (t.last ≡ s.last))
+    cases = last c.read.global refl
+
+    why : (c.read.global ≡ true) ⊎ (t.last ≡ s.last)
+    why = elim cases [ inl all ↦ inl all | inr local ↦ inr local.1 ]
+
+    low : t.last ≤ length h
+    low = elim cases [
+      | inl all ↦ rw all (omega arith)
+      | inr local ↦ let same = local.1 in omega (arith, same, stand_low)
+    ]
+
+    -- of an address space of its own: no fence of the ASID came since the pointer was read
+    plain : c.read.global ≡ false → (c.read.asid ≡ above.asid) × (s.epoch ≡ space_fence u above.asid)
+    plain local = (
+      elim found.alike.asid [
+        | inl same ↦ same
+        | inr all ↦ absurd (both_ways c.read.global local (found.alike.global ∙ all))
+      ],
+      elim found.epoch [
+        | inl all ↦ absurd (both_ways c.read.global local (found.alike.global ∙ all))
+        | inr same ↦ same ∙ sym (space_kept x f va above u since (unfenced_past h u un was) (sym found.alike.global ∙ local) (held_kept x f va u since above held))
+      ],
+    )
+
+    late : length u ≤ t.last
+    late = elim cases [
+      | inl all ↦ let short = past_length h u was in rw all short
+      | inr local ↦
+          let alone = plain local.0 in
+          let here : space_fence (until h (length u)) s.asid ≡ s.epoch =
+          ap (λ (g : List Event). space_fence g s.asid) (sym (past_until h u was)) ∙ ap (space_fence u) (sym own ∙ alone.0) ∙ sym alone.1 in
+          let up = reached.latest (length u) (past_length h u was) here in
+          let same = local.1 in
+          omega (arith, up, same)
+    ]
+
+    space : (t.global ≡ true) ⊎ ((t.asid ≡ r.asid) × (t.epoch ≡ space_fence u r.asid))
+    space = elim cases [
+      | inl all ↦ inl all
+      | inr local ↦
+          let alone = plain local.0 in
+          let same : above.asid ≡ r.asid = sym is.space in
+          inr (alone.0 ∙ same, alone.1 ∙ ap (space_fence u) same)
+    ]
 
   -- a read is one that a walk read at a stand, or what an update after the stand made of it
   data IsOf (s : Stand) (u : List Event) (b : Read) (since : List Event) : Read → List Event → Type 0 where
@@ -312,9 +312,7 @@ module _ (x : Extensions) (f : First) (h : List Event) (us : List Use) (va : ℕ
 
   finds : (u past : List Event) (r : Read) → IsPast h u → IsHeld x f va u r past → Comes u past r
   finds u past r was (at_root may root) =
-      let active = may.active in
-      let same : active.0 ≡ r.level = cc (active.1, root.highest) in
-      let stand = root_stand u r was root (subst (λ (n : ℕ). is_canonical n va ≡ true) same active.2) may.under in
+      let stand = root_stand u r was root in
       let found = found_for x f h va stand.0 u past r un stand.2 may (kept_past x f va r u past may.kept) in
       (r, past, stand.0, found.0, record { low = stand.2.low; reached = stand.1; found = found.1; kept = may.kept }, itself)
   finds u past r was (below {since = since} {above = above} held may is) =
@@ -322,7 +320,7 @@ module _ (x : Extensions) (f : First) (h : List Event) (us : List Use) (va : ℕ
       let s = up.2 in
       let c = up.3 in
       let above_found = found_pointer u up.1 since up.0 above s c up.5 is.pointer up.4.found in
-      let stand = below_stand_of u since above r s c was held up.4.reached above_found is may.active may.under in
+      let stand = below_stand_of u since above r s c was held up.4.reached up.4.low above_found is in
       let found = found_for x f h va stand.0 u past r un stand.2 may (kept_past x f va r u past may.kept) in
       (r, past, stand.0, found.0, record { low = stand.2.low; reached = stand.1; found = found.1; kept = may.kept }, itself)
   finds u past r was (stays {h = before} {e = e} held free) =
@@ -357,7 +355,7 @@ module _ (x : Extensions) (f : First) (h : List Event) (us : List Use) (va : ℕ
       let read = read_by x f h va s c found.among in
       let low = (version_was x f h va s read.0 is.low read.1.among).0 in
       let last = ap (λ (d : Found). d.last) read.2 in
-      (is.reached (ended c) (ended_in s.level s c found.among other), passes, omega (arith, low, last))
+      (is.reached.found (ended c) (ended_in s.level s c found.among other), passes, omega (arith, low, last))
 
   no_leaf_pointer : (b : Read) → kind_in x b.level b.word ≡ Leaf → kind_in x b.level b.word ≢ Pointer
   no_leaf_pointer b leaf pointer = let bad : Leaf ≡ Pointer = sym leaf ∙ pointer in cc
@@ -390,36 +388,43 @@ ended_each x f h us va un uses r past held kind =
     let all = finds x f h us va un uses h past r now held in
     comes_each x f h us va un uses r all.0 past all.1 all.2 all.3 all.4 all.5 kind
 
--- a read under the present ASID
-abbrev of_now : Past → Read → Read
-of_now p r = record { level = r.level; table = r.table; word = r.word; asid = asid (satp_of p); global = r.global }
-
-stood_at : (x : Extensions) (p : Past) (us : List Use) (q : Request) (un : IsUnfenced p.events) (uses : AreUses p.first.satp p.events us) (r : Read)
-    (s : Stand) → IsReached x p.first p.events us q.va.0 un uses s → IsStandOf x p.first p.events q.va.0 s p.events (of_now p r)
-    → (s : Stand) × Contains (search_all x p.first p.events us q.va.0) (stood s) × (s.last ≡ length p.events) × (s.level ≡ r.level) × (s.table ≡ r.table)
-stood_at x p us q un uses r s reached stand =
+-- a walk of the present satp may be at the stand of its read
+now_at : (x : Extensions) (p : Past) (q : Request) (r : Read) (s : Stand) → IsStandOf x p.first p.events q.va.0 s p.events r
+    → (s.asid ≡ asid (satp_of p)) ⊎ (s.global ≡ true) → stands_now p s ≡ true
+now_at x p q r s stand own =
     let late = past_length (until p.events s.last) p.events stand.late in
     let low = stand.low in
     let long = until_length p.events s.last low in
-    let has = reached (stood s) (stood_in x p.first p.events us q.va.0 un uses s.level s) in
-    (s, has, omega (arith, late, low, long), stand.level, stand.table)
+    and_from (s.last == length p.events) (s.asid == asid (satp_of p) || s.global) (eq-eqb s.last (length p.events) (omega (arith, late, low, long)))
+    (elim own [
+      | inl same ↦ or_left (s.asid == asid (satp_of p)) s.global (eq-eqb s.asid (asid (satp_of p)) same)
+      | inr global ↦ or_right (s.asid == asid (satp_of p)) s.global global
+    ])
+
+stood_at : (x : Extensions) (p : Past) (us : List Use) (q : Request) (un : IsUnfenced p.events) (uses : AreUses p.first.satp p.events us) (r : Read)
+    (s : Stand) → IsReached x p.first p.events us q.va.0 un uses s → IsStandOf x p.first p.events q.va.0 s p.events r
+    → (s.asid ≡ asid (satp_of p)) ⊎ (s.global ≡ true)
+    → (s : Stand) × Contains (search_all x p.first p.events us q.va.0) (stood s) × (stands_now p s ≡ true) × (s.level ≡ r.level) × (s.table ≡ r.table)
+stood_at x p us q un uses r s reached stand own =
+    let has = reached.found (stood s) (stood_in x p.first p.events us q.va.0 un uses s.level s) in
+    (s, has, now_at x p q r s stand own, stand.level, stand.table)
 
 pub stood_each : (x : Extensions) (p : Past) (us : List Use) (q : Request) → IsUnfenced p.events → AreUses p.first.satp p.events us
     → StoodEach x p us q
-stood_each x p us q un uses r top is canonical (permits.at_root root) =
-    let same : top ≡ r.level = cc (is, root.highest) in
-    let stand = root_stand x p.first p.events us q.va.0 un uses p.events (of_now p r) now
-    (record { highest = root.highest; root = root.root; global = root.global }) (subst (λ (n : ℕ). is_canonical n q.va.0 ≡ true) same canonical) refl in
-    stood_at x p us q un uses r stand.0 stand.1 stand.2
-stood_each x p us q un uses r top is canonical (permits.below {above = above} {since = since} held under) =
+stood_each x p us q un uses r (permits.at_root root own) =
+    let stand = root_stand x p.first p.events us q.va.0 un uses p.events r now root in
+    stood_at x p us q un uses r stand.0 stand.1 stand.2 (elim stand.2.space [
+      | inl global ↦ inr global
+      | inr same ↦ inl (same.0 ∙ own)
+    ])
+stood_each x p us q un uses r (permits.below {above = above} {since = since} held under serves) =
     let up = finds x p.first p.events us q.va.0 un uses p.events since above now held in
     let found = found_pointer x p.first p.events us q.va.0 un uses p.events up.1 since up.0 above up.2 up.3 up.5 under.pointer up.4.found in
-    let stand = below_stand_of x p.first p.events us q.va.0 un uses p.events since above (of_now p r) up.2 up.3 now held up.4.reached found
-    (record {
-      pointer = under.pointer;
-      serves = under.serves;
-      next_level = under.next_level;
-      table = under.table;
-      global = under.global;
-    }) (top, is, canonical) refl in
-    stood_at x p us q un uses r stand.0 stand.1 stand.2
+    let stand = below_stand_of x p.first p.events us q.va.0 un uses p.events since above r up.2 up.3 now held up.4.reached up.4.low found under in
+    stood_at x p us q un uses r stand.0 stand.1 stand.2 (elim stand.2.space [
+      | inl global ↦ inr global
+      | inr same ↦ elim serves [
+        | inl own ↦ inl (same.0 ∙ own)
+        | inr global ↦ inr (stand.3 ∙ global)
+      ]
+    ])

@@ -1,6 +1,6 @@
 -- Lemmas of the tests of kinds, levels and PMP that the search makes.
-use Rattle.std.proofs.Common.{◌≡◌, ◌≢◌, ◌⊎◌, ℕ, zero, suc, ◌+◌, ◌*◌, ◌≤◌, ◌&&◌, ◌||◌, not, nat_le, Bool, true, false, if◌then◌else◌, List, [], ◌∷◌, refl, ◌∙◌, ap, subst, inl, inr, arith, Option, Some, None}
-use Rattle.std.proofs.lemmas.Bool.{cases_Bool, false≢true, leb-false, leb-true}
+use Rattle.std.proofs.Common.{◌≡◌, ◌≢◌, ◌⊎◌, ℕ, zero, suc, ◌+◌, ◌*◌, ◌&&◌, ◌||◌, not, Bool, true, false, if◌then◌else◌, List, refl, inl, inr, arith, Option, Some, None}
+use Rattle.std.proofs.lemmas.Bool.{cases_Bool, false≢true}
 use Rattle.std.specs.List.{Contains}
 use Rattle.sv39_entry.specs.Address.{has}
 use Rattle.sv39_entry.specs.declared.access.Access.TheVariants as access
@@ -16,9 +16,9 @@ use Rattle.access_history.specs.Held.{MayPassRead}
 use Rattle.access_history.specs.History.{First, IsPast, now, older, pmps_at}
 use Rattle.access_history.specs.declared.event.Event.{Event}
 use Rattle.access_history.specs.declared.event.Event.TheVariants.{Store, WriteSatp, WritePmp, Fence}
-use Rattle.access_judge.specs.Search.{IsUnfenced, Use, is_kind, is_translated_in, later, latest, may_pass}
+use Rattle.access_judge.specs.Search.{IsUnfenced, is_kind, is_translated_in, may_pass}
 use Rattle.access_judge.proofs.Moments.{not_full, unfenced_tail}
-use Rattle.access_judge.proofs.SearchLists.{any_contains, any_from, contains_cases, contains_head, contains_later, contains_none}
+use Rattle.access_judge.proofs.SearchLists.{any_contains, any_from, contains_later}
 
 -- ---- kinds
 
@@ -80,62 +80,6 @@ translated_from (Some t) va is = (t, refl, is)
 
 pub translated_in : (top : Option ℕ) (va t : ℕ) → top ≡ Some t → is_canonical t va ≡ true → is_translated_in top va ≡ true
 translated_in top va t is canonical = rw is canonical
-
--- ---- uses
-
-later_is : (w u : Use) (o : Option Use) → later w o ≡ u → (w ≡ u) ⊎ (o ≡ Some u)
-later_is w u None is = inl is
-later_is w u (Some v) is = elim (cases_Bool (nat_le v.last w.last)) [
-  | inl low ↦ inl (rw low at is)
-  | inr high ↦ let same = rw high at is in inr (ap {B = Option Use} (λ (z : Use). Some z) same)
-]
-
--- a use and what is later than it
-later_late : (w : Use) (o : Option Use) → (w.last ≤ (later w o).last) × ((v : Use) → o ≡ Some v → v.last ≤ (later w o).last)
-later_late w None = (omega arith, λ v is. cc)
-later_late w (Some u) = elim (cases_Bool (nat_le u.last w.last)) [
-  | inl low ↦
-      let small = leb-true u.last w.last low in
-      rw low (omega arith, λ v is. let same : u.last ≡ v.last = cc in omega (arith, small, same))
-  | inr high ↦
-      let large = leb-false u.last w.last high in
-      rw high (omega (arith, large), λ v is. let same : u.last ≡ v.last = cc in omega (arith, same))
-]
-
--- the latest of the uses that pass is one of them
-pub latest_from : (test : Use → Bool) (us : List Use) (u : Use) → latest test us ≡ Some u → Contains us u × (test u ≡ true)
-latest_from test [] u is = cc
-latest_from test (w ∷ us) u is = elim (cases_Bool (test w)) [
-  | inr fails ↦ let up = latest_from test us u (rw fails at is) in (contains_later w u us up.0, up.1)
-  | inl passes ↦
-      let first = rw passes at is in
-      let same : later w (latest test us) ≡ u = cc in
-      elim (later_is w u (latest test us) same) [
-        | inl here ↦ (subst (λ (z : Use). Contains (w ∷ us) z) here (contains_head w us), subst (λ (z : Use). test z ≡ true) here passes)
-        | inr rest ↦ let up = latest_from test us u rest in (contains_later w u us up.0, up.1)
-      ]
-]
-
--- where a use passes, the latest is not before it
-pub latest_late : (test : Use → Bool) (us : List Use) (v : Use) → Contains us v → test v ≡ true
-    → (u : Use) × (latest test us ≡ Some u) × (v.last ≤ u.last)
-latest_late test [] v has passes = absurd (contains_none v has)
-latest_late test (w ∷ us) v has passes = elim (contains_cases w v us has) [
-  | inl same ↦
-      let here : test w ≡ true = ap test same ∙ passes in
-      let late = (later_late w (latest test us)).0 in
-      let equal : w.last ≡ v.last = cc in
-      rw here (later w (latest test us), refl, omega (arith, late, equal))
-  | inr rest ↦
-      let up = latest_late test us v rest passes in
-      let least = up.2 in
-      elim (cases_Bool (test w)) [
-        | inr fails ↦ rw fails up
-        | inl here ↦
-            let late = (later_late w (latest test us)).1 up.0 up.1 in
-            rw here (later w (latest test us), refl, omega (arith, late, least))
-      ]
-]
 
 -- ---- PMP
 

@@ -1,9 +1,9 @@
 -- Lemmas of what lists contain: pieces end to end, images, filters and tests.
-use Rattle.std.proofs.Common.{◌≡◌, ◌⊎◌, ℕ, ◌+◌, ◌<◌, Bool, true, false, cond, List, [], ◌∷◌, map, refl, sym, ◌∙◌, ap, subst, inl, inr, arith}
+use Rattle.std.proofs.Common.{◌≡◌, ◌⊎◌, ℕ, ◌+◌, ◌<◌, Bool, true, false, cond, drop, suc, zero, Some, List, [], ◌∷◌, map, refl, sym, ◌∙◌, ap, subst, inl, inr, arith}
 use Rattle.std.proofs.lemmas.Bool.{false≢true, or_cases, or_left, or_right}
 use Rattle.std.proofs.lemmas.List.Elements.{Contains-append_cases, Contains-append_left, Contains-append_right, Contains-push, Contains-push_cases}
 use Rattle.std.proofs.lemmas.List.FromFn.{get_or-range_with_len, length-range_with_len}
-use Rattle.std.specs.List.{Contains, filter, flat_map, list_any, range_with_len}
+use Rattle.std.specs.List.{Contains, filter, flat_map, list_any, range_with_len, slice_get}
 
 pub contains_none : {X : Type 0} (x : X) → Contains [] x → ⊥
 contains_none x has = let low = has.1 in omega (arith, low)
@@ -102,3 +102,15 @@ ranged_low first count n has =
 
 pub range_low : (count n : ℕ) → Contains (range_with_len 0 count) n → n < count
 range_low count n has = let low = ranged_low 0 count n has in omega (arith, low)
+
+-- ---- places
+
+pub drop_at : {X : Type 0} (xs : List X) (n : ℕ) (x : X) → slice_get xs n ≡ Some x → drop n xs ≡ x ∷ drop (suc n) xs
+drop_at [] n x e = cc
+drop_at (y ∷ ys) zero x e = let same : y ≡ x = cc in ap (λ z. z ∷ ys) same
+drop_at (y ∷ ys) (suc n) x e = drop_at ys n x e
+
+pub at_contains : {X : Type 0} (xs : List X) (n : ℕ) (x : X) → slice_get xs n ≡ Some x → Contains xs x
+at_contains [] n x e = cc
+at_contains {X} (y ∷ ys) zero x e = let same : y ≡ x = cc in subst (λ (z : X). Contains (y ∷ ys) z) same (Contains-append_left (y ∷ []) ys y (Contains-push [] y))
+at_contains (y ∷ ys) (suc n) x e = Contains-append_right (y ∷ []) ys x (at_contains ys n x e)

@@ -27,7 +27,7 @@ use Rattle.access_history.specs.declared.outcome.Outcome.{Outcome}
 use Rattle.access_history.specs.declared.outcome.Outcome.TheVariants.{Refused}
 use Rattle.access_history.specs.declared.outcome.Request.{Request}
 use Rattle.access_history.proofs.Updates.{leaf_now}
-use Rattle.access_judge.specs.Search.{AreUses, ArePermitted, Found, IsUnfenced, Item, SearchIsExact, Stand, Use, access_fault, ended, is_fenced, is_kind, is_multiple, is_of_group, is_of_now, is_translated_in, is_unread, may_fail, outcomes_by, outcomes_in, page_fault, place_at, place_says, places_say, said, says, search_all, stood, translated, until, update_says, updated_says, updated_words, versions}
+use Rattle.access_judge.specs.Search.{AreUses, ArePermitted, Found, IsUnfenced, Item, SearchIsExact, Stand, Use, access_fault, ended, is_fenced, is_kind, is_multiple, is_of_group, is_of_now, is_translated_in, is_unread, may_fail, outcomes_by, outcomes_in, page_fault, place_at, place_says, places_say, said, says, search_all, stands_now, stood, translated, until, update_says, updated_says, updated_words, versions}
 use Rattle.access_judge.proofs.Ending.{ends_each, ends_only, fail_each, fail_only, is_nowhere, nowhere, says_alike, says_each, says_only}
 use Rattle.access_judge.proofs.Listed.{alone, either, guarded, past_guard}
 use Rattle.access_judge.proofs.Moments.{past_between, past_length, past_trans, until_length, until_past}
@@ -202,9 +202,9 @@ module _ (x : Extensions) (p : Past) (us : List Use) (q : Request)
       (canonical : is_canonical top q.va.0 ≡ true) where
     said_only : (i : Item) (o : Outcome) → Contains (search_all x p.first p.events us q.va.0) i → Contains (said x p q m i) o → Permits x p q o
     said_only (stood s) o has here =
-        let at = guarded (s.last == length p.events && is_unread p q.va.0 s) (access_fault q ∷ []) o here in
-        let both = and_parts (s.last == length p.events) (is_unread p q.va.0 s) at.0 in
-        let stand = stood_only s has (eqb-true s.last (length p.events) both.0) in
+        let at = guarded (stands_now p s && is_unread p q.va.0 s) (access_fault q ∷ []) o here in
+        let both = and_parts (stands_now p s) (is_unread p q.va.0 s) at.0 in
+        let stand = stood_only s has both.0 in
         subst (λ (w : Outcome). Permits x p q w) (alone (access_fault q) o at.1) (
         permits.unread whole mode highest canonical stand.1 (unread_only s stand.0 stand.2 stand.3 both.1))
     said_only (ended c) o has here =
@@ -254,13 +254,13 @@ module _ (x : Extensions) (p : Past) (us : List Use) (q : Request)
       let c = found.0 in
       flat_contains (said x p q m) (search_all x p.first p.events us q.va.0) (ended c) o found.1 (ended_says m c r o serve told found.2 found.3)
 
-  unread_said : (m : Mode) (top : ℕ) (r : Read) → top_of (satp_of p) ≡ Some top → is_canonical top q.va.0 ≡ true → MayStandAt x p q r
+  unread_said : (m : Mode) (r : Read) → MayStandAt x p q r
       → (memory_of p r.table (index_of q r) ≡ None) ⊎ MayFail p privilege.Supervisor access.Load (place q r) 8 → Contains (translated x p us q m) (access_fault q)
-  unread_said m top r highest canonical stands why =
-      let at = stood_each r top highest canonical stands in
+  unread_said m r stands why =
+      let at = stood_each r stands in
       flat_contains (said x p q m) (search_all x p.first p.events us q.va.0) (stood at.0) (access_fault q) at.1 (
-      past_guard (at.0.last == length p.events && is_unread p q.va.0 at.0) (access_fault q ∷ []) (access_fault q)
-      (and_from (at.0.last == length p.events) (is_unread p q.va.0 at.0) (eq-eqb at.0.last (length p.events) at.2) (unread_each at.0 r at.3 at.4 why))
+      past_guard (stands_now p at.0 && is_unread p q.va.0 at.0) (access_fault q ∷ []) (access_fault q)
+      (and_from (stands_now p at.0) (is_unread p q.va.0 at.0) at.2 (unread_each at.0 r at.3 at.4 why))
       (contains_head (access_fault q) []))
 
   -- ---- all outcomes
@@ -303,7 +303,7 @@ module _ (x : Extensions) (p : Past) (us : List Use) (q : Request)
       by_now (mode_of q) (top_of (satp_of p)) m serve.present.0 o mode serve.present.1 (past_canonical m serve.present.0 o serve.present.2 (served_each m r o serve told))
   in_each o whole (permits.unread {mode = m} {r = r} {top = top} is mode highest canonical stands why) =
       by_now (mode_of q) (top_of (satp_of p)) m top (access_fault q) mode highest (past_canonical m top (access_fault q) canonical (
-      unread_said m top r highest canonical stands why))
+      unread_said m r stands why))
 
   misaligned_alone : (o : Outcome) → is_multiple q.va.0 q.width ≡ false → Permits x p q o → o ≡ Refused (misaligned_cause q.kind) None
   misaligned_alone o part (permits.misaligned bad) = refl

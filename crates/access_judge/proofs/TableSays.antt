@@ -1,8 +1,8 @@
 -- What the search says from a table on is what its parts say.
-use Rattle.std.proofs.Common.{◌≡◌, ℕ, suc, zero, List, [], ◌∷◌, ◌++◌, Bool, true, false, Option, None, Some, ◌&&◌, ◌||◌, ◌==◌, ◌-◌, ◌+◌, ◌*◌, ◌/◌, not, map, refl, ap, sym, ◌∙◌, cond, if◌then◌else◌, arith, append_assoc, drop, drop_of_length-le, length, ◌≤◌}
+use Rattle.std.proofs.Common.{◌≡◌, ℕ, suc, zero, List, [], ◌∷◌, ◌++◌, Bool, true, false, Some, ◌&&◌, ◌||◌, ◌==◌, ◌-◌, ◌+◌, ◌*◌, ◌/◌, not, map, refl, ap, sym, ◌∙◌, cond, if◌then◌else◌, arith, append_assoc, drop, drop_of_length-le, length, ◌≤◌}
 use Rattle.std.specs.List.{filter, flat_map, range_with_len, slice_get}
 use Rattle.walk_rules.specs.Addresses.{top_of}
-use Rattle.access_judge.proofs.LatestUse.{drop_at}
+use Rattle.access_judge.proofs.SearchLists.{drop_at}
 use Rattle.std.proofs.lemmas.Bool.{false≢true}
 use Rattle.std.proofs.lemmas.List.{append-nil}
 use Rattle.std.proofs.lemmas.List.Concat.{flat_map-append}
@@ -13,11 +13,10 @@ use Rattle.sv39_entry.specs.declared.entry.Kind.TheVariants.{Invalid, Leaf, Poin
 use Rattle.walk_rules.specs.Kinds.{has_reserved, is_napot, kind_in, reserved_in_pointer}
 use Rattle.walk_rules.specs.declared.extensions.Extensions.{Extensions}
 use Rattle.walk_rules.specs.declared.status.Privilege.TheVariants as privilege
-use Rattle.access_history.specs.Held.{Read}
 use Rattle.access_history.specs.Permits.{Past}
 use Rattle.access_history.specs.declared.outcome.Outcome.{Outcome}
 use Rattle.access_judge.specs.Judging.{entries_say, group_says, item_says, pointer_says, root_says, step_says, table_says, versions_of, word_says, words_say}
-use Rattle.access_judge.specs.Search.{Found, Stand, Use, Version, below_of, ended, follows, found_by, group_versions, is_kind, is_napot_leaf, is_of_epoch, is_pointer, latest, may_pass, own_versions, place_at, reads_at, root_at, said, search, search_from, stand_at, stood, translated, until, versions_at}
+use Rattle.access_judge.specs.Search.{Found, Stand, Use, Version, below_of, ended, found_by, group_versions, is_kind, is_napot_leaf, is_of_epoch, is_pointer, may_pass, own_versions, place_at, reads_at, root_at, said, search, search_from, stood, translated, until, versions_at}
 use Rattle.access_judge.specs.declared.question.Question.{Question}
 
 -- ---- lists
@@ -72,57 +71,57 @@ reads_same f g x p va s same =
 
 -- ---- words
 
-own_word : (a : Question) (p : Past) (us : List Use) (s : Stand) (v : Version)
-    → (if is_of_epoch s (found_by s v) then step_says a p us s (found_by s v) else []) ≡ word_says a p us s false v
+own_word : (a : Question) (p : Past) (s : Stand) (v : Version)
+    → (if is_of_epoch s (found_by s v) then step_says a p s (found_by s v) else []) ≡ word_says a p s false v
 unfolding word_says
-own_word a p us s v = refl
+own_word a p s v = refl
 
 choose_both : (b e : Bool) (os : List Outcome) → (if b then (if e then os else []) else []) ≡ (if b && e then os else [])
 choose_both true e os = refl
 choose_both false e os = refl
 
-napot_word : (a : Question) (p : Past) (us : List Use) (s : Stand) (v : Version)
-    → (if is_napot_leaf a.extensions v then (if is_of_epoch s (found_by s v) then step_says a p us s (found_by s v) else []) else []) ≡ word_says a p us s true v
+napot_word : (a : Question) (p : Past) (s : Stand) (v : Version)
+    → (if is_napot_leaf a.extensions v then (if is_of_epoch s (found_by s v) then step_says a p s (found_by s v) else []) else []) ≡ word_says a p s true v
 unfolding word_says
-napot_word a p us s v = choose_both (is_napot_leaf a.extensions v) (is_of_epoch s (found_by s v)) (step_says a p us s (found_by s v))
+napot_word a p s v = choose_both (is_napot_leaf a.extensions v) (is_of_epoch s (found_by s v)) (step_says a p s (found_by s v))
 
-own_words : (a : Question) (p : Past) (us : List Use) (s : Stand) (vs : List Version)
-    → flat_map (λ v. if is_of_epoch s (found_by s v) then step_says a p us s (found_by s v) else []) vs ≡ words_say a p us s false vs
+own_words : (a : Question) (p : Past) (s : Stand) (vs : List Version)
+    → flat_map (λ v. if is_of_epoch s (found_by s v) then step_says a p s (found_by s v) else []) vs ≡ words_say a p s false vs
 unfolding words_say
-own_words a p us s vs =
-    flat_same (λ v. if is_of_epoch s (found_by s v) then step_says a p us s (found_by s v) else []) (word_says a p us s false) (own_word a p us s) vs
+own_words a p s vs =
+    flat_same (λ v. if is_of_epoch s (found_by s v) then step_says a p s (found_by s v) else []) (word_says a p s false) (own_word a p s) vs
 
-napot_words : (a : Question) (p : Past) (us : List Use) (s : Stand) (vs : List Version)
-    → flat_map (λ v. if is_of_epoch s (found_by s v) then step_says a p us s (found_by s v) else []) (filter (is_napot_leaf a.extensions) vs) ≡ words_say a p us s true vs
+napot_words : (a : Question) (p : Past) (s : Stand) (vs : List Version)
+    → flat_map (λ v. if is_of_epoch s (found_by s v) then step_says a p s (found_by s v) else []) (filter (is_napot_leaf a.extensions) vs) ≡ words_say a p s true vs
 unfolding words_say
-napot_words a p us s vs =
-    flat_filter (λ v. if is_of_epoch s (found_by s v) then step_says a p us s (found_by s v) else []) (is_napot_leaf a.extensions) vs
-    ∙ flat_same (λ v. if is_napot_leaf a.extensions v then (if is_of_epoch s (found_by s v) then step_says a p us s (found_by s v) else []) else [])
-    (word_says a p us s true) (napot_word a p us s) vs
+napot_words a p s vs =
+    flat_filter (λ v. if is_of_epoch s (found_by s v) then step_says a p s (found_by s v) else []) (is_napot_leaf a.extensions) vs
+    ∙ flat_same (λ v. if is_napot_leaf a.extensions v then (if is_of_epoch s (found_by s v) then step_says a p s (found_by s v) else []) else [])
+    (word_says a p s true) (napot_word a p s) vs
 
-group_words : (a : Question) (p : Past) (us : List Use) (s : Stand)
-    → flat_map (λ v. if is_of_epoch s (found_by s v) then step_says a p us s (found_by s v) else []) (group_versions a.extensions p.first p.events a.request.va.0 s)
-    ≡ group_says a p us s (vpn (page_of a.request.va.0) 0 / 16 * 16)
+group_words : (a : Question) (p : Past) (s : Stand)
+    → flat_map (λ v. if is_of_epoch s (found_by s v) then step_says a p s (found_by s v) else []) (group_versions a.extensions p.first p.events a.request.va.0 s)
+    ≡ group_says a p s (vpn (page_of a.request.va.0) 0 / 16 * 16)
 unfolding group_says
-group_words a p us s =
-    let one = λ (v : Version). if is_of_epoch s (found_by s v) then step_says a p us s (found_by s v) else [] in
+group_words a p s =
+    let one = λ (v : Version). if is_of_epoch s (found_by s v) then step_says a p s (found_by s v) else [] in
     let first = vpn (page_of a.request.va.0) 0 / 16 * 16 in
     flat_flat one (λ (n : ℕ). filter (is_napot_leaf a.extensions) (versions_of p s (first + n))) (range_with_len 0 16)
     ∙ flat_same (λ (n : ℕ). flat_map one (filter (is_napot_leaf a.extensions) (versions_of p s (first + n))))
-    (λ (n : ℕ). words_say a p us s true (versions_of p s (first + n))) (λ n. napot_words a p us s (versions_of p s (first + n))) (range_with_len 0 16)
+    (λ (n : ℕ). words_say a p s true (versions_of p s (first + n))) (λ n. napot_words a p s (versions_of p s (first + n))) (range_with_len 0 16)
 
-entries_are : (a : Question) (p : Past) (us : List Use) (s : Stand)
-    → flat_map (λ v. if is_of_epoch s (found_by s v) then step_says a p us s (found_by s v) else []) (versions_at a.extensions p.first p.events a.request.va.0 s)
-    ≡ entries_say a p us s
+entries_are : (a : Question) (p : Past) (s : Stand)
+    → flat_map (λ v. if is_of_epoch s (found_by s v) then step_says a p s (found_by s v) else []) (versions_at a.extensions p.first p.events a.request.va.0 s)
+    ≡ entries_say a p s
 unfolding entries_say
-entries_are a p us s =
-    let one = λ (v : Version). if is_of_epoch s (found_by s v) then step_says a p us s (found_by s v) else [] in
+entries_are a p s =
+    let one = λ (v : Version). if is_of_epoch s (found_by s v) then step_says a p s (found_by s v) else [] in
     let own = own_versions p.first p.events a.request.va.0 s in
     let group = group_versions a.extensions p.first p.events a.request.va.0 s in
     let b = a.extensions.svnapot && s.level == 0 in
     flat_either one b own group
-    ∙ ap (λ (os : List Outcome). os ++ (if b then flat_map one group else [])) (own_words a p us s own)
-    ∙ ap (λ (os : List Outcome). words_say a p us s false own ++ (if b then os else [])) (group_words a p us s)
+    ∙ ap (λ (os : List Outcome). os ++ (if b then flat_map one group else [])) (own_words a p s own)
+    ∙ ap (λ (os : List Outcome). words_say a p s false own ++ (if b then os else [])) (group_words a p s)
 
 -- ---- no pointer stands in a last table
 
@@ -144,97 +143,87 @@ pointer_above x (suc n) w is = (n, refl)
 
 -- ---- the search
 
-stand_flat : (f : ℕ → Stand → List Outcome) (s : Stand) (r : Read) (o : Option Use) (l : ℕ) → r.level - 1 ≡ l
-    → flat_map (f l) (stand_at s r o) ≡ flat_map (λ t. f t.level t) (stand_at s r o)
-stand_flat f s r None l e = refl
-stand_flat f s r (Some u) l e =
-    flat_same (f l) (λ t. f (r.level - 1) t) (λ t. ap (λ (n : ℕ). f n t) (sym e)) (stand_at s r (Some u))
-
 -- what the search says of a PTE, with `levels` levels below it
-goes : (a : Question) (p : Past) (us : List Use) (levels : ℕ) (s : Stand) → s.level ≡ suc levels → (v : Version)
+goes : (a : Question) (p : Past) (levels : ℕ) (s : Stand) → s.level ≡ suc levels → (v : Version)
     → flat_map (said a.extensions p a.request a.mode)
-    (if is_pointer a.extensions (found_by s v) then flat_map (search a.extensions p.first p.events us a.request.va.0 levels) (below_of us a.request.va.0 s (found_by s v).read)
+    (if is_pointer a.extensions (found_by s v) then search a.extensions p.first p.events a.request.va.0 levels (below_of p.events s (found_by s v).read)
     else ended (found_by s v) ∷ [])
-    ≡ step_says a p us s (found_by s v)
+    ≡ step_says a p s (found_by s v)
 unfolding step_says pointer_says table_says item_says
-goes a p us levels s e v = choose (is_pointer a.extensions (found_by s v)) where
+goes a p levels s e v = choose (is_pointer a.extensions (found_by s v)) where
   choose : (b : Bool) → flat_map (said a.extensions p a.request a.mode)
-      (if b then flat_map (search a.extensions p.first p.events us a.request.va.0 levels) (below_of us a.request.va.0 s (found_by s v).read) else ended (found_by s v) ∷ [])
-      ≡ (if b then pointer_says a p us s (found_by s v) else item_says a p (ended (found_by s v)))
+      (if b then search a.extensions p.first p.events a.request.va.0 levels (below_of p.events s (found_by s v).read) else ended (found_by s v) ∷ [])
+      ≡ (if b then pointer_says a p s (found_by s v) else item_says a p (ended (found_by s v)))
   choose true =
-      let say = said a.extensions p a.request a.mode in
-      let down = search a.extensions p.first p.events us a.request.va.0 in
-      let r = (found_by s v).read in
-      let one : s.level - 1 ≡ levels = omega arith in
-      flat_flat say (down levels) (below_of us a.request.va.0 s r)
-      ∙ stand_flat (λ (n : ℕ) (t : Stand). flat_map say (down n t)) s r (latest (follows a.request.va.0 r s.epoch) us) levels one
+      let one : levels ≡ s.level - 1 = omega (arith, e) in
+      ap (λ (n : ℕ). flat_map (said a.extensions p a.request a.mode) (search a.extensions p.first p.events a.request.va.0 n (below_of p.events s (found_by s v).read))) one
   choose false = append-nil (said a.extensions p a.request a.mode (ended (found_by s v)))
 
-ends_here : (a : Question) (p : Past) (us : List Use) (s : Stand) → s.level ≡ 0 → (v : Version)
-    → said a.extensions p a.request a.mode (ended (found_by s v)) ≡ step_says a p us s (found_by s v)
+ends_here : (a : Question) (p : Past) (s : Stand) → s.level ≡ 0 → (v : Version)
+    → said a.extensions p a.request a.mode (ended (found_by s v)) ≡ step_says a p s (found_by s v)
 unfolding step_says item_says
-ends_here a p us s e v =
+ends_here a p s e v =
     let leaf : is_pointer a.extensions (found_by s v) ≡ false = ap (λ (n : ℕ). is_kind (kind_in a.extensions n v.word) Pointer) e ∙ no_pointer a.extensions v.word in
     rw leaf refl
 
-search_says : (a : Question) (p : Past) (us : List Use) (levels : ℕ) (s : Stand) → s.level ≡ levels
-    → flat_map (said a.extensions p a.request a.mode) (search a.extensions p.first p.events us a.request.va.0 levels s)
-    ≡ said a.extensions p a.request a.mode (stood s) ++ flat_map (step_says a p us s) (reads_at a.extensions p.first p.events a.request.va.0 s)
-search_says a p us zero s e =
+search_says : (a : Question) (p : Past) (levels : ℕ) (s : Stand) → s.level ≡ levels
+    → flat_map (said a.extensions p a.request a.mode) (search a.extensions p.first p.events a.request.va.0 levels s)
+    ≡ said a.extensions p a.request a.mode (stood s) ++ flat_map (step_says a p s) (reads_at a.extensions p.first p.events a.request.va.0 s)
+search_says a p zero s e =
     let say = said a.extensions p a.request a.mode in
     ap (λ (os : List Outcome). say (stood s) ++ os)
     (flat_map-map say ended (reads_at a.extensions p.first p.events a.request.va.0 s)
-    ∙ reads_same (λ (c : Found). say (ended c)) (step_says a p us s) a.extensions p a.request.va.0 s (ends_here a p us s e))
-search_says a p us (suc levels) s e =
+    ∙ reads_same (λ (c : Found). say (ended c)) (step_says a p s) a.extensions p a.request.va.0 s (ends_here a p s e))
+search_says a p (suc levels) s e =
     let say = said a.extensions p a.request a.mode in
-    let one = λ (c : Found). if is_pointer a.extensions c then flat_map (search a.extensions p.first p.events us a.request.va.0 levels) (below_of us a.request.va.0 s c.read) else ended c ∷ [] in
+    let one = λ (c : Found). if is_pointer a.extensions c then search a.extensions p.first p.events a.request.va.0 levels (below_of p.events s c.read) else ended c ∷ [] in
     ap (λ (os : List Outcome). say (stood s) ++ os)
     (flat_flat say one (reads_at a.extensions p.first p.events a.request.va.0 s)
-    ∙ reads_same (λ (c : Found). flat_map say (one c)) (step_says a p us s) a.extensions p a.request.va.0 s (goes a p us levels s e))
+    ∙ reads_same (λ (c : Found). flat_map say (one c)) (step_says a p s) a.extensions p a.request.va.0 s (goes a p levels s e))
 
-table_is : (a : Question) (p : Past) (us : List Use) (s : Stand)
-    → table_says a p us s ≡ item_says a p (stood s)
-    ++ (if may_pass p.first (until p.events s.last) privilege.Supervisor access.Load (place_at a.request.va.0 s) 8 then entries_say a p us s else [])
+table_is : (a : Question) (p : Past) (s : Stand)
+    → table_says a p s ≡ item_says a p (stood s)
+    ++ (if may_pass p.first (until p.events s.last) privilege.Supervisor access.Load (place_at a.request.va.0 s) 8 then entries_say a p s else [])
 unfolding table_says item_says
-table_is a p us s =
+table_is a p s =
     let say = said a.extensions p a.request a.mode in
     let pass = may_pass p.first (until p.events s.last) privilege.Supervisor access.Load (place_at a.request.va.0 s) 8 in
-    search_says a p us s.level s refl
-    ∙ ap (λ (os : List Outcome). say (stood s) ++ os) (reads_flat (step_says a p us s) a.extensions p a.request.va.0 s)
-    ∙ ap (λ (os : List Outcome). say (stood s) ++ (if pass then os else [])) (entries_are a p us s)
+    search_says a p s.level s refl
+    ∙ ap (λ (os : List Outcome). say (stood s) ++ os) (reads_flat (step_says a p s) a.extensions p a.request.va.0 s)
+    ∙ ap (λ (os : List Outcome). say (stood s) ++ (if pass then os else [])) (entries_are a p s)
 
-pub table_goes : (a : Question) (p : Past) (us : List Use) (s : Stand)
+pub table_goes : (a : Question) (p : Past) (s : Stand)
     → may_pass p.first (until p.events s.last) privilege.Supervisor access.Load (place_at a.request.va.0 s) 8 ≡ true
-    → item_says a p (stood s) ++ entries_say a p us s ≡ table_says a p us s
-table_goes a p us s e = sym (table_is a p us s ∙ ap (λ (b : Bool). item_says a p (stood s) ++ (if b then entries_say a p us s else [])) e)
+    → item_says a p (stood s) ++ entries_say a p s ≡ table_says a p s
+table_goes a p s e = sym (table_is a p s ∙ ap (λ (b : Bool). item_says a p (stood s) ++ (if b then entries_say a p s else [])) e)
 
-pub table_stops : (a : Question) (p : Past) (us : List Use) (s : Stand)
+pub table_stops : (a : Question) (p : Past) (s : Stand)
     → may_pass p.first (until p.events s.last) privilege.Supervisor access.Load (place_at a.request.va.0 s) 8 ≡ false
-    → item_says a p (stood s) ≡ table_says a p us s
-table_stops a p us s e =
-    sym (table_is a p us s ∙ ap (λ (b : Bool). item_says a p (stood s) ++ (if b then entries_say a p us s else [])) e ∙ append-nil (item_says a p (stood s)))
+    → item_says a p (stood s) ≡ table_says a p s
+table_stops a p s e =
+    sym (table_is a p s ∙ ap (λ (b : Bool). item_says a p (stood s) ++ (if b then entries_say a p s else [])) e ∙ append-nil (item_says a p (stood s)))
 
 -- ---- roots
 
-pub root_goes : (a : Question) (p : Past) (us : List Use) (u : Use) (t : Stand) → root_at a.request.va.0 u (top_of u.satp) ≡ t ∷ [] → table_says a p us t ≡ root_says a p us u
+pub root_goes : (a : Question) (p : Past) (u : Use) (t : Stand) → root_at a.request.va.0 u (top_of u.satp) ≡ t ∷ [] → table_says a p t ≡ root_says a p u
 unfolding root_says
-root_goes a p us u t e = sym (ap (flat_map (table_says a p us)) e ∙ append-nil (table_says a p us t))
+root_goes a p u t e = sym (ap (flat_map (table_says a p)) e ∙ append-nil (table_says a p t))
 
-pub root_stops : (a : Question) (p : Past) (us : List Use) (u : Use) → root_at a.request.va.0 u (top_of u.satp) ≡ [] → [] ≡ root_says a p us u
+pub root_stops : (a : Question) (p : Past) (u : Use) → root_at a.request.va.0 u (top_of u.satp) ≡ [] → [] ≡ root_says a p u
 unfolding root_says
-root_stops a p us u e = sym (ap (flat_map (table_says a p us)) e)
+root_stops a p u e = sym (ap (flat_map (table_says a p)) e)
 
-root_is : (a : Question) (p : Past) (us : List Use) (u : Use)
-    → flat_map (said a.extensions p a.request a.mode) (search_from a.extensions p.first p.events us a.request.va.0 u) ≡ root_says a p us u
+root_is : (a : Question) (p : Past) (u : Use)
+    → flat_map (said a.extensions p a.request a.mode) (search_from a.extensions p.first p.events a.request.va.0 u) ≡ root_says a p u
 unfolding root_says table_says
-root_is a p us u =
-    flat_flat (said a.extensions p a.request a.mode) (λ (s : Stand). search a.extensions p.first p.events us a.request.va.0 s.level s) (root_at a.request.va.0 u (top_of u.satp))
+root_is a p u =
+    flat_flat (said a.extensions p a.request a.mode) (λ (s : Stand). search a.extensions p.first p.events a.request.va.0 s.level s) (root_at a.request.va.0 u (top_of u.satp))
 
-pub roots_are : (a : Question) (p : Past) (us : List Use) → translated a.extensions p us a.request a.mode ≡ flat_map (root_says a p us) us
+pub roots_are : (a : Question) (p : Past) (us : List Use) → translated a.extensions p us a.request a.mode ≡ flat_map (root_says a p) us
 roots_are a p us =
     let say = said a.extensions p a.request a.mode in
-    let from = search_from a.extensions p.first p.events us a.request.va.0 in
-    flat_flat say from us ∙ flat_same (λ (u : Use). flat_map say (from u)) (root_says a p us) (root_is a p us) us
+    let from = search_from a.extensions p.first p.events a.request.va.0 in
+    flat_flat say from us ∙ flat_same (λ (u : Use). flat_map say (from u)) (root_says a p) (root_is a p) us
 
 -- one more of the uses is told of
 pub uses_more : (f : Use → List Outcome) (us : List Use) (n : ℕ) (u : Use) (done all : List Outcome) → slice_get us n ≡ Some u → done ++ flat_map f (drop n us) ≡ all

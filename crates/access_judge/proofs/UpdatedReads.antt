@@ -21,9 +21,7 @@ module _ (x : Extensions) (f : First) (va : ℕ) (e : Event) (k : List Event) (w
     kept = kept_from x f va (with_word r w) h (e ∷ k) at (λ d g in_past behind covered.
         kept_uncovered x f va r h past may.kept d g in_past (past_trans g (e ∷ k) past behind (older since))
         (covered_before x f va r w (set_in x f va e k r w is) is.leaf d g past (e ∷ k) covered));
-    active = may.active;
     allowed = may.allowed;
-    under = may.under;
   }
 
   same_global : (r : Read) → IsUpdate x f va e k r w → has_global r.word ≡ has_global w
@@ -34,13 +32,21 @@ module _ (x : Extensions) (f : First) (va : ℕ) (e : Event) (k : List Event) (w
       → IsHeld x f va h (with_word r w) (e ∷ k)
   held_updated h past r (at_root may root) at since is =
       at_root (may_updated h past r may at since is)
-      (record { highest = root.highest; root = root.root; global = root.global ∙ same_global r is })
+      (record {
+        satp = root.satp;
+        under = root.under;
+        highest = root.highest;
+        canonical = root.canonical;
+        root = root.root;
+        space = root.space;
+        global = root.global ∙ same_global r is;
+      })
   held_updated h past r (below {above = above} up may step) at since is =
       below up (may_updated h past r may at since is) (record {
         pointer = step.pointer;
-        serves = step.serves;
         next_level = step.next_level;
         table = step.table;
+        space = step.space;
         global = step.global ∙ ap (λ b. above.global || b) (same_global r is);
       })
   held_updated h past r (stays was free) now since is = updated was is

@@ -96,26 +96,33 @@ address_fence satp (Fence (Some a) s ∷ h) bits va space =
 
 -- ---- the uses of satp
 
--- a word that satp had, the number of the last fence of its ASID then, and the last moment at which satp had it with no such fence since
+-- the last moment at which a number is that of the last fence of an ASID: right before the next one, or now. 0: it never is
+abbrev pub epoch_end : List Event → ℕ → ℕ → ℕ
+epoch_end [] space epoch = 0
+epoch_end (e ∷ h) space epoch = if space_fence (e ∷ h) space == epoch then suc (length h) else epoch_end h space epoch
+
+-- a word that satp had, the number of the last fence of its ASID then, and the last moment at which a walk that began under it may go on
 pub record Use : Type 0 where
   pub satp : ℕ
   pub epoch : ℕ
   pub last : ℕ
 
--- satp had the word of a use at its last moment
+-- satp had the word of a use at a moment, with no later fence of the ASID until its last one, or now
 abbrev pub IsUse : ℕ → List Event → Use → Type 0
-IsUse satp h u = (u.last ≤ length h) × (satp_at satp (until h u.last) ≡ u.satp) × (space_fence (until h u.last) (asid u.satp) ≡ u.epoch)
+IsUse satp h u =
+    (u.last ≡ epoch_end h (asid u.satp) u.epoch)
+    × ((k : ℕ) × (k ≤ length h) × (satp_at satp (until h k) ≡ u.satp) × (space_fence (until h k) (asid u.satp) ≡ u.epoch))
 
 -- a list has each use of satp, and nothing else
 pub record AreUses (satp : ℕ) (h : List Event) (us : List Use) : Type 0 where
   pub only : (u : Use) → Contains us u → IsUse satp h u
   pub each : (k : ℕ) → k ≤ length h → (u : Use) × Contains us u × (u.satp ≡ satp_at satp (until h k))
-      × (u.epoch ≡ space_fence (until h k) (asid (satp_at satp (until h k)))) × (k ≤ u.last)
+      × (u.epoch ≡ space_fence (until h k) (asid (satp_at satp (until h k))))
 
 -- ---- where a walk may stand
 
--- a walk may be at a table of a level, under an ASID, at a moment and at none after it; by pointers that all were read since the last fence of that ASID then
--- (`epoch`), or by a global one
+-- a walk of an ASID may be at a table of a level, at a moment and at none after it; by pointers that all were read since the last fence of that ASID
+-- then (`epoch`), or by a global one
 pub record Stand : Type 0 where
   pub level : ℕ
   pub table : ℕ
@@ -124,31 +131,13 @@ pub record Stand : Type 0 where
   pub epoch : ℕ
   pub last : ℕ
 
--- an address is translated under a use of satp: it is canonical
-abbrev pub is_translated_in : Option ℕ → ℕ → Bool
-is_translated_in None va = false
-is_translated_in (Some top) va = is_canonical top va
+-- a walk goes on by a global pointer until now, and by another until a fence of the ASID
+abbrev pub last_below : List Event → Stand → Read → ℕ
+last_below h s r = if r.global then length h else s.last
 
--- a use of satp at which a pointer of an ASID and an epoch, or a global one, may be followed
-abbrev pub follows : ℕ → Read → ℕ → Use → Bool
-follows va r epoch u = is_translated_in (top_of u.satp) va && (r.global || (asid u.satp == r.asid && u.epoch == epoch))
-
-abbrev pub later : Use → Option Use → Use
-later u None = u
-later u (Some v) = if nat_le v.last u.last then u else v
-
--- of the uses that pass, one with the latest last moment
-abbrev pub latest : (Use → Bool) → List Use → Option Use
-latest test [] = None
-latest test (u ∷ us) = if test u then Some (later u (latest test us)) else latest test us
-
--- the stand to which a pointer leads, at the latest use of satp at which it may be followed
-abbrev pub stand_at : Stand → Read → Option Use → List Stand
-stand_at s r None = []
-stand_at s r (Some u) = record { level = r.level - 1; table = ppn r.word; asid = asid u.satp; global = r.global; epoch = s.epoch; last = u.last } ∷ []
-
-abbrev pub below_of : List Use → ℕ → Stand → Read → List Stand
-below_of us va s r = stand_at s r (latest (follows va r s.epoch) us)
+-- the stand to which a pointer leads
+abbrev pub below_of : List Event → Stand → Read → Stand
+below_of h s r = record { level = r.level - 1; table = ppn r.word; asid = r.asid; global = r.global; epoch = s.epoch; last = last_below h s r }
 
 -- the stand at the root under a use of satp
 abbrev pub root_at : ℕ → Use → Option ℕ → List Stand
@@ -225,16 +214,16 @@ abbrev pub is_pointer : Extensions → Found → Bool
 is_pointer x c = is_kind (kind_in x c.read.level c.read.word) Pointer
 
 -- from a stand on, which has `levels` levels below it
-abbrev pub search : Extensions → First → List Event → List Use → ℕ → ℕ → Stand → List Item
-search x f h us va zero s = stood s ∷ map ended (reads_at x f h va s)
-search x f h us va (suc levels) s =
-    stood s ∷ flat_map (λ c. if is_pointer x c then flat_map (search x f h us va levels) (below_of us va s c.read) else ended c ∷ []) (reads_at x f h va s)
+abbrev pub search : Extensions → First → List Event → ℕ → ℕ → Stand → List Item
+search x f h va zero s = stood s ∷ map ended (reads_at x f h va s)
+search x f h va (suc levels) s =
+    stood s ∷ flat_map (λ c. if is_pointer x c then search x f h va levels (below_of h s c.read) else ended c ∷ []) (reads_at x f h va s)
 
-abbrev pub search_from : Extensions → First → List Event → List Use → ℕ → Use → List Item
-search_from x f h us va u = flat_map (λ s. search x f h us va s.level s) (root_at va u (top_of u.satp))
+abbrev pub search_from : Extensions → First → List Event → ℕ → Use → List Item
+search_from x f h va u = flat_map (λ s. search x f h va s.level s) (root_at va u (top_of u.satp))
 
 abbrev pub search_all : Extensions → First → List Event → List Use → ℕ → List Item
-search_all x f h us va = flat_map (search_from x f h us va) us
+search_all x f h us va = flat_map (search_from x f h va) us
 
 -- ---- what may still be held
 
@@ -260,6 +249,11 @@ abbrev pub is_fenced : Extensions → First → List Event → ℕ → Found →
 is_fenced x f h va c =
     is_fenced_by x f h va c (address_fence f.satp h (page_bits c.read.level) va (space_of c.read))
     || (not c.read.global && nat_lt c.last (space_fence h c.read.asid))
+
+-- an address is translated under a word of satp: it is canonical
+abbrev pub is_translated_in : Option ℕ → ℕ → Bool
+is_translated_in None va = false
+is_translated_in (Some top) va = is_canonical top va
 
 -- a PTE serves under satp as it is: the address is canonical, and the PTE is of the present ASID or global
 abbrev pub is_of_now : ℕ → ℕ → Read → Bool
@@ -352,9 +346,13 @@ is_unread p va s =
     not (is_some (memory_of p s.table (vpn (page_of va) s.level)))
     || may_fail p.first p.events privilege.Supervisor access.Load (place_at va s) 8
 
+-- a walk of the present satp may be at a stand now
+abbrev pub stands_now : Past → Stand → Bool
+stands_now p s = s.last == length p.events && (s.asid == asid (satp_of p) || s.global)
+
 -- what an item of the search says
 abbrev pub said : Extensions → Past → Request → Mode → Item → List Outcome
-said x p q m (stood s) = if s.last == length p.events && is_unread p q.va.0 s then access_fault q ∷ [] else []
+said x p q m (stood s) = if stands_now p s && is_unread p q.va.0 s then access_fault q ∷ [] else []
 said x p q m (ended c) =
     if is_of_now (satp_of p) q.va.0 c.read && not (is_fenced x p.first p.events q.va.0 c) then says x p q m c.read ++ updated_says x p q m c else []
 

@@ -3,18 +3,18 @@
 ghost use Rattle.std.specs.Prelude.{◌≡◌, ◌<◌, ◌≤◌, ◌&&◌, length, nat_lt, not};
 ghost use Rattle.sv39_entry.specs.declared.entry.Kind.TheVariants.{Leaf};
 ghost use Rattle.access_history.specs.Held.{page_bits};
+ghost use Rattle.walk_rules.specs.Addresses.{top_of};
 ghost use Rattle.walk_rules.specs.Kinds.{is_napot, kind_in};
 ghost use Rattle.access_judge.specs.Judging.{IsStep, found_of, item_says};
-ghost use Rattle.access_judge.specs.Search.{address_fence, became_leaf, ended, is_fenced, is_fenced_by, is_kind, is_of_now, space_fence, space_of};
+ghost use Rattle.access_judge.specs.Search.{address_fence, became_leaf, ended, is_fenced, is_fenced_by, is_kind, is_of_now, is_translated_in, space_fence, space_of};
 
 use crate::log::Log;
 use crate::question::Question;
 use crate::saying::say;
-use crate::search::is_translated;
 use crate::sink::{Sink, Step};
 use crate::updated::say_updated;
 use sv39_entry::{Entry, Kind, Satp, Va};
-use walk_rules::reach;
+use walk_rules::{is_canonical, reach, top_level};
 
 /// Tells what an entry that is no pointer says, if it may serve the access.
 #[tactic(auto, unfolding(crate::specs::Judging::item_says))]
@@ -25,6 +25,16 @@ pub(crate) fn judge<L: Log, S: Sink>(log: &L, question: &Question, step: &Step, 
     if is_of_now(log.satp(), question.request.va, step) && !is_fenced(log, question, step) {
         say(log, question, step, sink);
         say_updated(log, question, step, sink);
+    }
+}
+
+/// Whether a word of satp translates an address: it is canonical.
+fn is_translated(satp: Satp, va: Va) -> bool
+    ensures { result ≡ is_translated_in (top_of satp) va.0 }
+{
+    match top_level(satp) {
+        None => false,
+        Some(top) => is_canonical(top, va),
     }
 }
 

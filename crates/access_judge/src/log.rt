@@ -22,7 +22,7 @@ pub struct PastSatp {
     pub satp: Satp,
     /// The number of the last fence of its ASID, with rs1 = x0, at that time. 0: there was none.
     pub epoch: usize,
-    /// The last moment at which satp had the word with no such fence since.
+    /// The last moment at which a walk that began under the word may go on: right before the next such fence, or now.
     pub last: usize,
 }
 

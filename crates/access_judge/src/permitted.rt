@@ -124,7 +124,7 @@ fn search_from<L: Log, S: Sink>(
     sink: &mut S,
 )
     requires { root.last ≤ length (L.past log.now).events }
-    ensures { Sifts S.gains S.has (table_says question.now (L.past log.now) (L.uses_of log.now)) sink.old seen.old (root_says question.now (L.past log.now) (L.uses_of log.now) (use_of root)) sink.new seen.new }
+    ensures { Sifts S.gains S.has (table_says question.now (L.past log.now)) sink.old seen.old (root_says question.now (L.past log.now) (use_of root)) sink.new seen.new }
 {
     if let Some(table) = root_table(question, &root) {
         sink.begin(root);

@@ -5,25 +5,23 @@ ghost use Rattle.std.specs.Prelude.{◌≡◌, ◌<◌, ◌≤◌, ◌^◌, ◌=
 ghost use Rattle.sv39_entry.specs.declared.access.Access.TheVariants as access;
 ghost use Rattle.walk_rules.specs.declared.status.Privilege.TheVariants as privilege;
 ghost use Rattle.sv39_entry.specs.declared.entry.Kind.TheVariants.{Leaf};
-ghost use Rattle.walk_rules.specs.Addresses.{top_of};
 ghost use Rattle.walk_rules.specs.Kinds.{is_napot, kind_in};
 ghost use Rattle.access_history.specs.Held.{has_global};
 ghost use Rattle.access_judge.specs.Judging.{counts, IsStep, IsTable, entries_say, found_of, group_says, index_at, item_says, pointer_says};
-ghost use Rattle.access_judge.specs.Judging.{stand_of, step_says, IsBelowTable, IsLatestIfSome, table_says, use_if, versions_of, word_says, words_say};
-ghost use Rattle.access_judge.specs.Log.{use_of};
+ghost use Rattle.access_judge.specs.Judging.{stand_of, step_says, IsBelowTable, table_says, versions_of, word_says, words_say};
 ghost use Rattle.access_judge.specs.Older.{HidesOlder};
 ghost use Rattle.access_judge.specs.Sifting.{Sifts};
-ghost use Rattle.access_judge.specs.Search.{below_of, found_by, follows, is_translated_in, is_kind, is_pointer, is_unread, later, latest, may_pass, place_at, stood, until};
+ghost use Rattle.access_judge.specs.Search.{below_of, found_by, is_kind, is_pointer, is_unread, may_pass, place_at, stands_now, stood, until};
 
 use crate::judge::{is_leaf, is_napot, judge};
-use crate::log::{Log, PastSatp};
+use crate::log::Log;
 use crate::present::fails_now;
 use crate::question::{Question, Table, access_fault};
 use crate::seen::Seen;
 use crate::sink::{Sink, Step};
 use bitflags::Flags;
-use sv39_entry::{Access, Entry, EntryFlags, Kind, PAGE_SIZE, Satp, Va};
-use walk_rules::{Privilege, is_canonical, top_level};
+use sv39_entry::{Access, Entry, EntryFlags, Kind, PAGE_SIZE};
+use walk_rules::Privilege;
 
 /// Tells what walks come to from a table on.
 #[cycle(walks)]
@@ -35,7 +33,7 @@ pub(crate) fn search_table<L: Log, S: Sink>(
     sink: &mut S,
 )
     requires { IsTable (L.past log.now) table.now }
-    ensures { Sifts S.gains S.has (table_says question.now (L.past log.now) (L.uses_of log.now)) sink.old seen.old (table_says question.now (L.past log.now) (L.uses_of log.now) (stand_of table.now)) sink.new seen.new }
+    ensures { Sifts S.gains S.has (table_says question.now (L.past log.now)) sink.old seen.old (table_says question.now (L.past log.now) (stand_of table.now)) sink.new seen.new }
 {
     tell_unread(log, question, table, sink);
     if is_readable(log, question, table) {
@@ -84,13 +82,20 @@ fn is_unread<L: Log>(log: &L, question: &Question, table: &Table) -> bool
         )
 }
 
+/// Whether a walk of the present satp may be at a table now.
+fn stands_now<L: Log>(log: &L, table: &Table) -> bool
+    ensures { result ≡ stands_now (L.past log.now) (stand_of table.now) }
+{
+    table.last == log.now() && (table.asid == log.satp().asid() || table.global)
+}
+
 /// Tells of the access fault if the PTE may be unreadable now.
 #[tactic(auto, unfolding(crate::specs::Judging::item_says))]
 fn tell_unread<L: Log, S: Sink>(log: &L, question: &Question, table: &Table, sink: &mut S)
     requires { IsTable (L.past log.now) table.now }
     ensures { S.gains sink.old (item_says question.now (L.past log.now) (stood (stand_of table.now))) sink.new }
 {
-    if table.last == log.now() && is_unread(log, question, table) {
+    if stands_now(log, table) && is_unread(log, question, table) {
         sink.tell(access_fault(&question.request));
     }
 }
@@ -105,7 +110,7 @@ fn search_entries<L: Log, S: Sink>(
     sink: &mut S,
 )
     requires { IsTable (L.past log.now) table.now }
-    ensures { Sifts S.gains S.has (table_says question.now (L.past log.now) (L.uses_of log.now)) sink.old seen.old (entries_say question.now (L.past log.now) (L.uses_of log.now) (stand_of table.now)) sink.new seen.new }
+    ensures { Sifts S.gains S.has (table_says question.now (L.past log.now)) sink.old seen.old (entries_say question.now (L.past log.now) (stand_of table.now)) sink.new seen.new }
 {
     let index = index_in(question, table);
     search_words(log, question, table, index, false, seen, sink);
@@ -133,7 +138,7 @@ fn search_group<L: Log, S: Sink>(
 )
     requires table { IsTable (L.past log.now) table.now }
     requires in_frame { first ≤ 496 }
-    ensures { Sifts S.gains S.has (table_says question.now (L.past log.now) (L.uses_of log.now)) sink.old seen.old (group_says question.now (L.past log.now) (L.uses_of log.now) (stand_of table.now) first) sink.new seen.new }
+    ensures { Sifts S.gains S.has (table_says question.now (L.past log.now)) sink.old seen.old (group_says question.now (L.past log.now) (stand_of table.now) first) sink.new seen.new }
 {
     'group: for number in 0..16 {
         search_words(log, question, table, first + number, true, seen, sink);
@@ -153,7 +158,7 @@ fn search_words<L: Log, S: Sink>(
 )
     requires table { IsTable (L.past log.now) table.now }
     requires in_frame { index < 512 }
-    ensures { Sifts S.gains S.has (table_says question.now (L.past log.now) (L.uses_of log.now)) sink.old seen.old (words_say question.now (L.past log.now) (L.uses_of log.now) (stand_of table.now) napot (versions_of (L.past log.now) (stand_of table.now) index)) sink.new seen.new }
+    ensures { Sifts S.gains S.has (table_says question.now (L.past log.now)) sink.old seen.old (words_say question.now (L.past log.now) (stand_of table.now) napot (versions_of (L.past log.now) (stand_of table.now) index)) sink.new seen.new }
 {
     let mut moment = table.last;
     'words: while let Some(version) = log.word_at(table.ppn, index, moment) {
@@ -211,7 +216,7 @@ fn search_word<L: Log, S: Sink>(
 )
     requires table { IsTable (L.past log.now) table.now }
     requires last { last ≤ length (L.past log.now).events }
-    ensures { Sifts S.gains S.has (table_says question.now (L.past log.now) (L.uses_of log.now)) sink.old seen.old (word_says question.now (L.past log.now) (L.uses_of log.now) (stand_of table.now) napot (record { word = word; last = last })) sink.new seen.new }
+    ensures { Sifts S.gains S.has (table_says question.now (L.past log.now)) sink.old seen.old (word_says question.now (L.past log.now) (stand_of table.now) napot (record { word = word; last = last })) sink.new seen.new }
 {
     let step = step_of(table, index, Entry::from_word(word), last);
     if counts(question, table, &step, napot) {
@@ -233,7 +238,7 @@ fn search_step<L: Log, S: Sink>(
     requires table { IsTable (L.past log.now) table.now }
     requires step { IsStep (L.past log.now) step.now }
     requires same { step.now.level ≡ table.now.level }
-    ensures { Sifts S.gains S.has (table_says question.now (L.past log.now) (L.uses_of log.now)) sink.old seen.old (step_says question.now (L.past log.now) (L.uses_of log.now) (stand_of table.now) (found_of step.now)) sink.new seen.new }
+    ensures { Sifts S.gains S.has (table_says question.now (L.past log.now)) sink.old seen.old (step_says question.now (L.past log.now) (stand_of table.now) (found_of step.now)) sink.new seen.new }
 {
     if is_pointer(question, step) {
         search_below(log, question, table, step, seen, sink);
@@ -256,11 +261,10 @@ fn search_below<L: Log, S: Sink>(
     requires step { IsStep (L.past log.now) step.now }
     requires same { step.now.level ≡ table.now.level }
     requires pointer { is_pointer question.now.extensions (found_of step.now) ≡ true }
-    ensures { Sifts S.gains S.has (table_says question.now (L.past log.now) (L.uses_of log.now)) sink.old seen.old (pointer_says question.now (L.past log.now) (L.uses_of log.now) (stand_of table.now) (found_of step.now)) sink.new seen.new }
+    ensures { Sifts S.gains S.has (table_says question.now (L.past log.now)) sink.old seen.old (pointer_says question.now (L.past log.now) (stand_of table.now) (found_of step.now)) sink.new seen.new }
 {
-    if let Some(below) = table_below(log, question, table, step) {
-        search_once(log, question, &below, seen, sink);
-    }
+    let below = table_below(log, question, table, step);
+    search_once(log, question, &below, seen, sink);
 }
 
 /// Tells what walks come to from a table on, if it was not searched before.
@@ -273,7 +277,7 @@ fn search_once<L: Log, S: Sink>(
     sink: &mut S,
 )
     requires { IsTable (L.past log.now) table.now }
-    ensures { Sifts S.gains S.has (table_says question.now (L.past log.now) (L.uses_of log.now)) sink.old seen.old (table_says question.now (L.past log.now) (L.uses_of log.now) (stand_of table.now)) sink.new seen.new }
+    ensures { Sifts S.gains S.has (table_says question.now (L.past log.now)) sink.old seen.old (table_says question.now (L.past log.now) (stand_of table.now)) sink.new seen.new }
 {
     if seen.has(table) {
         return;
@@ -300,24 +304,21 @@ fn counts(question: &Question, table: &Table, step: &Step, napot: bool) -> bool
     (!napot || is_napot_leaf(question, step.entry)) && (step.global || table.epoch <= step.last)
 }
 
-/// Returns the table to which a pointer leads, at the latest moment at which it may be followed.
-fn table_below<L: Log>(log: &L, question: &Question, table: &Table, step: &Step) -> Option<Table>
+/// Returns the table to which a pointer leads, until the last moment at which a walk may go on by it.
+fn table_below<L: Log>(log: &L, question: &Question, table: &Table, step: &Step) -> Table
     requires table { IsTable (L.past log.now) table.now }
     requires step { IsStep (L.past log.now) step.now }
     requires same { step.now.level ≡ table.now.level }
     requires pointer { is_pointer question.now.extensions (found_of step.now) ≡ true }
-    ensures { IsBelowTable (L.past log.now) (below_of (L.uses_of log.now) question.now.request.va.0 (stand_of table.now) (found_of step.now).read) table.now.level result }
+    ensures { IsBelowTable (L.past log.now) (below_of (L.past log.now).events (stand_of table.now) (found_of step.now).read) table.now.level result }
 {
-    match latest(log, question.request.va, step, table.epoch) {
-        None => None,
-        Some(root) => Some(Table {
-            level: step.level - 1,
-            ppn: step.entry.ppn(),
-            asid: root.satp.asid(),
-            global: step.global,
-            epoch: table.epoch,
-            last: root.last,
-        }),
+    Table {
+        level: step.level - 1,
+        ppn: step.entry.ppn(),
+        asid: step.asid,
+        global: step.global,
+        epoch: table.epoch,
+        last: if step.global { log.now() } else { table.last },
     }
 }
 
@@ -355,71 +356,4 @@ fn has_global(entry: Entry) -> bool
     ensures { result ≡ has_global entry }
 {
     entry.has(EntryFlags::VALID) && entry.has(EntryFlags::GLOBAL)
-}
-
-/// Of the words that satp had by which a pointer may be followed, returns one of the latest moment.
-fn latest<L: Log>(log: &L, va: Va, step: &Step, epoch: usize) -> Option<PastSatp>
-    ensures { use_if result ≡ latest (follows va.0 (found_of step.now).read epoch) (L.uses_of log.now) }
-{
-    match present(log, va, step, epoch) {
-        None => latest_of_all(log, va, step, epoch),
-        found => found,
-    }
-}
-
-/// Returns the first word of satp if it is the present one and the pointer may be followed by it: no other is of a later moment.
-fn present<L: Log>(log: &L, va: Va, step: &Step, epoch: usize) -> Option<PastSatp>
-    ensures { IsLatestIfSome (latest (follows va.0 (found_of step.now).read epoch) (L.uses_of log.now)) result }
-{
-    if log.use_count() == 0 {
-        return None;
-    }
-    let root = log.use_at(0);
-    if root.last == log.now() && follows(va, step, epoch, &root) {
-        Some(root)
-    } else {
-        None
-    }
-}
-
-/// Looks at all words that satp had.
-fn latest_of_all<L: Log>(log: &L, va: Va, step: &Step, epoch: usize) -> Option<PastSatp>
-    ensures { use_if result ≡ latest (follows va.0 (found_of step.now).read epoch) (L.uses_of log.now) }
-{
-    let mut best: Option<PastSatp> = None;
-    'uses: for number in (0..log.use_count()).rev() {
-        let root = log.use_at(number);
-        if follows(va, step, epoch, &root) {
-            best = Some(later(root, best));
-        }
-    }
-    best
-}
-
-/// Returns the one of the later moment; of the same, the first.
-fn later(root: PastSatp, best: Option<PastSatp>) -> PastSatp
-    ensures { use_of result ≡ later (use_of root) (use_if best) }
-{
-    match best {
-        Some(other) if root.last < other.last => other,
-        _ => root,
-    }
-}
-
-/// Whether a word of satp translates an address: it is canonical.
-pub(crate) fn is_translated(satp: Satp, va: Va) -> bool
-    ensures { result ≡ is_translated_in (top_of satp) va.0 }
-{
-    match top_level(satp) {
-        None => false,
-        Some(top) => is_canonical(top, va),
-    }
-}
-
-/// Whether a pointer of an ASID and epoch, or a global one, may be followed by a word that satp had.
-fn follows(va: Va, step: &Step, epoch: usize, root: &PastSatp) -> bool
-    ensures { result ≡ follows va.0 (found_of step.now).read epoch (use_of root.now) }
-{
-    is_translated(root.satp, va)
-        && (step.global || (root.satp.asid() == step.asid && root.epoch == epoch))
 }

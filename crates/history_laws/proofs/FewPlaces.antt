@@ -1,12 +1,12 @@
 -- A hart that keeps at most five PTEs for an address, one for each level, may come to keep each PTE that may be held.
-use Rattle.std.proofs.Common.{◌≡◌, ℕ, ◌+◌, ◌≤◌, ◌==◌, Bool, true, false, subst, inl, inr, arith, None, Some, List, [], ◌∷◌, ◌++◌, length, if◌then◌else◌}
+use Rattle.std.proofs.Common.{ℕ, ◌+◌, ◌≤◌, subst, inl, inr, arith, List, [], ◌∷◌, ◌++◌, length}
 use Rattle.std.proofs.lemmas.List.{length_push}
 use Rattle.std.proofs.lemmas.List.Elements.{Contains-push, Contains-push_cases}
 use Rattle.std.specs.List.{Contains}
 use Rattle.walk_rules.specs.declared.extensions.Extensions.{Extensions}
 use Rattle.access_history.specs.Harts.{IsLeft, Kept, Runs, happens, kept, reads, starts}
 use Rattle.access_history.specs.Held.{IsHeld, Read, at_root, below, stays, updated, with_word}
-use Rattle.access_history.specs.History.{First, satp_at}
+use Rattle.access_history.specs.History.{First}
 use Rattle.access_history.specs.Permits.{Past, Permits}
 use Rattle.access_history.specs.Permits as permits
 use Rattle.access_history.specs.declared.event.Event.{Event}
@@ -35,7 +35,7 @@ module _ (x : Extensions) (f : First) (va : ℕ) where
   keeps : (h past : List Event) (r : Read) → IsHeld x f va h r past → Keeps h past r
   keeps h past r (at_root may root) =
       let rest = empty h in
-      let few = top_low (satp_at f.satp h) r.level root.highest in
+      let few = top_low root.satp r.level root.highest in
       (kept r past ∷ [], (reads rest.0 may (inl root), (rest.1, omega arith)), Contains-push [] (kept r past), omega (arith, few))
   keeps h past r (below {since = since} {above = above} was may step) =
       let up = keeps h since above was in
@@ -86,7 +86,8 @@ module _ (x : Extensions) (p : Past) (q : Request) where
         hart.1.1,
         served {c = kept r serves.since} whole mode (record { keeps = hart.2; present = serves.present; space = serves.space; last = serves.last }) says,
       )
-  of_small o (permits.unread whole mode top canonical (permits.at_root root) why) = nothing_kept o (unread whole mode top canonical (answers.at_root root) why)
-  of_small o (permits.unread whole mode top canonical (permits.below {above = above} {since = since} held step) why) =
+  of_small o (permits.unread whole mode top canonical (permits.at_root root own) why) =
+      nothing_kept o (unread whole mode top canonical (answers.at_root root own) why)
+  of_small o (permits.unread whole mode top canonical (permits.below {above = above} {since = since} held step serves) why) =
       let hart = keeps x p.first q.va.0 p.events since above held in
-      (hart.0, hart.1.0, hart.1.1, unread whole mode top canonical (answers.below hart.2 step) why)
+      (hart.0, hart.1.0, hart.1.1, unread whole mode top canonical (answers.below hart.2 step serves) why)

@@ -25,8 +25,8 @@ module _ (x : Extensions) (p : Past) (q : Request) where
   no_cache = empty x p.first q.va.0 p.events
 
   stands : (cs : List Kept) → Runs x p.first q.va.0 p.events cs → (r : Read) → WalksAt x p q cs r → MayStandAt x p q r
-  stands cs run r (at_root root) = permits.at_root root
-  stands cs run r (below {c = c} has is) = permits.below (runs_held x p.first q.va.0 p.events cs run c has) is
+  stands cs run r (at_root root own) = permits.at_root root own
+  stands cs run r (below {c = c} has is serves) = permits.below (runs_held x p.first q.va.0 p.events cs run c has) is serves
 
   answered : (cs : List Kept) → Runs x p.first q.va.0 p.events cs → (o : Outcome) → MayAnswer x p q cs o → Permits x p q o
   answered cs run o (misaligned odd) = permits.misaligned odd
@@ -37,10 +37,10 @@ module _ (x : Extensions) (p : Past) (q : Request) where
   answered cs run o (unread {r = r} whole mode top canonical walks why) = permits.unread whole mode top canonical (stands cs run r walks) why
 
   walks : (r : Read) → MayStandAt x p q r → (cs : List Kept) × Runs x p.first q.va.0 p.events cs × WalksAt x p q cs r
-  walks r (permits.at_root root) = ([], no_cache, at_root root)
-  walks r (permits.below {above = above} {since = since} held is) =
+  walks r (permits.at_root root own) = ([], no_cache, at_root root own)
+  walks r (permits.below {above = above} {since = since} held is serves) =
       let hart = held_runs x p.first q.va.0 p.events since above held in
-      (hart.0, hart.1, below hart.2 is)
+      (hart.0, hart.1, below hart.2 is serves)
 
   permitted : (o : Outcome) → Permits x p q o → Some_hart o
   permitted o (permits.misaligned odd) = ([], no_cache, misaligned odd)

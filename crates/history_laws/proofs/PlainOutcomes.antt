@@ -28,7 +28,7 @@ use Rattle.walk_rules.specs.declared.extensions.Extensions.{Extensions}
 use Rattle.walk_rules.specs.declared.memory_type.MemoryType.{MemoryType}
 use Rattle.walk_rules.specs.declared.memory_type.MemoryType.TheVariants.{Pma}
 use Rattle.walk_rules.specs.declared.status.Privilege.TheVariants as privilege
-use Rattle.access_history.specs.Held.{IsHeld, Read, has_global, read_of}
+use Rattle.access_history.specs.Held.{IsUnder, is_active, IsHeld, Read, has_global, read_of}
 use Rattle.access_history.specs.History.{Memory}
 use Rattle.access_history.specs.Permits.{Allows, Ends, MayStandAt, MayUpdate, Past, Permits, Says, Serves, is_there, memory_of, satp_of}
 use Rattle.access_history.specs.Permits as permits
@@ -139,9 +139,10 @@ module _ (x : Extensions) (plain : IsPlainHart x) (p : Past) (free : p.first.pmp
   abbrev WasRead : Read → Type 0
   WasRead r = IsRead p.first q.va.0 p.events s r
 
-  -- each PTE that a hart may hold and use is one that the walk reads now
-  abbrev pub AllRead : Type 0
-  AllRead = (past : List Event) (r : Read) → IsHeld x p.first q.va.0 p.events r past → (r.asid ≡ asid (satp_of p)) ⊎ (r.global ≡ true) → WasRead r
+  -- each PTE that a hart may hold and use is one that the walk reads now, and each walk of the present ASID is one under the present satp
+  pub record AllRead : Type 0 where
+    pub read : (past : List Event) (r : Read) → IsHeld x p.first q.va.0 p.events r past → (r.asid ≡ asid (satp_of p)) ⊎ (r.global ≡ true) → WasRead r
+    pub own : (satp : ℕ) → IsUnder p.first satp p.events → asid satp ≡ asid (satp_of p) → satp ≡ satp_of p
 
   page_fault : NoLeafThere → Walked (Refused (page_fault_cause q.kind) None)
   page_fault none = (walk.PageFault (page_fault_cause q.kind), (refl, inl (inr none)), refl)
@@ -217,29 +218,34 @@ module _ (x : Extensions) (plain : IsPlainHart x) (p : Past) (free : p.first.pmp
   -- a table at which the walk may be now
   stood : (r : Read) → AllRead → MayStandAt x p q r → (r.level ≤ top_level s)
       × IsAt s (memory_of p) (root_ppn (satp_of p)) (page_of q.va.0) (top_level s - r.level) r.table
-  stood r held_is_read (permits.at_root root) = table_at_root p.first q.va.0 p.events s r.level r.table is root.highest root.root
-  stood r held_is_read (permits.below {above = above} {since = since} was step) =
-      table_below x plain p.first q.va.0 p.events s above r.level r.table (held_is_read since above was step.serves)
-      step.pointer step.next_level step.table
+  stood r all (permits.at_root root present) =
+      let own = all.own root.satp root.under (sym root.space ∙ present) in
+      table_at_root p.first q.va.0 p.events s r.level r.table is (ap top_of (sym own) ∙ root.highest) (root.root ∙ ap root_ppn own)
+  stood r all (permits.below {above = above} {since = since} was step serves) =
+      let of_now = elim serves as (λ _. (above.asid ≡ asid (satp_of p)) ⊎ (above.global ≡ true)) [
+        | inl same ↦ inl (sym step.space ∙ same)
+        | inr global ↦ inr global
+      ] in
+      table_below x plain p.first q.va.0 p.events s above r.level r.table (all.read since above was of_now) step.pointer step.next_level step.table
 
   pub is_walked : x.ad ≡ Svade → AllRead → (o : Outcome) → Permits x p q o → Walked o
-  is_walked svade held_is_read o (permits.misaligned odd) = absurd (odd access.whole)
-  is_walked svade held_is_read o (permits.untranslated whole (inl machine) ends) = absurd (let bad : Some mode ≡ None = sym access.translated ∙ machine in cc)
-  is_walked svade held_is_read o (permits.untranslated whole (inr bare) ends) = absurd (let bad : Some (top_level s) ≡ None = sym (top_is (satp_of p) s is) ∙ bare in cc)
-  is_walked svade held_is_read o (permits.not_canonical {top = top} whole translated highest bad) =
+  is_walked svade all_read o (permits.misaligned odd) = absurd (odd access.whole)
+  is_walked svade all_read o (permits.untranslated whole (inl machine) ends) = absurd (let bad : Some mode ≡ None = sym access.translated ∙ machine in cc)
+  is_walked svade all_read o (permits.untranslated whole (inr bare) ends) = absurd (let bad : Some (top_level s) ≡ None = sym (top_is (satp_of p) s is) ∙ bare in cc)
+  is_walked svade all_read o (permits.not_canonical {top = top} whole translated highest bad) =
       (walk.PageFault (page_fault_cause q.kind), (refl, inl (inl (canonical_by top false highest bad))), refl)
-  is_walked svade held_is_read o (permits.served {mode = other} {r = r} whole translated serves says) =
+  is_walked svade all_read o (permits.served {mode = other} {r = r} whole translated serves says) =
       let same = same_Some other mode (sym translated ∙ access.translated) in
-      let read = held_is_read serves.since r serves.held serves.space in
+      let read = all_read.read serves.since r serves.held serves.space in
       said r read (canonical_by serves.present.0 true serves.present.1 serves.present.2) svade o serves.last
       (subst (λ (m : Mode). Says x p q m r o) same says)
-  is_walked svade held_is_read o (permits.unread {r = r} {top = top} whole translated highest canonical stands (inl gone)) =
-      let at = stood r held_is_read stands in (
+  is_walked svade all_read o (permits.unread {r = r} {top = top} whole translated highest canonical stands (inl gone)) =
+      let at = stood r all_read stands in (
         walk.AccessFault (access_fault_cause q.kind),
         (refl, inl (canonical_by top true highest canonical, (r.level, record { low = at.0; table = r.table; way = at.1; read = gone }))),
         refl,
       )
-  is_walked svade held_is_read o (permits.unread whole translated highest canonical stands (inr fails)) =
+  is_walked svade all_read o (permits.unread whole translated highest canonical stands (inr fails)) =
       absurd (never_fails p.first.pmp free p.events privilege.Supervisor access_kind.Load _ _ fails.0 fails.1 fails.2)
 
   -- ---- and the other way
@@ -287,7 +293,15 @@ module _ (x : Extensions) (plain : IsPlainHart x) (p : Past) (free : p.first.pmp
       let all : top_level s ≡ level = omega (arith, same) in
       let highest = subst (λ (n : ℕ). top_of (satp_of p) ≡ Some n) all (top_is (satp_of p) s is) in (
         read_of level table 0 (asid (satp_of p)) (has_global 0),
-        permits.at_root (record { highest = highest; root = way; global = refl }),
+        permits.at_root (record {
+          satp = satp_of p;
+          under = is_active refl;
+          highest = highest;
+          canonical = subst (λ (n : ℕ). addresses.is_canonical n q.va.0 ≡ true) all (same_canonical s q.va.0 ∙ canonical);
+          root = way;
+          space = refl;
+          global = refl;
+        }) refl,
         refl,
         refl,
       )
@@ -301,11 +315,12 @@ module _ (x : Extensions) (plain : IsPlainHart x) (p : Past) (free : p.first.pmp
         permits.below up.1
             (record {
               pointer = pointer;
-              serves = inl refl;
               next_level = next_one;
               table = way.5;
+              space = refl;
               global = refl;
-            }),
+            })
+            (inl refl),
         refl,
         refl,
       )
@@ -347,7 +362,7 @@ module _ (x : Extensions) (plain : IsPlainHart x) (p : Past) (free : p.first.pmp
       (leaf_low gone.1 gone.2.1.reads.low) gone.3 gone.4)
 
   pub same_outcomes : x.ad ≡ Svade → AllRead → (o : Outcome) → Permits x p q o ↔ Walked o
-  same_outcomes svade held_is_read o = (is_walked svade held_is_read o, λ walked. subst (Permits x p q) (sym walked.2) (from_walk walked.0 walked.1))
+  same_outcomes svade all_read o = (is_walked svade all_read o, λ walked. subst (Permits x p q) (sym walked.2) (from_walk walked.0 walked.1))
 
   -- there is exactly one outcome
   pub some_outcome : (o : Outcome) × Permits x p q o
@@ -355,7 +370,7 @@ module _ (x : Extensions) (plain : IsPlainHart x) (p : Past) (free : p.first.pmp
       let w = some_translation s (memory_of p) (root_ppn (satp_of p)) q.va.0 (extent_of (memory_of p)) q.kind mode in (outcome_of w.0, from_walk w.0 w.1)
 
   pub one_outcome : x.ad ≡ Svade → AllRead → (a b : Outcome) → Permits x p q a → Permits x p q b → a ≡ b
-  one_outcome svade held_is_read a b one other =
-      let v = is_walked svade held_is_read a one in
-      let w = is_walked svade held_is_read b other in
+  one_outcome svade all_read a b one other =
+      let v = is_walked svade all_read a one in
+      let w = is_walked svade all_read b other in
       v.2 ∙ ap outcome_of (one_translation s (memory_of p) (root_ppn (satp_of p)) q.va.0 (extent_of (memory_of p)) q.kind mode v.0 w.0 v.1 w.1) ∙ sym w.2

@@ -17,7 +17,7 @@ use Rattle.walk_rules.specs.Addresses.{top_of}
 use Rattle.walk_rules.specs.Kinds.{kind_in}
 use Rattle.walk_rules.specs.declared.extensions.Extensions.{Extensions}
 use Rattle.walk_rules.specs.declared.status.Privilege.TheVariants as privilege
-use Rattle.access_history.specs.Held.{HadWord, IsHeld, IsKept, IsUpdate, MayRead, Read, has_global, read_of, at_root, below, stays, updated, now, next}
+use Rattle.access_history.specs.Held.{HadWord, IsHeld, IsKept, IsUnder, IsUpdate, MayRead, Read, has_global, read_of, at_root, below, goes_on, is_active, stays, updated, now, next}
 use Rattle.access_history.specs.History.{First, Memory, memory_at, satp_at}
 use Rattle.access_history.specs.declared.event.Event.{Event}
 use Rattle.access_history.proofs.Updates.{stored}
@@ -66,9 +66,7 @@ module _ (x : Extensions) (plain : IsPlainHart x) (f : First) (free : f.pmp ≡ 
   may level table word global read = record {
     had = inl read;
     kept = now;
-    active = (top_level s, top_is (satp_at f.satp h) s is, same_canonical s va ∙ canonical);
     allowed = passes f.pmp free h privilege.Supervisor access.Load (table * 4096 + vpn (page_of va) level * 8) 8;
-    under = refl;
   }
 
   -- held, where b says whether a pointer on the way has G
@@ -80,9 +78,18 @@ module _ (x : Extensions) (plain : IsPlainHart x) (f : First) (free : f.pmp ≡ 
       → memory table (vpn (page_of va) (top_level s - k)) ≡ Some word → HeldAt k (top_level s - k) table word
   held_at zero table word low way read =
       let all : top_level s ≡ top_level s - zero = omega arith in
-      let highest = subst (λ (level : ℕ). top_of (satp_at f.satp h) ≡ Some level) all (top_is (satp_at f.satp h) s is) in (
+      let highest = subst (λ (level : ℕ). top_of (satp_at f.satp h) ≡ Some level) all (top_is (satp_at f.satp h) s is) in
+      let valid = subst (λ (level : ℕ). addresses.is_canonical level va ≡ true) all (same_canonical s va ∙ canonical) in (
         false,
-        at_root (may (top_level s - zero) table word (has_global word) read) (record { highest = highest; root = way; global = refl }),
+        at_root (may (top_level s - zero) table word (has_global word) read) (record {
+          satp = satp_at f.satp h;
+          under = is_active refl;
+          highest = highest;
+          canonical = valid;
+          root = way;
+          space = refl;
+          global = refl;
+        }),
         ((λ set. absurd (false≢true set)), (λ mark. absurd (let low = mark.3 in omega (arith, low)))),
       )
   held_at (suc k) table word low way read =
@@ -105,9 +112,9 @@ module _ (x : Extensions) (plain : IsPlainHart x) (f : First) (free : f.pmp ≡ 
         below up.1 (may (top_level s - suc k) table word ((up.0 || has_global way.1) || has_global word) read)
             (record {
               pointer = pointer;
-              serves = inl refl;
               next_level = next_one;
               table = way.5;
+              space = refl;
               global = refl;
             }),
         mark,
@@ -126,6 +133,12 @@ module _ (x : Extensions) (plain : IsPlainHart x) (f : First) (free : f.pmp ≡ 
 kept_fresh : (x : Extensions) (f : First) (va : ℕ) (h past : List Event) (r : Read) → IsFresh h → IsKept x f va r h past → past ≡ h
 kept_fresh x f va h past r none now = refl
 kept_fresh x f va h past r fenced (next k free) = absurd (free (tt, tt))
+
+-- each walk is under satp as it is
+pub own_satp : (f : First) (s : Scheme) (page satp : ℕ) (h : List Event) → IsSettled f s page h → IsUnder f satp h → satp ≡ satp_at f.satp h
+own_satp f s page satp h settled (is_active has) = sym has
+own_satp f s page satp h (fresh fenced) (goes_on under free) = absurd (free tt)
+own_satp f s page satp h (quiet {h = before} settled q) (goes_on under free) = own_satp f s page satp before settled under ∙ sym q.satp
 
 -- the walk over memory as it is reads an entry
 pub record IsRead (f : First) (va : ℕ) (h : List Event) (s : Scheme) (r : Read) : Type 0 where
@@ -216,7 +229,8 @@ word_updated x plain f va e h r w is = elim is.place [
 pub read_of_held : (x : Extensions) (plain : IsPlainHart x) (f : First) (va : ℕ) (s : Scheme) (h past : List Event) (r : Read)
     → scheme_of (satp_at f.satp h) ≡ Some s → IsSettled f s (page_of va) h → IsHeld x f va h r past → IsRead f va h s r
 read_of_held x plain f va s h past r is settled (at_root may root) =
-    let here = table_at_root f va h s r.level r.table is root.highest root.root in
+    let own = own_satp f s (page_of va) root.satp h settled root.under in
+    let here = table_at_root f va h s r.level r.table is (ap top_of (sym own) ∙ root.highest) (root.root ∙ ap root_ppn own) in
     record { low = here.0; way = here.1; word = read_now x f va h past r plain.napot (kept_word x f va s r here.0 h past settled may.kept here.1) may.had }
 read_of_held x plain f va s h past r is settled (below {since = since} {above = above} was may step) =
     let up = read_of_held x plain f va s h since above is settled was in

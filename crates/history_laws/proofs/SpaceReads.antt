@@ -12,12 +12,12 @@ use Rattle.table_walk.specs.Walk.{IsAt}
 use Rattle.walk_rules.specs.Addresses.{top_of}
 use Rattle.walk_rules.specs.Kinds.{kind_in}
 use Rattle.walk_rules.specs.declared.extensions.Extensions.{Extensions}
-use Rattle.access_history.specs.Held.{IsHeld, IsKept, Read, at_root, below, next, now, stays, updated}
+use Rattle.access_history.specs.Held.{IsHeld, IsKept, IsUnder, Read, at_root, below, goes_on, is_active, next, now, stays, updated}
 use Rattle.access_history.specs.History.{First, Memory, IsPast, memory_at, satp_at}
 use Rattle.access_history.specs.History as history
 use Rattle.access_history.specs.declared.event.Event.{Event}
 use Rattle.history_laws.specs.PlainWalks.{IsPlainHart}
-use Rattle.history_laws.specs.SpaceWalks.{HasNoGlobals, IsFreshFor, IsSpaceSettled, LeavesWalk, fenced, fenced_all, fresh, quiet}
+use Rattle.history_laws.specs.SpaceWalks.{HasNoGlobals, IsFreshFor, IsOwn, IsSpaceSettled, LeavesWalk, fenced, fenced_all, fresh, quiet}
 use Rattle.history_laws.proofs.PlainEntries.{pointer_of}
 use Rattle.history_laws.proofs.PlainReads.{IsRead, read_now, top_is, word_updated}
 
@@ -71,18 +71,23 @@ kept_word x f va satp s r mine local low h past (quiet {h = before} {e = e} sett
     let back = way_back f va satp s e before q (top_level s - r.level) r.table (omega arith) way in
     same_word f va satp s e before q r.level r.table low back ∙ kept_word x f va satp s r mine local low before past settled kept back
 
--- under its own ASID a walk begins at its own root
-own_satp : (f : First) (s : Scheme) (page satp : ℕ) (h : List Event) → IsSpaceSettled f s page satp h → asid (satp_at f.satp h) ≡ asid satp
-    → satp_at f.satp h ≡ satp
-own_satp f s page satp h (fresh none (inl is)) same = is
-own_satp f s page satp h (fresh none (inr other)) same = absurd (other same)
-own_satp f s page satp h (quiet settled q (inl is)) same = is
-own_satp f s page satp h (quiet settled q (inr other)) same = absurd (other same)
+-- a walk of its ASID is under this satp, also one that began while satp had it and goes on
+own_now : (f : First) (satp other : ℕ) (h : List Event) → IsOwn f satp h → satp_at f.satp h ≡ other → asid other ≡ asid satp → other ≡ satp
+own_now f satp other h (inl is) has same = sym has ∙ is
+own_now f satp other h (inr apart) has same = absurd (apart (ap asid has ∙ same))
+
+pub own_satp : (f : First) (s : Scheme) (page satp other : ℕ) (h : List Event) → IsSpaceSettled f s page satp h → IsUnder f other h → asid other ≡ asid satp
+    → other ≡ satp
+own_satp f s page satp other h (fresh none own) (is_active has) same = own_now f satp other h own has same
+own_satp f s page satp other h (fresh fenced_all own) (goes_on under free) same = absurd (free tt)
+own_satp f s page satp other h (fresh fenced own) (goes_on under free) same = absurd (free (sym same))
+own_satp f s page satp other h (quiet settled q own) (is_active has) same = own_now f satp other h own has same
+own_satp f s page satp other h (quiet {h = before} settled q own) (goes_on under free) same = own_satp f s page satp other before settled under same
 
 module _ (x : Extensions) (plain : IsPlainHart x) (f : First) (va satp : ℕ) (s : Scheme) (is : scheme_of satp ≡ Some s) where
-  at_top : (level : ℕ) (h : List Event) (table : ℕ) → satp_at f.satp h ≡ satp → top_of (satp_at f.satp h) ≡ Some level → table ≡ root_ppn (satp_at f.satp h)
+  at_top : (level : ℕ) (h : List Event) (table other : ℕ) → other ≡ satp → top_of other ≡ Some level → table ≡ root_ppn other
       → (level ≤ top_level s) × IsAt s (memory_at f.memory h) (root_ppn satp) (page_of va) (top_level s - level) table
-  at_top level h table own highest root =
+  at_top level h table other own highest root =
       let same = same_Some (top_level s) level (sym (top_is satp s is) ∙ ap top_of (sym own) ∙ highest) in
       let none : top_level s - level ≡ zero = omega (arith, same) in (
         omega (arith, same),
@@ -105,17 +110,13 @@ module _ (x : Extensions) (plain : IsPlainHart x) (f : First) (va satp : ℕ) (s
   read_by : (h past : List Event) (r : Read) → HasNoGlobals x f va h → IsSpaceSettled f s (page_of va) satp h → IsHeld x f va h r past
       → r.asid ≡ asid satp → IsReadBy f va satp h s r
   read_by h past r none settled (at_root may root) mine =
-      let own = own_satp f s (page_of va) satp h settled (sym may.under ∙ mine) in
-      let here = at_top r.level h r.table own root.highest root.root in
+      let own = own_satp f s (page_of va) satp root.satp h settled root.under (sym root.space ∙ mine) in
+      let here = at_top r.level h r.table root.satp own root.highest root.root in
       let local = none h past r history.now (at_root may root) in
       record { low = here.0; way = here.1; word = read_now x f va h past r plain.napot (kept_word x f va satp s r mine local here.0 h past settled may.kept here.1) may.had }
   read_by h past r none settled (below {since = since} {above = above} was may step) mine =
       let local = none h past r history.now (below was may step) in
-      let above_mine : above.asid ≡ asid satp = elim step.serves [
-        | inl same ↦ same ∙ sym may.under ∙ mine
-        | inr set ↦ absurd (false≢true (sym (none h since above history.now was) ∙ set))
-      ] in
-      let up = read_by h since above none settled was above_mine in
+      let up = read_by h since above none settled was (sym step.space ∙ mine) in
       let here = under h above r.level r.table up step.pointer step.next_level step.table in
       record { low = here.0; way = here.1; word = read_now x f va h past r plain.napot (kept_word x f va satp s r mine local here.0 h past settled may.kept here.1) may.had }
   read_by h past r none (fresh fenced_all own) (stays was free) mine = absurd (free (tt, tt))
@@ -140,3 +141,8 @@ read_of_space x plain f va s h past r is none settled held serves =
     ] in
     let read = read_by x plain f va (satp_at f.satp h) s is h past r none settled held mine in
     record { low = read.low; way = read.way; word = read.word }
+
+-- and its walks are under it
+pub own_of_space : (f : First) (s : Scheme) (page : ℕ) (h : List Event) → IsSpaceSettled f s page (satp_at f.satp h) h → (satp : ℕ) → IsUnder f satp h
+    → asid satp ≡ asid (satp_at f.satp h) → satp ≡ satp_at f.satp h
+own_of_space f s page h settled satp under same = own_satp f s page (satp_at f.satp h) satp h settled under same

@@ -28,10 +28,10 @@ pub record GoesBy (x : Extensions) (p : Past) (q : Request) (cs : List Kept) (c 
   pub space : (c.read.asid ≡ asid (satp_of p)) ⊎ (c.read.global ≡ true)
   pub last : kind_in x c.read.level c.read.word ≡ Pointer → ⊥
 
--- the hart walks: it is at the root, or at the table to which a pointer leads that it keeps
+-- the hart walks: it is at a root of its ASID, or at the table to which a pointer leads that it keeps and that serves the present satp
 pub data WalksAt (x : Extensions) (p : Past) (q : Request) (cs : List Kept) (r : Read) : Type 0 where
-  at_root : IsAtRoot p.first p.events r → WalksAt x p q cs r
-  below : {c : Kept} → Contains cs c → IsBelow x p.first p.events c.read r → WalksAt x p q cs r
+  at_root : IsAtRoot p.first q.va.0 p.events r → r.asid ≡ asid (satp_of p) → WalksAt x p q cs r
+  below : {c : Kept} → Contains cs c → IsBelow x c.read r → (r.asid ≡ asid (satp_of p)) ⊎ (c.read.global ≡ true) → WalksAt x p q cs r
 
 -- the answers of a hart that keeps `cs`. A misaligned address: its exception alone. In M-mode and under Bare: the address itself. An
 -- address that is not canonical: a page fault. Else by a PTE that it keeps, or an access fault where it cannot read the next one

@@ -163,18 +163,19 @@ word_now v l p i n first past result same all begin at is =
 get : {A B : Type 0} (f : A → B) (k : A) (ks : List A) (n : ℕ) → slice_get ks n ≡ Some k → slice_get (map f ks) n ≡ Some (f k)
 get f k ks n is = slice_get-map f ks n ∙ ap (option_map f) is
 
-get_later : {A B : Type 0} (f : A → B) (x : B) (ks : List A) (number : ℕ) (k : A) → 0 < number → slice_get ks (number - 1) ≡ Some k
-    → slice_get (x ∷ map f ks) number ≡ Some (f k)
+get_later : {A B : Type 0} (f : A → B) (x : A) (ks : List A) (number : ℕ) (k : A) → 0 < number → slice_get ks (number - 1) ≡ Some k
+    → slice_get (map f (x ∷ ks)) number ≡ Some (f k)
 get_later f x ks zero k some is = absurd (omega (arith, some))
 get_later f x ks (suc n) k some is =
     let less : n ≡ suc n - 1 = omega arith in
     get f k ks n (ap (slice_get ks) less ∙ is)
 
 pub later_use : (v l : Lent) (n number moment satp : ℕ) (u : Use) → v ≡ l → n ≡ used l → 0 < number → slice_get (ends v.events n) (number - 1) ≡ Some moment
-    → satp ≡ v.hart.satp → u ≡ use_at satp v.events moment → slice_get (uses_of l) number ≡ Some u
+    → satp ≡ v.hart.satp → u ≡ use_at satp v.events n moment → slice_get (uses_of l) number ≡ Some u
 later_use v l n number moment satp u same all some at word is =
-    let whole : use_at l.hart.satp l.events moment ≡ u =
-    sym (is ∙ ap (λ (w : ℕ). use_at w v.events moment) word ∙ ap (λ (v : Lent). use_at v.hart.satp v.events moment) same) in
+    let whole : use_at l.hart.satp l.events (used l) moment ≡ u =
+    sym (is ∙ ap (λ (w : ℕ). use_at w v.events n moment) word ∙ ap (λ (v : Lent). use_at v.hart.satp v.events n moment) same
+    ∙ ap (λ (n : ℕ). use_at l.hart.satp l.events n moment) all) in
     let there : slice_get (ends l.events (used l)) (number - 1) ≡ Some moment =
     sym (ap (λ (v : Lent). slice_get (ends v.events n) (number - 1)) same ∙ ap (λ (n : ℕ). slice_get (ends l.events n) (number - 1)) all) ∙ at in
-    get_later (use_at l.hart.satp l.events) _ (ends l.events (used l)) number moment some there ∙ ap Some whole
+    get_later (use_at l.hart.satp l.events (used l)) (used l) (ends l.events (used l)) number moment some there ∙ ap Some whole

@@ -1,4 +1,5 @@
 pub mod Scanning
+pub mod Epochs
 pub mod Asked
 pub mod Adding
 pub mod Protected

@@ -1,6 +1,6 @@
 -- What is true of each history: it has no fence of everything (`history_unfenced`), until a moment it is that of as many places (`history_until`), and its
 -- uses of satp are all (`uses_are_uses`).
-use Rattle.std.specs.Prelude.{◌≡◌, ℕ, zero, suc, Bool, true, false, ◌+◌, ◌-◌, ◌<◌, ◌≤◌, List, ◌∷◌, drop, length, map, slice_get, slice_index_or, Option, None, Some, if◌then◌else◌}
+use Rattle.std.specs.Prelude.{◌≡◌, ℕ, zero, suc, Bool, true, false, ◌+◌, ◌-◌, ◌<◌, ◌≤◌, List, [], ◌∷◌, drop, length, map, slice_get, slice_index_or, Option, None, Some, if◌then◌else◌}
 use Rattle.std.proofs.Common.{arith, ap, subst, refl, ◌∙◌, inl, inr}
 use Rattle.std.proofs.lemmas.Bool.{cases_lt}
 use Rattle.std.specs.List.{Contains}
@@ -48,37 +48,54 @@ not_full h un = elim un [ ]
 
 -- ---- the uses of satp
 
-module _ (satp : ℕ) (es : List LentEvent) where
-  abbrev uses : ℕ → List Use
-  uses n = use_at satp es n ∷ map (use_at satp es) (ends es n)
+mapped : {A B : Type 0} (f : A → B) (xs : List A) (y : B) → Contains (map f xs) y → (x : A) × Contains xs x × (f x ≡ y)
+mapped f [] y (k, lt, is) = absurd (omega (arith, lt))
+mapped f (x ∷ xs) y (zero, lt, is) = (x, (0, omega arith, refl), is)
+mapped f (x ∷ xs) y (suc k, lt, is) =
+    let up = mapped f xs y (k, omega (arith, lt), is) in
+    (up.0, (suc up.1.0, (let less = up.1.1 in omega (arith, less)), up.1.2), up.2)
 
-  is_use : (n m : ℕ) → m ≤ n → IsUse satp (history es n) (use_at satp es m)
+mapping : {A B : Type 0} (f : A → B) (xs : List A) (x : A) → Contains xs x → Contains (map f xs) (f x)
+mapping f [] x (k, lt, is) = absurd (omega (arith, lt))
+mapping f (w ∷ ws) x (zero, lt, is) = (zero, omega arith, ap f is)
+mapping f (w ∷ ws) x (suc k, lt, is) =
+    let up = mapping f ws x (k, omega (arith, lt), is) in
+    (suc up.0, (let less = up.1 in omega (arith, less)), up.2)
+
+module _ (satp : ℕ) (es : List LentEvent) where
+  -- the moments of the uses: now, and those before events that may end one
+  abbrev moments : ℕ → List ℕ
+  moments n = n ∷ ends es n
+
+  is_use : (n m : ℕ) → m ≤ n → IsUse satp (history es n) (use_at satp es n m)
   is_use n m le =
       let same = history_until es n m le in
       let long = history_length es n in
-      (omega (arith, le, long), ap (satp_at satp) same, ap (λ (h : List Event). space_fence h (asid (satp_at satp (history es m)))) same)
+      (refl, (m, omega (arith, le, long), ap (satp_at satp) same, ap (λ (h : List Event). space_fence h (asid (satp_at satp (history es m)))) same))
 
-  ended : (n k : ℕ) (u : Use) → k < length (map (use_at satp es) (ends es n)) → slice_index_or (map (use_at satp es) (ends es n)) k u ≡ u
-      → (m : ℕ) × (m < n) × (use_at satp es m ≡ u)
-  ended zero k u lt is = absurd (omega (arith, lt))
-  ended (suc n) k u lt is = go (λ k lt is. let found = ended n k u lt is in (found.0, omega (arith, found.1), found.2)) (ends_use (event_at es n)) k lt is
+  ended : (n k m : ℕ) → k < length (ends es n) → slice_index_or (ends es n) k m ≡ m → m < n
+  ended zero k m lt is = absurd (omega (arith, lt))
+  ended (suc n) k m lt is = go (λ k lt is. let found = ended n k m lt is in omega (arith, found)) (ends_use (event_at es n)) k lt is
     where
-      go : ((k : ℕ) → k < length (map (use_at satp es) (ends es n)) → slice_index_or (map (use_at satp es) (ends es n)) k u ≡ u
-          → (m : ℕ) × (m < suc n) × (use_at satp es m ≡ u)) → (b : Bool) (k : ℕ) → k < length (map (use_at satp es) (if b then n ∷ ends es n else ends es n))
-          → slice_index_or (map (use_at satp es) (if b then n ∷ ends es n else ends es n)) k u ≡ u → (m : ℕ) × (m < suc n) × (use_at satp es m ≡ u)
-      go further true zero lt is = (n, omega arith, is)
+      go : ((k : ℕ) → k < length (ends es n) → slice_index_or (ends es n) k m ≡ m → m < suc n) → (b : Bool) (k : ℕ)
+          → k < length (if b then n ∷ ends es n else ends es n) → slice_index_or (if b then n ∷ ends es n else ends es n) k m ≡ m → m < suc n
+      go further true zero lt is = omega (arith, is)
       go further true (suc k) lt is = further k (omega (arith, lt)) is
       go further false k lt is = further k lt is
 
-  only : (n : ℕ) (u : Use) → Contains (uses n) u → IsUse satp (history es n) u
-  only n u (zero, lt, is) = subst (IsUse satp (history es n)) is (is_use n n (omega arith))
-  only n u (suc k, lt, is) =
-      let found = ended n k u (omega (arith, lt)) is in
-      subst (IsUse satp (history es n)) found.2 (is_use n found.0 (omega (arith, found.1)))
+  past : (n m : ℕ) → Contains (moments n) m → m ≤ n
+  past n m (zero, lt, is) = omega (arith, is)
+  past n m (suc k, lt, is) = let less = ended n k m (omega (arith, lt)) is in omega (arith, less)
 
-  -- satp had the word of a use, in its epoch, at a moment
-  abbrev Covers : ℕ → ℕ → Use → Type 0
-  Covers n k u = Contains (uses n) u × (u.satp ≡ satp_at satp (history es k)) × (u.epoch ≡ space_fence (history es k) (asid (satp_at satp (history es k)))) × (k ≤ u.last)
+  only : (n : ℕ) (u : Use) → Contains (map (use_at satp es n) (moments n)) u → IsUse satp (history es n) u
+  only n u has =
+      let from = mapped (use_at satp es n) (moments n) u has in
+      subst (IsUse satp (history es n)) from.2 (is_use n from.0 (past n from.0 from.1))
+
+  -- satp, and the last fence of its ASID, are at one moment as at another
+  abbrev Same : ℕ → ℕ → Type 0
+  Same k m = (satp_at satp (history es m) ≡ satp_at satp (history es k))
+      × (space_fence (history es m) (asid (satp_at satp (history es m))) ≡ space_fence (history es k) (asid (satp_at satp (history es k))))
 
   unended : (e : Event) (h : List Event) → ends_use e ≡ false
       → (satp_at satp (e ∷ h) ≡ satp_at satp h) × ((s : ℕ) → space_fence (e ∷ h) s ≡ space_fence h s)
@@ -88,39 +105,36 @@ module _ (satp : ℕ) (es : List LentEvent) where
   unended (Fence None s) h ne = absurd (cc)
   unended (Fence (Some a) s) h ne = (refl, λ s. refl)
 
-  -- the same at the next moment, where `b` says whether the event between ends a use
-  abbrev Next : Bool → ℕ → ℕ → Use → Type 0
-  Next b n k u = Contains (use_at satp es (suc n) ∷ map (use_at satp es) (if b then n ∷ ends es n else ends es n)) u × (u.satp ≡ satp_at satp (history es k))
-      × (u.epoch ≡ space_fence (history es k) (asid (satp_at satp (history es k)))) × (k ≤ u.last)
-
-  next : (n k : ℕ) (b : Bool) → k ≤ n → ends_use (event_at es n) ≡ b → (u : Use) × Covers n k u → (u : Use) × Next b n k u
-  next n k true le is (u, ((i, lt, at), word, epoch, low)) = (u, ((suc i, omega (arith, lt), at), word, epoch, low))
-  next n k false le is (u, ((zero, lt, at), word, epoch, low)) =
+  next : (n k : ℕ) (b : Bool) → ends_use (event_at es n) ≡ b → (m : ℕ) × Contains (moments n) m × Same k m
+      → (m : ℕ) × Contains (suc n ∷ (if b then n ∷ ends es n else ends es n)) m × Same k m
+  next n k true is (m, (i, lt, at), same) = (m, (suc i, omega (arith, lt), at), same)
+  next n k false is (m, (zero, lt, at), same) =
       let more = unended (event_at es n) (history es n) is in
-      let satps : satp_at satp (history es n) ≡ u.satp = ap (λ (u : Use). u.satp) at in
-      let epochs : space_fence (history es n) (asid (satp_at satp (history es n))) ≡ u.epoch = ap (λ (u : Use). u.epoch) at in
-      let same = ap (λ (w : ℕ). space_fence (history es (suc n)) (asid w)) more.0 in
-      (use_at satp es (suc n), ((0, omega arith, refl), more.0 ∙ satps ∙ word, same ∙ more.1 (asid (satp_at satp (history es n))) ∙ epochs ∙ epoch, omega (arith, le)))
-  next n k false le is (u, ((suc i, lt, at), word, epoch, low)) = (u, ((suc i, lt, at), word, epoch, low))
+      let satps : satp_at satp (history es (suc n)) ≡ satp_at satp (history es n) = more.0 in
+      let fences = ap (λ (w : ℕ). space_fence (history es (suc n)) (asid w)) more.0 ∙ more.1 (asid (satp_at satp (history es n))) in
+      let words = ap (λ (j : ℕ). satp_at satp (history es j)) at in
+      let epochs = ap (λ (j : ℕ). space_fence (history es j) (asid (satp_at satp (history es j)))) at in
+      (suc n, (0, omega arith, refl), (satps ∙ words ∙ same.0, fences ∙ epochs ∙ same.1))
+  next n k false is (m, (suc i, lt, at), same) = (m, (suc i, lt, at), same)
 
-  now : (n : ℕ) → (u : Use) × Covers n n u
-  now n = (use_at satp es n, ((0, omega arith, refl), refl, refl, omega arith))
+  now : (n : ℕ) → (m : ℕ) × Contains (moments n) m × Same n m
+  now n = (n, (0, omega arith, refl), (refl, refl))
 
-  covered : (n k : ℕ) → k ≤ n → (u : Use) × Covers n k u
+  covered : (n k : ℕ) → k ≤ n → (m : ℕ) × Contains (moments n) m × Same k m
   covered zero zero le = now zero
   covered zero (suc k) le = absurd (omega (arith, le))
-  covered (suc n) k le = elim (cases_lt n k) as (λ _. (u : Use) × Covers (suc n) k u) [
-    | inl last ↦ let same : suc n ≡ k = omega (arith, last, le) in subst (λ (k : ℕ). (u : Use) × Covers (suc n) k u) same (now (suc n))
-    | inr before ↦ next n k (ends_use (event_at es n)) before refl (covered n k before)
+  covered (suc n) k le = elim (cases_lt n k) as (λ _. (m : ℕ) × Contains (moments (suc n)) m × Same k m) [
+    | inl last ↦ let same : suc n ≡ k = omega (arith, last, le) in subst (λ (k : ℕ). (m : ℕ) × Contains (moments (suc n)) m × Same k m) same (now (suc n))
+    | inr before ↦ next n k (ends_use (event_at es n)) refl (covered n k before)
   ]
 
-  each : (n k : ℕ) → k ≤ length (history es n) → (u : Use) × Contains (uses n) u × (u.satp ≡ satp_at satp (until (history es n) k))
-      × (u.epoch ≡ space_fence (until (history es n) k) (asid (satp_at satp (until (history es n) k)))) × (k ≤ u.last)
+  each : (n k : ℕ) → k ≤ length (history es n) → (u : Use) × Contains (map (use_at satp es n) (moments n)) u
+      × (u.satp ≡ satp_at satp (until (history es n) k)) × (u.epoch ≡ space_fence (until (history es n) k) (asid (satp_at satp (until (history es n) k))))
   each n k le =
       let long = history_length es n in
       let low : k ≤ n = omega (arith, le, long) in
       let found = covered n k low in
-      rw (history_until es n k low) (found.0, found.1.0, found.1.1, found.1.2, found.1.3)
+      rw (history_until es n k low) (use_at satp es n found.0, mapping (use_at satp es n) (moments n) found.0 found.1, found.2.0, found.2.1)
 
-  pub uses_are_uses : (n : ℕ) → AreUses satp (history es n) (use_at satp es n ∷ map (use_at satp es) (ends es n))
+  pub uses_are_uses : (n : ℕ) → AreUses satp (history es n) (map (use_at satp es n) (n ∷ ends es n))
   uses_are_uses n = record { only = only n; each = each n }

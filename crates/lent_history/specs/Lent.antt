@@ -75,4 +75,4 @@ past_of l = record {
 }
 
 abbrev pub uses_of : Lent → List Use
-uses_of l = use_at l.hart.satp l.events (used l) ∷ map (use_at l.hart.satp l.events) (ends l.events (used l))
+uses_of l = map (use_at l.hart.satp l.events (used l)) (used l ∷ ends l.events (used l))

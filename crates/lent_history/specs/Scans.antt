@@ -5,7 +5,7 @@ use Rattle.walk_rules.specs.Addresses.{top_of}
 use Rattle.access_history.specs.History.{satp_at}
 use Rattle.access_history.specs.declared.event.Event.{Event}
 use Rattle.access_history.specs.declared.event.Event.TheVariants.{Store, WriteSatp, WritePmp, Fence}
-use Rattle.access_judge.specs.Search.{Use, is_address_under, is_for, space_fence}
+use Rattle.access_judge.specs.Search.{Use, epoch_end, is_address_under, is_for, space_fence}
 use Rattle.access_judge.specs.declared.log.PastWord.{PastWord}
 use Rattle.lent_history.specs.Events.{event_at, history}
 use Rattle.lent_history.specs.declared.event.LentEvent.{LentEvent}
@@ -68,7 +68,19 @@ abbrev pub ends : List LentEvent → ℕ → List ℕ
 ends es zero = []
 ends es (suc n) = if ends_use (event_at es n) then n ∷ ends es n else ends es n
 
--- the use of satp at a moment
-abbrev pub use_at : ℕ → List LentEvent → ℕ → Use
-use_at satp es k =
-    record { satp = satp_at satp (history es k); epoch = space_fence (history es k) (asid (satp_at satp (history es k))); last = k }
+-- a fence of each address of an ASID
+abbrev pub is_space_fence : Event → ℕ → Bool
+is_space_fence (Store p i w) space = false
+is_space_fence (WriteSatp w) space = false
+is_space_fence (WritePmp n e) space = false
+is_space_fence (Fence (Some a) s) space = false
+is_space_fence (Fence None None) space = true
+is_space_fence (Fence None (Some s)) space = s == space
+
+-- the use of satp as it is at a moment
+abbrev pub use_at : ℕ → List LentEvent → ℕ → ℕ → Use
+use_at satp es n k = record {
+  satp = satp_at satp (history es k);
+  epoch = space_fence (history es k) (asid (satp_at satp (history es k)));
+  last = epoch_end (history es n) (asid (satp_at satp (history es k))) (space_fence (history es k) (asid (satp_at satp (history es k))));
+}

@@ -124,10 +124,10 @@ impl Log for LentHistory<'_> {
         let satp = Satp::from_word(self.hart.satp);
         let used = self.used();
         if number == 0 {
-            return use_at(self.events, used, satp);
+            return use_at(self.events, used, used, satp);
         }
         let moment = end_at(self.events, used, number - 1);
-        use_at(self.events, moment, satp)
+        use_at(self.events, used, moment, satp)
     }
 
     fn space_fence(&self, asid: u16) -> usize {

@@ -211,7 +211,8 @@ pub(crate) fn end_count(events: &[LentEvent], n: usize) -> usize
 /// Returns the moment before one of those events, the last of which is number 0.
 pub(crate) fn end_at(events: &[LentEvent], n: usize, number: usize) -> usize
     requires { number < length (scans.ends events.now n) }
-    ensures { slice_get (scans.ends events.now n) number ≡ Some result }
+    ensures within { result ≤ n }
+    ensures place { slice_get (scans.ends events.now n) number ≡ Some result }
 {
     let mut left = number;
     'events: for k in (0..n).rev() {
@@ -225,14 +226,45 @@ pub(crate) fn end_at(events: &[LentEvent], n: usize, number: usize) -> usize
     0
 }
 
-/// Returns satp as it is after the events in the first places.
-pub(crate) fn use_at(events: &[LentEvent], n: usize, first: Satp) -> PastSatp
-    ensures { use_of result ≡ scans.use_at first events.now n }
+/// Whether an event is a fence of an ASID, with rs1 = x0.
+fn is_space_fence(event: Event, asid: u16) -> bool
+    ensures { result ≡ scans.is_space_fence event asid }
 {
-    let satp = satp_at(events, n, first);
+    match event {
+        Event::Fence {
+            va: None,
+            asid: None,
+        } => true,
+        Event::Fence {
+            va: None,
+            asid: Some(space),
+        } => space == asid,
+        _ => false,
+    }
+}
+
+/// Returns the last moment until which the last fence of an ASID is the one that it is at a moment.
+pub(crate) fn epoch_end(events: &[LentEvent], n: usize, moment: usize, asid: u16) -> usize
+    requires { moment ≤ n }
+    ensures { result ≡ search.epoch_end (history events.now n) asid (search.space_fence (history events.now moment) asid) }
+{
+    'events: for k in moment..n {
+        if is_space_fence(event_at(events, k), asid) {
+            return k;
+        }
+    }
+    n
+}
+
+/// Returns satp as it is at a moment, with the last moment at which walks that begin then may go on.
+pub(crate) fn use_at(events: &[LentEvent], n: usize, moment: usize, first: Satp) -> PastSatp
+    requires { moment ≤ n }
+    ensures { use_of result ≡ scans.use_at first events.now n moment }
+{
+    let satp = satp_at(events, moment, first);
     PastSatp {
         satp,
-        epoch: space_fence(events, n, satp.asid()),
-        last: n,
+        epoch: space_fence(events, moment, satp.asid()),
+        last: epoch_end(events, n, moment, satp.asid()),
     }
 }

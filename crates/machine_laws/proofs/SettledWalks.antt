@@ -18,7 +18,7 @@ use Rattle.hart_machine.specs.declared.hart.Hart.{Hart}
 use Rattle.hart_machine.specs.declared.machine.Machine.{Machine}
 use Rattle.hart_tlb.proofs.Outcomes.{answer_translates}
 use Rattle.history_laws.proofs.PlainOutcomes.{same_outcomes}
-use Rattle.history_laws.proofs.PlainReads.{read_of_held}
+use Rattle.history_laws.proofs.PlainReads.{own_satp, read_of_held}
 use Rattle.history_laws.specs.PlainWalks.{IsPlainAccess, IsPlainHart, IsSettled, extent_of, fenced, fresh, outcome_of, quiet}
 use Rattle.machine_laws.proofs.FencedRuns.{fenced_keeps}
 use Rattle.machine_laws.proofs.MachineAnswers.{is_plain, leads, fresh_outcome}
@@ -118,7 +118,10 @@ module _ (m : Machine) (w : World) (k : ℕ) (x : Hart) (f : First) (h : List Ev
   settled_is_walk o =
       let p = is_plain m w k x f h is at has have q mode plain plainly in
       let same = same_outcomes have plain past has.unprotected q mode plainly m.kernel.scheme p.scheme svade
-      (λ since r held serves. read_of_held have plain f q.va.0 m.kernel.scheme h since r p.scheme settled held) o in (
+      (record {
+        read = λ since r held serves. read_of_held have plain f q.va.0 m.kernel.scheme h since r p.scheme settled held;
+        own = λ satp under same. own_satp f m.kernel.scheme (page_of q.va.0) satp h settled under;
+      }) o in (
         (λ permitted.
             let walk = same.0 permitted in
             walk.2 ∙ ap outcome_of (one_translation m.kernel.scheme (memory_at f.memory h) (root_ppn (satp_at f.satp h)) q.va.0 (extent_of (memory_at f.memory h)) q.kind mode walk.0 answer_now walk.1 comes)),

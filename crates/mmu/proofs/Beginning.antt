@@ -11,14 +11,15 @@ use Rattle.access_history.specs.declared.event.Event.TheVariants.{Store, WriteSa
 use Rattle.access_judge.specs.Search.{restarted, space_fence, until}
 use Rattle.sv39_entry.specs.Satp.{asid}
 use Rattle.mmu.specs.Changing.{AreInOrder, after_by, changes_at, since_by, word_before, word_by}
-use Rattle.mmu.specs.Fencing.{of_key, of_space}
+use Rattle.mmu.specs.Fencing.{ended, of_end, of_key, of_space}
 use Rattle.mmu.specs.Protecting.{entries_of, is_by, off_entries}
-use Rattle.mmu.specs.Recorded.{AreSatps, AreStores, AreWrites, IsSound, IsTrueOf, covers, events_of, first_of, is_place, last_store, number_at, past_of, word_when}
+use Rattle.mmu.specs.Recorded.{AreEnds, AreSatps, AreStores, AreWrites, IsSound, IsTrueOf, covers, events_of, first_of, is_place, last_store, number_at, past_of, word_when}
 use Rattle.mmu.specs.Sparse.{is_zeroed, word_of}
 use Rattle.mmu.specs.Units.{begun, fresh}
 use Rattle.mmu.specs.Words.{added, or_zero}
 use Rattle.mmu.specs.declared.changes.Change.{Change}
 use Rattle.mmu.specs.declared.changes.Changes.{Changes}
+use Rattle.mmu.specs.declared.fences.Fences.{Fences}
 use Rattle.mmu.specs.declared.history.History.{History}
 use Rattle.mmu.specs.declared.memory.SparseMemory.{SparseMemory}
 use Rattle.mmu.specs.declared.protection.PmpEntries.{PmpEntries}
@@ -66,17 +67,24 @@ no_satps first satp epoch same none = record {
   now = sym same;
   epoch_now = none;
   only = λ k d less. absurd (omega (arith, less));
-  each = λ k le. or_left (covers first [] k (record { satp = satp; epoch = epoch; last = 0 })) false
-      (covers_by first [] k (record { satp = satp; epoch = epoch; last = 0 }) (sym same ∙ ap (satp_at first) (sym (nothing_yet k)))
-      (none ∙ ap (λ (g : List Event). space_fence g (asid satp)) (sym (nothing_yet k))) le);
+  each = λ k le. or_left (covers first [] k (record { satp = satp; epoch = epoch })) false
+      (covers_by first [] k (record { satp = satp; epoch = epoch }) (sym same ∙ ap (satp_at first) (sym (nothing_yet k)))
+      (none ∙ ap (λ (g : List Event). space_fence g (asid satp)) (sym (nothing_yet k))));
+}
+
+no_ends : (f : Fences) → ((s epoch : ℕ) → of_end f s epoch ≡ None) → AreEnds f []
+no_ends f none = record {
+  each = λ s k le. none s (space_fence (until [] k) s)
+      ∙ subst (λ (g : List Event). None ≡ ended [] s (space_fence g s)) (sym (nothing_yet k)) refl;
+  none = λ s epoch late. none s epoch;
 }
 
 pub begun_true : (h : History) → ((n : ℕ) → changes_at h.changes n ≡ []) → ((s : ℕ) → of_space h.fences s ≡ 0)
-    → ((b page : ℕ) (s : Option ℕ) → of_key h.fences b page s ≡ 0) → h.uses.past.items ≡ [] → h.protection.first ≡ h.protection.present
+    → ((s epoch : ℕ) → of_end h.fences s epoch ≡ None) → ((b page : ℕ) (s : Option ℕ) → of_key h.fences b page s ≡ 0) → h.uses.past.items ≡ [] → h.protection.first ≡ h.protection.present
     → h.protection.writes.items ≡ [] → h.first_satp ≡ h.satp → h.epoch ≡ 0 → IsTrueOf h []
-begun_true h changes spaces addresses uses present writes satp epoch = record {
+begun_true h changes spaces ends addresses uses present writes satp epoch = record {
   stores = no_stores h.memory h.changes changes;
-  fences = record { spaces = spaces; addresses = λ b page s reach. addresses b page s };
+  fences = record { spaces = spaces; ends = no_ends h.fences ends; addresses = λ b page s reach. addresses b page s };
   writes = no_writes h.protection present writes;
   satps = subst (λ (us : List _). AreSatps h.first_satp h.satp h.epoch us []) (sym uses) (no_satps h.first_satp h.satp h.epoch satp epoch);
   unfenced = refl;

@@ -7,7 +7,7 @@ ghost use Rattle.access_judge.specs.Log.{IsPastWord};
 ghost use Rattle.access_judge.specs.Search.{is_address_under};
 ghost use Rattle.walk_rules.specs.Addresses.{top_of};
 ghost use Rattle.mmu.specs.Changing.{AreInOrder, changes_at, since_by, word_by};
-ghost use Rattle.mmu.specs.Recorded.{IsNextStore, IsSound, events_of, past_of, present, satps_of};
+ghost use Rattle.mmu.specs.Recorded.{IsNextStore, IsSound, events_of, past_of, past_satp, present, satps_of};
 ghost use Rattle.mmu.specs.Sparse.{is_zeroed, word_of};
 ghost use Rattle.mmu.specs.Units.{begun, fresh, happened, with_run};
 
@@ -15,7 +15,7 @@ use crate::changes::{Change, Changes};
 use crate::fences::Fences;
 use crate::memory::SparseMemory;
 use crate::protection::Protection;
-use crate::uses::Uses;
+use crate::uses::{Used, Uses};
 use access_history::Event;
 use access_judge::{PastSatp, PastWord};
 use std::alloc::{AllocError, Global};
@@ -129,13 +129,12 @@ impl History {
     }
 
     /// satp as it is now, with its epoch.
-    fn present(&self) -> PastSatp
+    fn present(&self) -> Used
         ensures { result ≡ present self.now }
     {
-        PastSatp {
+        Used {
             satp: self.satp,
             epoch: self.epoch,
-            last: self.events.len(),
         }
     }
 
@@ -252,15 +251,27 @@ impl History {
         }
     }
 
+    /// Returns a word that satp had, with the last moment at which walks that began under it may go on.
+    fn past_satp(&self, used: Used) -> PastSatp
+        ensures { result ≡ past_satp self.now used }
+    {
+        let end = self.fences.end_of(used.satp.asid(), used.epoch);
+        PastSatp {
+            satp: used.satp,
+            epoch: used.epoch,
+            last: end.unwrap_or(self.events.len()),
+        }
+    }
+
     /// Returns one of the words that satp had, the present one first.
     pub fn use_at(&self, number: usize) -> PastSatp
         requires { number < length (satps_of self.now) }
         ensures { slice_get (satps_of self.now) number ≡ Some result }
     {
         if number == 0 {
-            return self.present();
+            return self.past_satp(self.present());
         }
-        self.uses.get(number - 1)
+        self.past_satp(self.uses.get(number - 1))
     }
 
     /// Returns the number of the first store after a moment to the word at an index of a frame.

@@ -1,17 +1,25 @@
-// `Uses`: a struct, the words that satp had, each with the last moment at which it had it between two fences of its ASID.
+// Structs `Used`, a word that satp had, with the number of the last fence of its ASID then; and `Uses`, those of the past.
 
 ghost use Rattle.std.specs.Prelude.{◌≡◌, ◌<◌, ◌≤◌, OnOk, [], length, slice_get, Some, slice_index_or};
-ghost use Rattle.access_judge.specs.declared.log.PastSatp.{PastSatp};
 ghost use Rattle.mmu.specs.Using.{Extends, HasRoom};
+ghost use Rattle.mmu.specs.declared.uses.Used.{Used};
 
-use access_judge::PastSatp;
 use std::alloc::{AllocError, Global};
 use std::collections::HashMap;
+use sv39_entry::Satp;
+
+/// A word that satp had, under which walks began.
+#[derive(Clone, Copy)]
+pub(crate) struct Used {
+    pub satp: Satp,
+    /// The number of the last fence of its ASID, with rs1 = x0, at that time. 0: there was none.
+    pub epoch: usize,
+}
 
 /// The words that satp had before the present one.
 #[derive(Drop)]
 pub(crate) struct Uses {
-    past: Vec<PastSatp>,
+    past: Vec<Used>,
     // where in `past` a word was put last
     places: HashMap<u64, usize>,
 }
@@ -47,7 +55,7 @@ impl Uses {
     }
 
     /// Returns one of them.
-    pub fn get(&self, number: usize) -> PastSatp
+    pub fn get(&self, number: usize) -> Used
         requires { number < length self.now.past.items }
         ensures { slice_get self.now.past.items number ≡ Some result }
     {
@@ -55,9 +63,9 @@ impl Uses {
     }
 
     /// Returns where a word stands with an epoch; how many words there are, if it does not.
-    fn place_of(&self, used: &PastSatp) -> usize
+    fn place_of(&self, used: &Used) -> usize
         ensures bound { result ≤ length self.now.past.items }
-        ensures same { (d : PastSatp) → result < length self.now.past.items
+        ensures same { (d : Used) → result < length self.now.past.items
             → ((slice_index_or self.now.past.items result d).satp ≡ used.now.satp) × ((slice_index_or self.now.past.items result d).epoch ≡ used.now.epoch) }
     {
         let Some(place) = self.places.get(&used.satp.to_word()) else {
@@ -69,14 +77,13 @@ impl Uses {
         }
     }
 
-    /// Adds a word that satp had until now; if it is there with this epoch, it gets the later last moment.
-    pub fn add(&mut self, used: PastSatp)
+    /// Adds a word that satp had until now, if it is not there with this epoch.
+    pub fn add(&mut self, used: Used)
         requires { HasRoom self.old }
         ensures { Extends self.old.past.items used self.new.past.items }
     {
         let place = self.place_of(&used);
         if place < self.past.len() {
-            self.past[place] = used;
             return;
         }
         // there is room for it

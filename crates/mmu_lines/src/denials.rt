@@ -134,13 +134,10 @@ impl Denial<'_> {
         if !older.is_nothing() {
             return false;
         }
-        let Profile {
-            sv39,
-            sv48,
-            sv57,
-            ..
-        } = self.profile;
-        self.telling.put_mode(out, self.claim, [sv39, sv48, sv57])
+        let Profile { sv48, sv57, .. } = self.profile;
+        // a hart with Sv48 has Sv39, and one with Sv57 has Sv48 (4.5, 4.6)
+        self.telling
+            .put_mode(out, self.claim, [true, sv48 || sv57, sv57])
     }
 
     /// Appends what PTEs that the hart may read or hold say against what the client tells; returns whether one says something.

@@ -144,15 +144,16 @@ impl Fences<'_> {
         count
     }
 
-    /// The number of the first fence after which a walk may not begin by the satp of a way; how many there are, if there is none.
-    fn ending(&self, telling: &Telling<'_>, asid: u16, root: &PastSatp) -> usize {
+    /// The number of the first fence that ends walks by the satp of a way, which had an ASID, and had it last at a moment; how many there are, if none
+    /// does.
+    fn ending(&self, telling: &Telling<'_>, asid: u16, root: &PastSatp, last: usize) -> usize {
         let count = self.list.len();
         if root.satp == telling.recorded.unit.satp() {
             return count;
         }
-        'fences: for number in self.count_until(root.last)..count {
+        'fences: for number in self.count_until(last)..count {
             if let Some(fence) = self.list.get(number) {
-                if fence.va.is_none() && fence.moment > root.last && fence.is_for(asid) {
+                if fence.va.is_none() && fence.moment > last && fence.is_for(asid) {
                     return number;
                 }
             }
@@ -175,8 +176,9 @@ impl Fences<'_> {
     /// The first fence that excludes a PTE of a way, or its root, so that the last PTE is not held: each PTE on the way is read as late as can be,
     /// before a fence excludes what led to it. How many fences there are, if none does.
     fn excluding(&self, telling: &Telling<'_>, way: &Way, root: &PastSatp) -> (usize, Excluded) {
-        let (asid, _) = telling.recorded.space_at(root.last);
-        let (mut number, mut what) = (self.ending(telling, asid, root), Excluded::Root);
+        let last = telling.recorded.last_had(root, None).unwrap_or(root.last);
+        let (asid, _) = telling.recorded.space_at(last);
+        let (mut number, mut what) = (self.ending(telling, asid, root, last), Excluded::Root);
         'levels: for n in 0..LEVELS {
             if let Some(step) = step_at(way, LEVELS - 1 - n) {
                 if !self.was_before(telling, &step, number) {

@@ -140,6 +140,12 @@ impl Telling<'_> {
         }
     }
 
+    /// The exception codes of the page fault and of the access fault that the access may have.
+    fn fault_causes(&self) -> (u64, u64) {
+        let kind = self.request.kind;
+        (kind.page_fault_cause(), kind.access_fault_cause())
+    }
+
     /// Appends that MPRV gives the access the mode of MPP, if it does.
     fn put_mprv(&self, out: &mut Text) {
         if self.request.privilege == Privilege::Machine {
@@ -176,6 +182,7 @@ impl Telling<'_> {
         put_pte(out, self.extensions, step);
         let access = access_text(self.request.kind);
         write!(out, " grants the {access}: {text}");
+        self.put_mprv(out);
         true
     }
 
@@ -308,10 +315,7 @@ impl Telling<'_> {
 
     /// Appends that a PTE has the other fault of the access than the one that a client tells; returns whether that is one of its faults.
     fn put_other_fault(&self, out: &mut Text, told: &Told, step: &Step, cause: u64) -> bool {
-        let (page, fault) = (
-            self.request.kind.page_fault_cause(),
-            self.request.kind.access_fault_cause(),
-        );
+        let (page, fault) = self.fault_causes();
         if cause == page {
             self.put_refusal(out, &told.way, &told.outcome);
             self.put_no_page_fault(out);
@@ -377,10 +381,7 @@ impl Telling<'_> {
 
     /// Appends that an access fault, which was told, is not the page fault that a client tells.
     fn put_no_page_fault(&self, out: &mut Text) {
-        let (page, fault) = (
-            self.request.kind.page_fault_cause(),
-            self.request.kind.access_fault_cause(),
-        );
+        let (page, fault) = self.fault_causes();
         write!(out, ": that is access fault {fault}, not page fault {page}")
     }
 
@@ -400,10 +401,7 @@ impl Telling<'_> {
 
     /// Appends that the walk ends with a page fault, and why. `told`: the exception code that a client tells, if it tells a fault.
     fn put_page_fault_at(&self, out: &mut Text, step: &Step, why: Why, told: Option<u64>) {
-        let (page, fault) = (
-            self.request.kind.page_fault_cause(),
-            self.request.kind.access_fault_cause(),
-        );
+        let (page, fault) = self.fault_causes();
         if told == Some(fault) {
             write!(
                 out,
@@ -481,15 +479,14 @@ impl Telling<'_> {
 
     /// Appends that a fault which a client tells is none that its access may have; returns whether it is so.
     fn put_other_cause(&self, out: &mut Text, cause: u64) -> bool {
-        let kind = self.request.kind;
-        let (page, other) = (kind.page_fault_cause(), kind.access_fault_cause());
-        if cause == page || cause == other {
+        let (page, fault) = self.fault_causes();
+        if cause == page || cause == fault {
             return false;
         }
-        let access = access_text(kind);
+        let access = access_text(self.request.kind);
         write!(
             out,
-            "a {access} has page fault {page} and access fault {other}"
+            "a {access} has page fault {page} and access fault {fault}"
         );
         true
     }

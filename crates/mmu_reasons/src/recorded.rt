@@ -6,7 +6,7 @@ ghost use Rattle.mmu.specs.Pasts.{past};
 ghost use Rattle.mmu.specs.Units.{fenced, fresh, happened, with_run};
 
 use crate::ways::{LEVELS, last_step, put_pte, step_at};
-use access_judge::{Log, Step, Told};
+use access_judge::{Log, PastSatp, Step, Told};
 use mmu::Mmu;
 use std::alloc::{AllocError, Global};
 use sv39_entry::{Satp, Va};
@@ -21,7 +21,8 @@ pub(crate) const A_AND_D: u64 = 0xc0;
 struct Writing {
     /// The number of the event.
     event: usize,
-    /// The ASID that was written.
+    satp: Satp,
+    /// The ASID of the client's word.
     asid: u16,
 }
 
@@ -31,7 +32,8 @@ pub struct Recorded {
     pub unit: Mmu,
     lines: Vec<u64>,
     writings: Vec<Writing>,
-    /// The ASID of satp before all events.
+    /// satp before all events, and the ASID of the client's word.
+    first_satp: Satp,
     first_asid: u16,
     /// The line of the last write of a PMP entry.
     pmp_line: u64,
@@ -49,6 +51,7 @@ impl Recorded {
             unit: Mmu::new(alloc),
             lines: Vec::new(alloc),
             writings: Vec::new(alloc),
+            first_satp: Satp::from_word(0),
             first_asid: 0,
             pmp_line: 0,
             entry_lines: [0; 64],
@@ -63,6 +66,7 @@ impl Recorded {
         self.unit.reset(pmp_entries);
         self.lines.clear();
         self.writings.clear();
+        self.first_satp = Satp::from_word(0);
         self.first_asid = 0;
         self.pmp_line = 0;
         self.entry_lines = [0; 64];
@@ -92,7 +96,7 @@ impl Recorded {
         if self.translated.is_none() && top_level(satp).is_some() {
             self.translated = Some(event);
         }
-        Ok(self.writings.push(Writing { event, asid })?)
+        Ok(self.writings.push(Writing { event, satp, asid })?)
     }
 
     pub fn write_pmp(&mut self, line: u64, number: usize, entry: PmpEntry) -> Result<(), AllocError>
@@ -123,6 +127,7 @@ impl Recorded {
         ensures { self.new.unit ≡ self.old.unit }
     {
         if let Some(writing) = self.writings.last() {
+            self.first_satp = writing.satp;
             self.first_asid = writing.asid;
         }
         if self.translated.is_some() {
@@ -153,6 +158,24 @@ impl Recorded {
     /// The line of the last write of a PMP entry, by its number.
     pub(crate) fn entry_line(&self, number: usize) -> u64 {
         self.entry_lines.get(number).copied().unwrap_or(0)
+    }
+
+    /// The last moment, up to that of a root, at which satp had its word, but for one ASID that satp was given, if there is such a moment.
+    pub(crate) fn last_had(&self, root: &PastSatp, but: Option<u16>) -> Option<usize> {
+        let (mut satp, mut asid, mut since) = (self.first_satp, self.first_asid, 0);
+        let mut last = None;
+        'writings: for writing in self.writings.as_slice() {
+            if satp == root.satp && since <= root.last && but != Some(asid) {
+                last = Some(writing.event.saturating_sub(1).min(root.last));
+            }
+            satp = writing.satp;
+            asid = writing.asid;
+            since = writing.event;
+        }
+        if satp == root.satp && since <= root.last && but != Some(asid) {
+            last = Some(self.unit.now().min(root.last));
+        }
+        last
     }
 
     /// The ASID that satp was given by its last write up to a moment, and the last moment at which it had it.
@@ -219,8 +242,9 @@ impl Recorded {
         if root.satp == self.unit.satp() {
             return;
         }
+        let last = self.last_had(&root, None).unwrap_or(root.last);
         'writings: for writing in self.writings.as_slice() {
-            if writing.event > root.last {
+            if writing.event > last {
                 let line = self.line_of(writing.event);
                 return write!(out, "{lead}satp as before line {line}");
             }

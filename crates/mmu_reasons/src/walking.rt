@@ -157,7 +157,7 @@ fn is_read(recorded: &Recorded, va: Va, step: &Step) -> bool {
 /// Whether a way to a PTE at which a walk stops is the walk for an address over memory, satp and PMP as they are.
 fn is_walk(recorded: &Recorded, extensions: Extensions, va: Va, way: &Way) -> bool {
     let is_present = match &way.root {
-        Some(root) => root.last == recorded.unit.now(),
+        Some(root) => root.satp == recorded.unit.satp(),
         None => false,
     };
     if !is_present || end_of(extensions, way).is_none() {

@@ -9,7 +9,7 @@ use crate::seeking::{oldest, seek_by, ways_to};
 use crate::telling::Telling;
 use crate::ways::{LEVELS, ends_at_leaf, put_pte, step_at};
 use access_history::Request;
-use access_judge::{Log, Step, Told};
+use access_judge::{Log, PastSatp, Step, Told, Way};
 use mmu_requests::Claim;
 use std::alloc::{AllocError, Global};
 use sv39_entry::{Kind, Satp, Va};
@@ -224,13 +224,25 @@ impl Witness {
         found
     }
 
-    /// Which PTE of a way that would be possible if all ASIDs were one is of another ASID, if one is.
+    /// A way that would be possible if all ASIDs were one, by its root as satp had it last under another ASID than the present one, if it had it
+    /// so.
+    fn of_another_space(&self, told: &Told) -> Option<Told> {
+        let (root, asid) = (told.way.root?, self.unfenced.unit.satp().asid());
+        let last = self.unspaced.last_had(&root, Some(asid))?;
+        let way = Way {
+            root: Some(PastSatp { last, ..root }),
+            steps: told.way.steps,
+        };
+        Some(Told {
+            outcome: told.outcome,
+            way,
+        })
+    }
+
+    /// Which PTE of such a way is of another ASID, if one is.
     fn foreign_on(&self, extensions: Extensions, told: &Told) -> Option<Foreign> {
         let root = told.way.root?;
         let (asid, moment) = self.unspaced.space_at(root.last);
-        if asid == self.unfenced.unit.satp().asid() {
-            return None;
-        }
         let step = self.last_of_space(extensions, told, moment)?;
         Some(Foreign { step, asid })
     }
@@ -258,11 +270,14 @@ impl Witness {
             let Some(told) = way else {
                 return found;
             };
+            let Some(told) = self.of_another_space(told) else {
+                continue;
+            };
             let is_left = only_leaves && !ends_at_leaf(extensions, &told.way);
-            if is_left || (only_held && self.is_excluded(&telling, told)) {
+            if is_left || (only_held && self.is_excluded(&telling, &told)) {
                 continue;
             }
-            let (foreign, moment) = (self.foreign_on(extensions, told), oldest(&told.way));
+            let (foreign, moment) = (self.foreign_on(extensions, &told), oldest(&told.way));
             if foreign.is_some() && (found.is_none() || moment > newest) {
                 found = foreign;
                 newest = moment;

@@ -1,9 +1,11 @@
 use Rattle.std.proofs.Common.{◌≤◌, [], ◌++◌, List, length, subst, sym, ◌∙◌, refl, arith}
 use Rattle.std.specs.List.{flat_map}
+use Rattle.sv39_entry.specs.Satp.{asid}
 use Rattle.access_history.specs.declared.outcome.Outcome.{Outcome}
 use Rattle.access_judge.specs.Judging.{root_says}
 use Rattle.access_judge.specs.Log.{use_of}
-use Rattle.access_judge.proofs.LatestUse.{at_contains}
+use Rattle.access_judge.proofs.EpochEnds.{epoch_end_low}
+use Rattle.access_judge.proofs.SearchLists.{at_contains}
 use Rattle.access_judge.proofs.Sifting.{sifted, sifts_first, sifts_on}
 use Rattle.access_judge.proofs.TableSays.{roots_are, uses_all, uses_more}
 use Rattle.access_judge.proofs.permitted.tell_walks.Goals as goal
@@ -11,7 +13,11 @@ use Rattle.access_judge.proofs.permitted.tell_walks.Goals as goal
 pub search_from-requires : goal.search_from-requires
 search_from-requires g c =
     let us = g.L.Log.uses_of c.args.log.now in
-    ((g.met.L.Log.are_uses c.args.log.now).only (use_of c.use_at-root.result) (at_contains us c.uses.number (use_of c.use_at-root.result) c.use_at-root.ensures)).0
+    let h = (g.L.Log.past c.args.log.now).events in
+    let u = use_of c.use_at-root.result in
+    let last = ((g.met.L.Log.are_uses c.args.log.now).only u (at_contains us c.uses.number u c.use_at-root.ensures)).0 in
+    let low = epoch_end_low h (asid u.satp) u.epoch in
+    omega (arith, last, low)
 
 pub uses-init : goal.uses-init
 uses-init g c = ([], sifts_first g.met.S.Sink.gains_nothing c.args.sink.now c.new-seen.ensures, refl)
@@ -19,7 +25,7 @@ uses-init g c = ([], sifts_first g.met.S.Sink.gains_nothing c.args.sink.now c.ne
 pub uses-preserved : goal.uses-preserved
 uses-preserved g c =
     let us = g.L.Log.uses_of c.args.log.now in
-    let says = root_says c.args.question.now (g.L.Log.past c.args.log.now) us in
+    let says = root_says c.args.question.now (g.L.Log.past c.args.log.now) in
     let i = c.uses.invariant in (
       i.0 ++ says (use_of c.use_at-root.result),
       sifts_on g.met.S.Sink.gains_on i.1 c.search_from.ensures,
@@ -29,7 +35,7 @@ uses-preserved g c =
 pub returns : goal.returns
 returns g c =
     let a = c.args.question.now in let p = g.L.Log.past c.args.log.now in let us = g.L.Log.uses_of c.args.log.now in
-    let says = root_says a p us in
+    let says = root_says a p in
     let i = c.uses.invariant in
     let over : length us ≤ c.uses.number = omega (arith, c.use_count-number-end.ensures) in
     subst (λ (os : List Outcome). g.S.Sink.gains c.args.sink.now os c.uses.sink)

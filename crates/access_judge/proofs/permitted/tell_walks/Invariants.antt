@@ -8,5 +8,5 @@ use Rattle.access_judge.proofs.permitted.tell_walks.Given as goal
 abbrev pub invariant-uses : goal.invariant-uses
 invariant-uses g l =
     let us = g.L.Log.uses_of l.log in
-    let says = root_says l.question (g.L.Log.past l.log) us in
-    (done : List Outcome) × Sifts g.S.Sink.gains g.S.Sink.has (table_says l.question (g.L.Log.past l.log) us) l.initial.sink [] done l.sink l.seen × (done ++ flat_map says (drop l.number us) ≡ flat_map says us)
+    let says = root_says l.question (g.L.Log.past l.log) in
+    (done : List Outcome) × Sifts g.S.Sink.gains g.S.Sink.has (table_says l.question (g.L.Log.past l.log)) l.initial.sink [] done l.sink l.seen × (done ++ flat_map says (drop l.number us) ≡ flat_map says us)

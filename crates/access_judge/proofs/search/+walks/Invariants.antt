@@ -33,15 +33,15 @@ decreases-search_table g l = 8 * l.table.now.level + 7
 abbrev pub invariant-search_group-group : goal.invariant-search_group-group
 invariant-search_group-group g l =
     let p = g.L.Log.past l.log in
-    let says = λ (n : ℕ). words_say l.question p (g.L.Log.uses_of l.log) (stand_of l.table) true (versions_of p (stand_of l.table) (l.first + n)) in
-    (done : List Outcome) × Sifts g.S.Sink.gains g.S.Sink.has (table_says l.question p (g.L.Log.uses_of l.log)) l.initial.sink l.initial.seen done l.sink l.seen
+    let says = λ (n : ℕ). words_say l.question p (stand_of l.table) true (versions_of p (stand_of l.table) (l.first + n)) in
+    (done : List Outcome) × Sifts g.S.Sink.gains g.S.Sink.has (table_says l.question p) l.initial.sink l.initial.seen done l.sink l.seen
     × (done ++ flat_map says (range_with_len l.number (16 - l.number)) ≡ flat_map says (range_with_len 0 16))
 
 abbrev pub invariant-search_words-words : goal.invariant-search_words-words
 invariant-search_words-words g l =
     let p = g.L.Log.past l.log in
-    let says = words_say l.question p (g.L.Log.uses_of l.log) (stand_of l.table) l.napot in
-    (done : List Outcome) × (l.moment ≤ length p.events) × Sifts g.S.Sink.gains g.S.Sink.has (table_says l.question p (g.L.Log.uses_of l.log)) l.initial.sink l.initial.seen done l.sink l.seen
+    let says = words_say l.question p (stand_of l.table) l.napot in
+    (done : List Outcome) × (l.moment ≤ length p.events) × Sifts g.S.Sink.gains g.S.Sink.has (table_says l.question p) l.initial.sink l.initial.seen done l.sink l.seen
     × (done ++ says (versions p.first.memory (until p.events l.moment) l.table.ppn l.index) ≡ says (versions_of p (stand_of l.table) l.index))
 
 abbrev pub decreases-search_words-words : goal.decreases-search_words-words

@@ -5,7 +5,7 @@ use Rattle.std.proofs.lemmas.List.{length-reverse}
 use Rattle.walk_rules.specs.Addresses.{top_of}
 use Rattle.access_history.specs.declared.event.Event.TheVariants.{Fence}
 use Rattle.access_judge.specs.Search.{is_address_under}
-use Rattle.mmu.specs.Fencing.{of_key}
+use Rattle.mmu.specs.Fencing.{end_eq, of_key}
 use Rattle.mmu.specs.Recorded.{IsTrueOf, events_of}
 use Rattle.mmu.specs.declared.history.History.{History}
 use Rattle.mmu.proofs.Fenced.{fenced_address, fenced_nothing}
@@ -28,6 +28,7 @@ returns-then-is_address c =
         stores = no_store old.memory old.changes e h (λ f p i. refl) (λ p i. refl) c.requires.stores;
         fences = fenced_address old.fences c.add_address.new.self old.first_satp h c.args.va c.args.asid valid
             (λ n. ap (λ m. unwrap_or (get nat_eq m n) 0) c.add_address.ensures.spaces ∙ c.in_ok-reserve.ensures.spaces n)
+            (λ n m. ap (λ es. get end_eq es (n, m)) c.add_address.ensures.ends ∙ c.in_ok-reserve.ensures.ends n m)
             (λ b page r reach. c.add_address.ensures.addresses b page r reach
             ∙ ap (λ (n : ℕ). if nat_eq (c.args.va.0 / 2 ^ b) page && option_eq nat_eq c.args.asid r then n else of_key c.reserve.new.self b page r) number
             ∙ ap (λ (n : ℕ). if nat_eq (c.args.va.0 / 2 ^ b) page && option_eq nat_eq c.args.asid r then suc (length h) else n) (c.in_ok-reserve.ensures.addresses b page r))
@@ -51,7 +52,7 @@ returns-else-is_address c =
     record {
       sound = subst (IsTrueOf new) (sym events) (record {
         stores = no_store old.memory old.changes e h (λ f p i. refl) (λ p i. refl) c.requires.stores;
-        fences = fenced_nothing old.fences c.reserve.new.self old.first_satp h c.args.va c.args.asid invalid c.in_ok-reserve.ensures.spaces c.in_ok-reserve.ensures.addresses c.requires.fences;
+        fences = fenced_nothing old.fences c.reserve.new.self old.first_satp h c.args.va c.args.asid invalid c.in_ok-reserve.ensures.spaces c.in_ok-reserve.ensures.ends c.in_ok-reserve.ensures.addresses c.requires.fences;
         writes = writes_on old.protection e h (λ f. refl) (λ f. refl) c.requires.writes;
         satps = satps_on old.first_satp old.satp old.epoch old.uses.past.items e h refl refl c.requires.satps;
         unfenced = c.requires.unfenced;

@@ -15,6 +15,6 @@ returns c =
     let events : events_of new ≡ [] = ap reverse c.clear-4.ensures.items in
     let present = c.forget.ensures.first ∙ sym c.forget.ensures.present in
     record {
-      sound = subst (IsTrueOf new) (sym events) (begun_true new c.clear.ensures c.clear-3.ensures.spaces c.clear-3.ensures.addresses c.clear-2.ensures present c.forget.ensures.writes refl refl);
+      sound = subst (IsTrueOf new) (sym events) (begun_true new c.clear.ensures c.clear-3.ensures.spaces c.clear-3.ensures.ends c.clear-3.ensures.addresses c.clear-2.ensures present c.forget.ensures.writes refl refl);
       past = begun_past new c.clear.ensures events present refl ∙ ap (λ (es : PmpEntries). past (begun old).first.memory old.satp (entries_of es) []) c.forget.ensures.present;
     }

@@ -12,7 +12,7 @@ returns c =
     let satp = c.from_word.ensures ∙ sym c.from_word-2.ensures in
     let present = sym c.new-5.ensures.present in
     record {
-      sound = subst (IsTrueOf new) (sym events) (begun_true new c.new-2.ensures c.new-4.ensures.spaces c.new-4.ensures.addresses c.new-3.ensures present c.new-5.ensures.writes satp refl);
+      sound = subst (IsTrueOf new) (sym events) (begun_true new c.new-2.ensures c.new-4.ensures.spaces c.new-4.ensures.ends c.new-4.ensures.addresses c.new-3.ensures present c.new-5.ensures.writes satp refl);
       past = begun_past new c.new-2.ensures events present satp
           ∙ begun_fresh new 0 c.new.ensures c.from_word-2.ensures (ap entries_of c.new-5.ensures.present ∙ c.new-5.ensures.first);
     }

@@ -9,8 +9,8 @@ use Rattle.mmu.specs.Words.{is_in_some, written}
 use Rattle.mmu.specs.Sparse.{is_zeroed, word_of}
 use Rattle.mmu.specs.declared.changes.Change.{Change}
 use Rattle.mmu.specs.declared.history.History.{History}
-use Rattle.mmu.proofs.Storing.{same_first, stored}
-use Rattle.mmu.proofs.Going.{satps_on, writes_on}
+use Rattle.mmu.proofs.Storing.{alike_stores, same_first, stored}
+use Rattle.mmu.proofs.Going.{ends_on, satps_on, writes_on}
 use Rattle.mmu.proofs.Recording.{on_ok, one_more, past_after}
 use Rattle.mmu.proofs.history.History.store.Goals as goal
 
@@ -51,7 +51,7 @@ returns c =
     record {
       sound = subst (IsTrueOf new) (sym events) (record {
         stores = stored old.memory c.write.new.self old.changes c.push.new.self h p i c.args.word place c.requires.stores words zeroed changes;
-        fences = record { spaces = c.requires.fences.spaces; addresses = c.requires.fences.addresses };
+        fences = record { spaces = c.requires.fences.spaces; ends = ends_on old.fences e h (λ n. refl) c.requires.fences.ends; addresses = c.requires.fences.addresses };
         writes = writes_on old.protection e h (λ f. refl) (λ f. refl) c.requires.writes;
         satps = satps_on old.first_satp old.satp old.epoch old.uses.past.items e h refl refl c.requires.satps;
         unfenced = c.requires.unfenced;
@@ -59,3 +59,17 @@ returns c =
       ok = past_after old new (e ∷ h) events (same_first old.memory c.write.new.self old.changes c.push.new.self h p i c.args.word place c.requires.stores words zeroed changes) refl refl;
       err = tt;
     }
+
+pub returns-in_err-push-clause-sound : goal.returns-in_err-push-clause-sound
+returns-in_err-push-clause-sound c =
+    let old = c.args.self.now in
+    let new : History = record { memory = c.reserve-2.new.self; changes = c.push.new.self; first_satp = old.first_satp; satp = old.satp; epoch = old.epoch; uses = old.uses; fences = old.fences; protection = old.protection; events = c.reserve.new.self } in
+    let zeroed : (n : ℕ) → is_zeroed c.reserve-2.new.self n ≡ is_zeroed old.memory n = λ n. ap (λ rs. is_in_some rs n) c.in_ok-reserve-2.ensures.runs in
+    subst (IsTrueOf new) (ap reverse (sym c.in_ok-reserve.ensures.items)) (record {
+      stores = alike_stores old.memory c.reserve-2.new.self old.changes c.push.new.self c.in_ok-reserve-2.ensures.words zeroed c.in_err-push.ensures.err (events_of old)
+          c.requires.stores;
+      fences = c.requires.fences;
+      writes = c.requires.writes;
+      satps = c.requires.satps;
+      unfenced = c.requires.unfenced;
+    })

@@ -1,5 +1,5 @@
-use Rattle.std.proofs.Common.{◌≡◌, true, Option, List, length, ap, sym, ◌∙◌, arith}
-use Rattle.std.proofs.lemmas.Bool.{and_from, cond-true, lt-ltb}
+use Rattle.std.proofs.Common.{◌≡◌, true, false, Option, List, length, ap, sym, ◌∙◌, arith}
+use Rattle.std.proofs.lemmas.Bool.{and_from, and_left, cond-false, cond-true, le-ltb, lt-ltb}
 use Rattle.access_history.specs.History.{memory_at}
 use Rattle.access_history.specs.declared.event.Event.{Event}
 use Rattle.mmu.specs.Changing.{changes_at, word_before}
@@ -9,6 +9,15 @@ use Rattle.mmu.specs.declared.changes.Change.{Change}
 use Rattle.mmu.proofs.Moments.{until_now}
 use Rattle.mmu.proofs.Searching.{after_none}
 use Rattle.mmu.proofs.history.History.word.Goals as goal
+
+pub returns-then-ppn : goal.returns-then-ppn
+returns-then-ppn c =
+    let h = c.args.self.now in
+    let all = length (events_of h) in
+    let outside : is_place c.args.ppn c.args.index ≡ false = and_left _ _ (le-ltb c.args.ppn _ c.if-ppn.true) in
+    sym (cond-false _ _ _ outside)
+    ∙ c.requires.sound.stores.words c.args.ppn c.args.index all
+    ∙ ap (λ (g : List Event). memory_at (first_of h.memory h.changes) g c.args.ppn c.args.index) (until_now (events_of h) all (omega arith))
 
 pub returns : goal.returns
 returns c =

@@ -6,7 +6,7 @@ use Rattle.access_history.specs.declared.event.Event.TheVariants.{WritePmp}
 use Rattle.mmu.specs.Protecting.{entries_of}
 use Rattle.mmu.specs.Recorded.{IsTrueOf, events_of}
 use Rattle.mmu.specs.declared.history.History.{History}
-use Rattle.mmu.proofs.Going.{satps_on, written_pmp}
+use Rattle.mmu.proofs.Going.{ends_on, satps_on, written_pmp}
 use Rattle.mmu.proofs.Recording.{one_more, past_after}
 use Rattle.mmu.proofs.Storing.{no_store}
 use Rattle.mmu.proofs.history.History.write_pmp.Goals as goal
@@ -24,7 +24,7 @@ returns c =
     record {
       sound = subst (IsTrueOf new) (sym events) (record {
         stores = no_store old.memory old.changes e h (λ f p i. refl) (λ p i. refl) c.requires.stores;
-        fences = record { spaces = c.requires.fences.spaces; addresses = c.requires.fences.addresses };
+        fences = record { spaces = c.requires.fences.spaces; ends = ends_on old.fences e h (λ n. refl) c.requires.fences.ends; addresses = c.requires.fences.addresses };
         writes = written_pmp old.protection c.write.new.self c.args.number c.args.entry h (record { number = c.len-at.result + 1; entries = c.write.new.self.present })
             c.in_ok-write.ensures.first c.in_ok-write.ensures.present c.in_ok-write.ensures.writes number refl c.requires.writes;
         satps = satps_on old.first_satp old.satp old.epoch old.uses.past.items e h refl refl c.requires.satps;

@@ -1,12 +1,12 @@
-use Rattle.std.proofs.Common.{◌≡◌, List, ◌∷◌, length, reverse, refl, ap, sym, ◌∙◌, subst, rules}
+use Rattle.std.proofs.Common.{◌≡◌, List, ◌∷◌, reverse, refl, ap, sym, ◌∙◌, subst, rules}
 use Rattle.sv39_entry.specs.Satp.{asid}
 use Rattle.access_history.specs.declared.event.Event.TheVariants.{WriteSatp}
-use Rattle.access_judge.specs.declared.log.PastSatp.{PastSatp}
 use Rattle.mmu.specs.Fencing.{of_space}
 use Rattle.mmu.specs.Recorded.{AreSatps, IsTrueOf, events_of}
 use Rattle.mmu.specs.Using.{Extends}
 use Rattle.mmu.specs.declared.history.History.{History}
-use Rattle.mmu.proofs.Going.{satps_new, satps_on, used_at, writes_on}
+use Rattle.mmu.specs.declared.uses.Used.{Used}
+use Rattle.mmu.proofs.Going.{ends_on, satps_new, satps_on, used_at, writes_on}
 use Rattle.mmu.proofs.Recording.{one_more, past_after}
 use Rattle.mmu.proofs.Storing.{no_store}
 use Rattle.mmu.proofs.history.History.write_satp.Goals as goal
@@ -20,14 +20,14 @@ returns-then-ne c =
     let new : History = record { memory = old.memory; changes = old.changes; first_satp = old.first_satp; satp = c.args.satp; epoch = c.of_space-self.result; uses = c.add.new.self; fences = old.fences; protection = old.protection; events = c.push.new.self } in
     let us = old.uses.past.items in
     let vs = c.add.new.self.past.items in
-    let used = used_at old.satp old.epoch (length h) in
-    let more : Extends us used vs = subst (λ (xs : List PastSatp). Extends xs used vs) c.in_ok-reserve.ensures.past
-    (subst (λ (u : PastSatp). Extends c.reserve.new.self.past.items u vs) c.present-before.ensures c.add.ensures) in
+    let used = used_at old.satp old.epoch in
+    let more : Extends us used vs = subst (λ (xs : List Used). Extends xs used vs) c.in_ok-reserve.ensures.past
+    (subst (λ (u : Used). Extends c.reserve.new.self.past.items u vs) c.present-before.ensures c.add.ensures) in
     let epoch = c.of_space-self.ensures ∙ ap (of_space old.fences) c.asid.ensures ∙ c.requires.fences.spaces (asid c.args.satp) in
     record {
       sound = subst (IsTrueOf new) (sym events) (record {
         stores = no_store old.memory old.changes e h (λ f p i. refl) (λ p i. refl) c.requires.stores;
-        fences = record { spaces = c.requires.fences.spaces; addresses = c.requires.fences.addresses };
+        fences = record { spaces = c.requires.fences.spaces; ends = ends_on old.fences e h (λ n. refl) c.requires.fences.ends; addresses = c.requires.fences.addresses };
         writes = writes_on old.protection e h (λ f. refl) (λ f. refl) c.requires.writes;
         satps = satps_new old.first_satp old.satp old.epoch us vs h c.requires.satps more e c.args.satp c.of_space-self.result refl epoch;
         unfenced = c.requires.unfenced;
@@ -47,9 +47,9 @@ returns-else-ne c =
     record {
       sound = subst (IsTrueOf new) (sym events) (record {
         stores = no_store old.memory old.changes e h (λ f p i. refl) (λ p i. refl) c.requires.stores;
-        fences = record { spaces = c.requires.fences.spaces; addresses = c.requires.fences.addresses };
+        fences = record { spaces = c.requires.fences.spaces; ends = ends_on old.fences e h (λ n. refl) c.requires.fences.ends; addresses = c.requires.fences.addresses };
         writes = writes_on old.protection e h (λ f. refl) (λ f. refl) c.requires.writes;
-        satps = subst (λ (us : List PastSatp). AreSatps old.first_satp old.satp old.epoch us (e ∷ h)) (sym c.in_ok-reserve.ensures.past)
+        satps = subst (λ (us : List Used). AreSatps old.first_satp old.satp old.epoch us (e ∷ h)) (sym c.in_ok-reserve.ensures.past)
             (satps_on old.first_satp old.satp old.epoch old.uses.past.items e h (same ∙ c.requires.satps.now) refl c.requires.satps);
         unfenced = c.requires.unfenced;
       });
