@@ -144,13 +144,9 @@ impl Fences<'_> {
         count
     }
 
-    /// The number of the first fence that ends walks by the satp of a way, which had an ASID, and had it last at a moment; how many there are, if none
-    /// does.
-    fn ending(&self, telling: &Telling<'_>, asid: u16, root: &PastSatp, last: usize) -> usize {
+    /// The number of the first fence that ends walks under an ASID, which satp had last at a moment; how many there are, if none does.
+    fn ending(&self, asid: u16, last: usize) -> usize {
         let count = self.list.len();
-        if root.satp == telling.recorded.unit.satp() {
-            return count;
-        }
         'fences: for number in self.count_until(last)..count {
             if let Some(fence) = self.list.get(number) {
                 if fence.va.is_none() && fence.moment > last && fence.is_for(asid) {
@@ -178,7 +174,7 @@ impl Fences<'_> {
     fn excluding(&self, telling: &Telling<'_>, way: &Way, root: &PastSatp) -> (usize, Excluded) {
         let last = telling.recorded.last_had(root, None).unwrap_or(root.last);
         let (asid, _) = telling.recorded.space_at(last);
-        let (mut number, mut what) = (self.ending(telling, asid, root, last), Excluded::Root);
+        let (mut number, mut what) = (self.ending(asid, last), Excluded::Root);
         'levels: for n in 0..LEVELS {
             if let Some(step) = step_at(way, LEVELS - 1 - n) {
                 if !self.was_before(telling, &step, number) {
