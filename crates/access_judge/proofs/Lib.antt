@@ -12,6 +12,7 @@ mod Listed
 pub mod ListedOutcomes
 mod Moments
 mod Parts
+pub mod QuietRoots
 pub mod Restart
 mod SearchFinds
 mod SearchKinds

@@ -1,8 +1,9 @@
 // Trait `Log`, a hart's history as the search for outcomes asks it; structs `PastWord`, a word that a place had, and `PastSatp`, a word that satp had.
 
-ghost use Rattle.std.specs.Prelude.{◌≡◌, ◌≤◌, ◌<◌, List, length, slice_get, Some};
+ghost use Rattle.std.specs.Prelude.{◌≡◌, ◌≤◌, ◌<◌, false, List, length, slice_get, Some};
 ghost use Rattle.access_history.specs.Permits.{Past, memory_of, satp_of};
 ghost use Rattle.access_judge.specs.Log.{IsPastWord, IsReach, use_of};
+ghost use Rattle.access_judge.specs.Quiet.{HasNoGlobals};
 ghost use Rattle.access_judge.specs.Search.{AreUses, IsUnfenced, Use, address_fence, may_fail, may_pass, space_fence, until, versions};
 
 use sv39_entry::{Access, Satp, Va};
@@ -61,6 +62,10 @@ pub trait Log {
     fn use_at(&self, number: usize) -> PastSatp
         requires { number < length (uses_of self.now) }
         ensures { slice_get (uses_of self.now) number ≡ Some (use_of result) };
+
+    /// Whether a word of memory may make a mapping global, now or before: for speed, since without one only walks of the present ASID count.
+    fn may_be_global(&self) -> bool
+        ensures { (result ≡ false) → HasNoGlobals (past self.now) };
 
     /// Returns the number of the last fence of an ASID, with rs1 = x0. 0: there was none.
     fn space_fence(&self, asid: u16) -> usize

@@ -9,7 +9,8 @@ ghost use Rattle.access_judge.specs.Judging.{IsRootTable, root_says, table_says}
 ghost use Rattle.access_judge.specs.Sifting.{Sifts};
 ghost use Rattle.access_judge.specs.Listing.{EachOnce};
 ghost use Rattle.access_judge.specs.Log.{use_of};
-ghost use Rattle.access_judge.specs.Search.{ArePermitted, outcomes_by, page_fault, root_at, translated};
+ghost use Rattle.access_judge.specs.Quiet.{IsOver};
+ghost use Rattle.access_judge.specs.Search.{ArePermitted, IsUse, outcomes_by, page_fault, root_at, translated};
 
 use crate::findings::{Findings, Seeker};
 use crate::log::{Log, PastSatp};
@@ -115,6 +116,13 @@ fn tell_walks<L: Log, S: Sink>(log: &L, question: &Question, sink: &mut S)
     }
 }
 
+/// Whether walks under a word that satp had serve no more.
+fn is_over<L: Log>(log: &L, root: &PastSatp) -> bool
+    ensures { IsTrue result → IsOver (L.past log.now) (use_of root.now) }
+{
+    (root.last < log.now() || root.satp.asid() != log.satp().asid()) && !log.may_be_global()
+}
+
 /// Tells what walks come to from the root of a word that satp had.
 fn search_from<L: Log, S: Sink>(
     log: &L,
@@ -123,9 +131,12 @@ fn search_from<L: Log, S: Sink>(
     seen: &mut Seen,
     sink: &mut S,
 )
-    requires { root.last ≤ length (L.past log.now).events }
+    requires { IsUse (L.past log.now).first.satp (L.past log.now).events (use_of root) }
     ensures { Sifts S.gains S.has (table_says question.now (L.past log.now)) sink.old seen.old (root_says question.now (L.past log.now) (use_of root)) sink.new seen.new }
 {
+    if is_over(log, &root) {
+        return;
+    }
     if let Some(table) = root_table(question, &root) {
         sink.begin(root);
         if sink.wants_each_root() {

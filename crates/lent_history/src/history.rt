@@ -130,6 +130,11 @@ impl Log for LentHistory<'_> {
         use_at(self.events, used, moment, satp)
     }
 
+    // the memory is the caller's, and may have any words
+    fn may_be_global(&self) -> bool {
+        true
+    }
+
     fn space_fence(&self, asid: u16) -> usize {
         space_fence(self.events, self.used(), asid)
     }

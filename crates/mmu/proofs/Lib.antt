@@ -7,3 +7,4 @@ pub mod Going
 pub mod Recording
 pub mod Fenced
 pub mod Beginning
+pub mod Local

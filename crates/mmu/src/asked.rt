@@ -37,6 +37,10 @@ impl Log for Mmu {
         self.history.use_at(number)
     }
 
+    fn may_be_global(&self) -> bool {
+        self.may_be_global
+    }
+
     fn space_fence(&self, asid: u16) -> usize {
         self.history.fences.of_space(asid)
     }

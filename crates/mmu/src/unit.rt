@@ -1,6 +1,9 @@
 // `Mmu`: a struct, the memory, satp and PMP of a hart with the history of them, and the calls that add an event.
 
-ghost use Rattle.mmu.specs.Recorded.{IsSound};
+ghost use Rattle.std.specs.Prelude.{◌≡◌, false};
+ghost use Rattle.access_history.specs.Held.{has_global};
+ghost use Rattle.access_judge.specs.Quiet.{HasNoGlobals};
+ghost use Rattle.mmu.specs.Recorded.{IsSound, past_of};
 ghost use Rattle.std.proofs.Props.{props};
 
 use crate::history::History;
@@ -12,7 +15,17 @@ use walk_rules::PmpEntry;
 #[derive(Drop)]
 pub struct Mmu {
     pub(crate) history: History,
+    // a word with V and G was written
+    pub(crate) may_be_global: bool,
     ghost sound: { IsSound history } by { Prim.hlevel props },
+    ghost local: { may_be_global ≡ false → HasNoGlobals (past_of history) } by { Prim.hlevel props },
+}
+
+/// Whether a PTE with this word makes what it maps global: V and G.
+fn is_global(word: u64) -> bool
+    ensures { result ≡ has_global word }
+{
+    word % 2 == 1 && word / 32 % 2 == 1
 }
 
 impl Mmu {
@@ -28,6 +41,7 @@ impl Mmu {
     {
         Mmu {
             history: History::new(alloc),
+            may_be_global: false,
         }
     }
 
@@ -36,6 +50,7 @@ impl Mmu {
         ensures { past self.new ≡ fresh pmp_entries }
     {
         self.history.reset(pmp_entries);
+        self.may_be_global = false;
     }
 
     /// Adds the words of memory from a physical address on below another. Those that were not there at first were zero from the first on. The low 3
@@ -58,6 +73,10 @@ impl Mmu {
         ensures ok { OnOk result (past self.new ≡ happened (event.Store (address / 4096) (address % 4096 / 8) word) (past self.old)) }
         ensures err { OnErr result (past self.new ≡ past self.old) }
     {
+        if is_global(word) {
+            self.may_be_global = true;
+            return self.history.store(address, word);
+        }
         self.history.store(address, word)
     }
 

@@ -123,6 +123,23 @@ impl Denial<'_> {
         true
     }
 
+    /// Appends what there is to a fault that the client tells by a PTE at which no walk for the access ends or ended: which check of the walk or
+    /// which MODE leads there, or else that none does; returns whether it tells one.
+    fn put_unknown_at_fault(&self, out: &mut Text) -> bool
+        requires { 1 ≤ self.now.request.width }
+    {
+        let (End::Refused(_), Some(word)) = (self.claim.end, self.claim.by) else {
+            return false;
+        };
+        if self
+            .witness
+            .has_word(self.profile.extensions, self.request, word)
+        {
+            return false;
+        }
+        self.telling.put_slip(out, self.claim) || self.put_mode(out) || self.put_unknown(out, word)
+    }
+
     /// Appends under which other MODE of satp what the client tells would be so; returns whether it would under one that the hart has, and no
     /// fence and no ASID says why it is not.
     fn put_mode(&self, out: &mut Text) -> bool
@@ -145,6 +162,9 @@ impl Denial<'_> {
         requires { 1 ≤ self.now.request.width }
     {
         let (telling, claim) = (&self.telling, self.claim);
+        if self.put_unknown_at_fault(out) {
+            return true;
+        }
         if telling.put_present(out, claim) || telling.put_slip(out, claim) || self.put_mode(out) {
             return true;
         }

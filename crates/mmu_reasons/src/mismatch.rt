@@ -146,7 +146,7 @@ impl Telling<'_> {
         (kind.page_fault_cause(), kind.access_fault_cause())
     }
 
-    /// Appends that MPRV gives the access the mode of MPP, if it does.
+    /// Appends that MPRV gives the access the mode of MPP, if it does; or that it does not, if it is 1.
     fn put_mprv(&self, out: &mut Text) {
         if self.request.privilege == Privilege::Machine {
             let mode = match self.privilege() {
@@ -155,6 +155,8 @@ impl Telling<'_> {
                 Privilege::Machine => "M",
             };
             write!(out, ", as MPRV is 1 and MPP {mode}")
+        } else if self.request.status.mprv {
+            out.push_str(", as MPRV acts in M-mode alone")
         }
     }
 
@@ -170,7 +172,10 @@ impl Telling<'_> {
             _ => "U is 0, in S-mode",
         };
         write!(out, ": {right} is 1, and {mode}");
-        self.put_mprv(out)
+        self.put_mprv(out);
+        if self.request.va.0 >= 1 << 63 {
+            out.push_str(", and the address is canonical")
+        }
     }
 
     /// Appends by what a leaf grants an access that a client tells to be a page fault, if that is a bit of mstatus or an extension; returns
@@ -491,8 +496,8 @@ impl Telling<'_> {
         true
     }
 
-    /// Appends that the access isn't translated, and why.
-    fn put_untranslated(&self, out: &mut Text) {
+    /// Appends that the access isn't translated, with what follows from it, and why.
+    fn put_untranslated(&self, out: &mut Text, so: &str) {
         let (fetches, mprv) = (self.request.kind == Access::Fetch, self.request.status.mprv);
         let why = match self.privilege() {
             Privilege::Machine if fetches && mprv => "MPRV does not act on a fetch",
@@ -500,7 +505,7 @@ impl Telling<'_> {
             Privilege::Machine => "it is of M-mode",
             _ => "satp is Bare",
         };
-        write!(out, "the access isn't translated: {why}")
+        write!(out, "the access isn't translated{so}: {why}")
     }
 
     /// Appends what an access that isn't translated comes to in place of a grant at a physical address that a client tells.
@@ -508,8 +513,25 @@ impl Telling<'_> {
         if pa == self.request.va.0 {
             self.put_fault_at(out, pa)
         } else {
-            self.put_untranslated(out)
+            self.put_untranslated(out, "")
         }
+    }
+
+    /// Appends what an access that isn't translated comes to in place of a fault that a client tells.
+    fn put_for_bare_fault(&self, out: &mut Text, cause: u64) {
+        let pa = self.request.va.0;
+        if cause == self.request.kind.access_fault_cause() {
+            self.put_untranslated(out, "");
+            let (access, hex) = (access_text(self.request.kind), Hex(pa));
+            return write!(out, ", and nothing refuses the {access} at {hex}");
+        }
+        if self.is_refused_at(pa) {
+            self.put_untranslated(out, "");
+            out.push_str(", and ");
+            self.put_fault_at(out, pa);
+            return self.put_no_page_fault(out);
+        }
+        self.put_untranslated(out, ", and has no page fault")
     }
 
     /// Appends what the walk comes to in place of a fault that a client tells.
@@ -519,13 +541,7 @@ impl Telling<'_> {
         }
         match self.walk() {
             Some(way) => self.put_other(out, way, cause),
-            None => {
-                self.put_untranslated(out);
-                if cause == self.request.kind.access_fault_cause() {
-                    let (access, pa) = (access_text(self.request.kind), Hex(self.request.va.0));
-                    write!(out, ", and nothing refuses the {access} at {pa}")
-                }
-            }
+            None => self.put_for_bare_fault(out, cause),
         }
     }
 

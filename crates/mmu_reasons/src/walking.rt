@@ -49,9 +49,9 @@ fn read(
     })
 }
 
-/// Whether a PTE has V alone of V, R, W and X.
+/// Whether a PTE has none of R, W and X.
 fn has_no_right(entry: Entry) -> bool {
-    entry.to_word() % 16 == 1
+    entry.to_word() % 16 < 2
 }
 
 /// The PTEs, by level, that a walk reads from the root's table on, whose PTEs have level `top`.

@@ -14,7 +14,7 @@ use mmu_requests::Claim;
 use std::alloc::{AllocError, Global};
 use sv39_entry::{Kind, Satp, Va};
 use text_builder::Text;
-use walk_rules::{Extensions, PmpEntry};
+use walk_rules::{Extensions, PmpEntry, top_level};
 
 /// A history without fences.
 #[derive(Drop)]
@@ -50,6 +50,8 @@ struct Exclusion {
 struct Foreign {
     step: Step,
     asid: u16,
+    /// Whether pointers led to it.
+    is_below: bool,
 }
 
 /// Why an outcome is not permitted that was possible before a fence, or is by a PTE of another ASID.
@@ -244,7 +246,12 @@ impl Witness {
         let root = told.way.root?;
         let (asid, moment) = self.unspaced.space_at(root.last);
         let step = self.last_of_space(extensions, told, moment)?;
-        Some(Foreign { step, asid })
+        let is_below = top_level(root.satp) != Some(step.level);
+        Some(Foreign {
+            step,
+            asid,
+            is_below,
+        })
     }
 
     /// Whether a fence excludes a way.
@@ -423,12 +430,20 @@ impl Witness {
 
     /// Appends why an outcome is not permitted.
     pub fn put_older(&self, out: &mut Text, extensions: Extensions, va: Va, older: &Older) {
-        if let Some(Foreign { step, asid }) = older.foreign {
+        if let Some(
+            Foreign {
+                step,
+                asid,
+                is_below,
+            },
+        ) = older.foreign
+        {
             put_pte(out, extensions, &step);
-            write!(
-                out,
-                " is of another ASID and not global: read under ASID {asid}"
-            );
+            out.push_str(" is of another ASID and not global: ");
+            if is_below {
+                out.push_str("it, or a pointer to it, was ");
+            }
+            write!(out, "read under ASID {asid}");
             if older.exclusion.is_some() {
                 out.push_str("; or ");
             }

@@ -33,17 +33,20 @@ no_end fs none (ends.Granted pa t) after is = none pa is.1
 no_end fs none (ends.Refused cause) after is = none cause is.1
 
 one_type : (fs : List (List ℕ)) (n : ℕ) (s t : Option MemoryType) (k l : ℕ) → IsTypeAt fs n s k → IsTypeAt fs n t l → k ≡ l
-one_type fs n None None k l a b = a.2 ∙ sym b.2
-one_type fs n None (Some types.Pma) k l a b = absurd b
-one_type fs n None (Some types.Nc) k l a b = absurd (a.0 b.0)
-one_type fs n None (Some types.Io) k l a b = absurd (a.1 b.0)
-one_type fs n (Some types.Pma) t k l a b = absurd a
-one_type fs n (Some types.Nc) None k l a b = absurd (b.0 a.0)
-one_type fs n (Some types.Nc) (Some types.Pma) k l a b = absurd b
+one_type fs n None None k l a b = a.3 ∙ sym b.3
+one_type fs n None (Some types.Pma) k l a b = absurd (a.0 b.0)
+one_type fs n None (Some types.Nc) k l a b = absurd (a.1 b.0)
+one_type fs n None (Some types.Io) k l a b = absurd (a.2 b.0)
+one_type fs n (Some types.Pma) None k l a b = absurd (b.0 a.0)
+one_type fs n (Some types.Pma) (Some types.Pma) k l a b = a.1 ∙ sym b.1
+one_type fs n (Some types.Pma) (Some types.Nc) k l a b = a.1 ∙ sym b.1
+one_type fs n (Some types.Pma) (Some types.Io) k l a b = a.1 ∙ sym b.1
+one_type fs n (Some types.Nc) None k l a b = absurd (b.1 a.0)
+one_type fs n (Some types.Nc) (Some types.Pma) k l a b = a.1 ∙ sym b.1
 one_type fs n (Some types.Nc) (Some types.Nc) k l a b = a.1 ∙ sym b.1
 one_type fs n (Some types.Nc) (Some types.Io) k l a b = a.1 ∙ sym b.1
-one_type fs n (Some types.Io) None k l a b = absurd (b.1 a.0)
-one_type fs n (Some types.Io) (Some types.Pma) k l a b = absurd b
+one_type fs n (Some types.Io) None k l a b = absurd (b.2 a.0)
+one_type fs n (Some types.Io) (Some types.Pma) k l a b = a.1 ∙ sym b.1
 one_type fs n (Some types.Io) (Some types.Nc) k l a b = a.1 ∙ sym b.1
 one_type fs n (Some types.Io) (Some types.Io) k l a b = a.1 ∙ sym b.1
 

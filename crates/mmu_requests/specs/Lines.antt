@@ -116,12 +116,12 @@ abbrev pub address_of : Option Va → Option ℕ
 address_of None = None
 address_of (Some va) = Some va.0
 
--- ---- what a client tells of an access: `=> pa PA [nc or io] [set PLACE WORD] [by WORD]`, or `=> fault N [set PLACE WORD] [by WORD]`.
+-- ---- what a client tells of an access: `=> pa PA [pma, nc or io] [set PLACE WORD] [by WORD]`, or `=> fault N [set PLACE WORD] [by WORD]`.
 -- Each part is read from a field on, up to the field with the last number
 
 abbrev pub IsTypeAt : List (List ℕ) → ℕ → Option MemoryType → ℕ → Type 0
-IsTypeAt fs n None after = (TextAt fs n (codes "nc") → ⊥) × (TextAt fs n (codes "io") → ⊥) × (after ≡ n)
-IsTypeAt fs n (Some types.Pma) after = ⊥
+IsTypeAt fs n None after = (TextAt fs n (codes "pma") → ⊥) × (TextAt fs n (codes "nc") → ⊥) × (TextAt fs n (codes "io") → ⊥) × (after ≡ n)
+IsTypeAt fs n (Some types.Pma) after = TextAt fs n (codes "pma") × (after ≡ n + 1)
 IsTypeAt fs n (Some types.Nc) after = TextAt fs n (codes "nc") × (after ≡ n + 1)
 IsTypeAt fs n (Some types.Io) after = TextAt fs n (codes "io") × (after ≡ n + 1)
 

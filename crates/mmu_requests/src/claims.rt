@@ -1,4 +1,4 @@
-// The fields of a line that tell an outcome (`Fields::claim`): `=> pa PA [nc or io] [set PLACE WORD] [by WORD]`, or `=> fault N ..`.
+// The fields of a line that tell an outcome (`Fields::claim`): `=> pa PA [pma, nc or io] [set PLACE WORD] [by WORD]`, or `=> fault N ..`.
 
 ghost use Rattle.std.specs.Prelude.{◌≡◌, ℕ, IfErr, IfOk, IsTrue, None, Option, Some, false, slice_get, codes, ◌<◌, ◌≤◌, ◌+◌};
 ghost use Rattle.access_history.specs.declared.outcome.Update.{Update};
@@ -16,7 +16,7 @@ use walk_rules::MemoryType;
 
 /// What may follow an access.
 const FORM: &str =
-    "an outcome is \"=> pa PA [nc or io] [set PLACE WORD] [by WORD]\" or \"=> fault N [set PLACE WORD] [by WORD]\"";
+    "an outcome is \"=> pa PA [pma, nc or io] [set PLACE WORD] [by WORD]\" or \"=> fault N [set PLACE WORD] [by WORD]\"";
 
 impl<'a> Fields<'a> {
     /// Whether a field is there and is a text.
@@ -36,6 +36,9 @@ impl<'a> Fields<'a> {
         ensures value { IsTypeAt (fields_of self.now.line.now) n result.0 result.1 }
         ensures few { result.1 ≤ n + 1 }
     {
+        if self.has_text(n, b"pma") {
+            return (Some(MemoryType::Pma), n + 1);
+        }
         if self.has_text(n, b"nc") {
             return (Some(MemoryType::Nc), n + 1);
         }

@@ -1,10 +1,8 @@
 use Rattle.std.proofs.Common.{◌≤◌, [], ◌++◌, List, length, subst, sym, ◌∙◌, refl, arith}
 use Rattle.std.specs.List.{flat_map}
-use Rattle.sv39_entry.specs.Satp.{asid}
 use Rattle.access_history.specs.declared.outcome.Outcome.{Outcome}
 use Rattle.access_judge.specs.Judging.{root_says}
 use Rattle.access_judge.specs.Log.{use_of}
-use Rattle.access_judge.proofs.EpochEnds.{epoch_end_low}
 use Rattle.access_judge.proofs.SearchLists.{at_contains}
 use Rattle.access_judge.proofs.Sifting.{sifted, sifts_first, sifts_on}
 use Rattle.access_judge.proofs.TableSays.{roots_are, uses_all, uses_more}
@@ -13,11 +11,8 @@ use Rattle.access_judge.proofs.permitted.tell_walks.Goals as goal
 pub search_from-requires : goal.search_from-requires
 search_from-requires g c =
     let us = g.L.Log.uses_of c.args.log.now in
-    let h = (g.L.Log.past c.args.log.now).events in
     let u = use_of c.use_at-root.result in
-    let last = ((g.met.L.Log.are_uses c.args.log.now).only u (at_contains us c.uses.number u c.use_at-root.ensures)).0 in
-    let low = epoch_end_low h (asid u.satp) u.epoch in
-    omega (arith, last, low)
+    (g.met.L.Log.are_uses c.args.log.now).only u (at_contains us c.uses.number u c.use_at-root.ensures)
 
 pub uses-init : goal.uses-init
 uses-init g c = ([], sifts_first g.met.S.Sink.gains_nothing c.args.sink.now c.new-seen.ensures, refl)

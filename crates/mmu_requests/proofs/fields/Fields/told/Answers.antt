@@ -1,8 +1,15 @@
 use Rattle.std.proofs.Common.{rules, ◌≡◌, Err, None, slice_get}
 use Rattle.script_language.specs.Lines.{fields_of}
-use Rattle.mmu_requests.proofs.NoClaims.{no_more, no_third}
+use Rattle.mmu_requests.proofs.NoClaims.{no_more, no_second, no_third}
 use Rattle.mmu_requests.proofs.NoRequests.{if_mistake, weaker}
 use Rattle.mmu_requests.proofs.fields.Fields.told.Goals as goal
+
+pub returns-in_err-update-clause-faulty : goal.returns-in_err-update-clause-faulty
+returns-in_err-update-clause-faulty c =
+    let told : c.from_residual-in_err-update.result ≡ Err c.in_err-update.field-0.0 = search rules in
+    let fs = fields_of c.args.self.now.line.now in
+    let none = no_second fs c.in_ok-end.end c.in_ok-end.after c.in_ok-end.ensures.ok in
+    rw told (weaker c.in_err-update.field-0.0 none c.in_err-update.ensures.faulty)
 
 pub returns-in_err-by-clause-faulty : goal.returns-in_err-by-clause-faulty
 returns-in_err-by-clause-faulty c =
