@@ -85,7 +85,9 @@ def wrong_leaf(seen, line, answer):
     if not found:
         return None
     word, level, lack = int(found[1], 16), int(found[2]), found[3].split("; or ")[0]
-    if not line.split(" => ")[1].startswith(f"pa {leads_to(seen.profile, word, level, seen.access.va):#x}"):
+    # where it leads with V, as Svnapot has it, or as it stands
+    places = tuple(f"pa {leads_to(seen.profile, it, level, seen.access.va):#x}" for it in (word, word | 1))
+    if not line.split(" => ")[1].startswith(places):
         return f"{word:#x} leads elsewhere"
     if kind_of(seen.profile, word, level) != "leaf":
         first = next((it for it in ("V is 0", "W is 1 and R is 0") if INVALID[it](word, level)), lack)

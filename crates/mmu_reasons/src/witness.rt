@@ -9,7 +9,7 @@ use crate::seeking::{oldest, seek_by, ways_to};
 use crate::telling::Telling;
 use crate::ways::{LEVELS, ends_at_leaf, put_pte, step_at};
 use access_history::Request;
-use access_judge::{Log, PastSatp, Step, Told, Way};
+use access_judge::{Log, PastSatp, Step, Told};
 use mmu_requests::Claim;
 use std::alloc::{AllocError, Global};
 use sv39_entry::{Kind, Satp, Va};
@@ -231,14 +231,9 @@ impl Witness {
     fn of_another_space(&self, told: &Told) -> Option<Told> {
         let (root, asid) = (told.way.root?, self.unfenced.unit.satp().asid());
         let last = self.unspaced.last_had(&root, Some(asid))?;
-        let way = Way {
-            root: Some(PastSatp { last, ..root }),
-            steps: told.way.steps,
-        };
-        Some(Told {
-            outcome: told.outcome,
-            way,
-        })
+        let mut found = *told;
+        found.way.root = Some(PastSatp { last, ..root });
+        Some(found)
     }
 
     /// Which PTE of such a way is of another ASID, if one is.
