@@ -85,8 +85,9 @@ def wrong_leaf(seen, line, answer):
     if not found:
         return None
     word, level, lack = int(found[1], 16), int(found[2]), found[3].split("; or ")[0]
-    # where it leads with V, as Svnapot has it, or as it stands
-    places = tuple(f"pa {leads_to(seen.profile, it, level, seen.access.va):#x}" for it in (word, word | 1))
+    # where it leads as it stands, and as a leaf with V and without reserved bits: by Svnapot's N, then
+    as_leaf = word & (1 << 63 | (1 << 54) - 1) | 3
+    places = tuple(f"pa {leads_to(seen.profile, it, level, seen.access.va):#x}" for it in (word, as_leaf))
     if not line.split(" => ")[1].startswith(places):
         return f"{word:#x} leads elsewhere"
     if kind_of(seen.profile, word, level) != "leaf":
@@ -108,7 +109,7 @@ def wrong_slip(seen, answer):
     found = re.search(r"PTE (0x[0-9a-f]+) at level (\d) is on the way there: (.*?)(?:; or |\. Permitted: )", answer)
     if found:
         word, level, lack = int(found[1], 16), int(found[2]), found[3]
-        is_so = level > 0 and word & 15 == 1 and lack in INVALID and INVALID[lack](word, level) and kind_of(seen.profile, word, level) == "invalid"
+        is_so = level > 0 and word & 14 == 0 and lack in INVALID and INVALID[lack](word, level) and kind_of(seen.profile, word, level) == "invalid"
         return None if is_so else f"{word:#x} is a pointer"
     found = re.search(r"it would be so under Sv(\d\d), but MODE in satp is Sv(\d\d)", answer)
     if found:
