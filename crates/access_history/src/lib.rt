@@ -3,10 +3,12 @@
 #![tactic(auto)]
 
 mod event;
+mod global;
 mod laws;
 mod outcome;
 
 pub use event::Event;
+pub use global::has_global;
 pub use laws::{
     fences_cover, full_fence_forgets, held_is_kept, held_now_is_walk, plain_kinds, plain_walks,
     stale_leaf_is_permitted,

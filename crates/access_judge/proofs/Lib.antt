@@ -1,4 +1,3 @@
-pub mod Bits
 mod Ending
 pub mod EpochEnds
 pub mod Exact

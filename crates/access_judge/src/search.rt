@@ -6,7 +6,6 @@ ghost use Rattle.sv39_entry.specs.declared.access.Access.TheVariants as access;
 ghost use Rattle.walk_rules.specs.declared.status.Privilege.TheVariants as privilege;
 ghost use Rattle.sv39_entry.specs.declared.entry.Kind.TheVariants.{Leaf};
 ghost use Rattle.walk_rules.specs.Kinds.{is_napot, kind_in};
-ghost use Rattle.access_history.specs.Held.{has_global};
 ghost use Rattle.access_judge.specs.Judging.{counts, IsStep, IsTable, entries_say, found_of, group_says, index_at, item_says, pointer_says};
 ghost use Rattle.access_judge.specs.Judging.{stand_of, step_says, IsBelowTable, table_says, versions_of, word_says, words_say};
 ghost use Rattle.access_judge.specs.Older.{HidesOlder};
@@ -19,8 +18,8 @@ use crate::present::fails_now;
 use crate::question::{Question, Table, access_fault};
 use crate::seen::Seen;
 use crate::sink::{Sink, Step};
-use bitflags::Flags;
-use sv39_entry::{Access, Entry, EntryFlags, Kind, PAGE_SIZE};
+use access_history::has_global;
+use sv39_entry::{Access, Entry, Kind, PAGE_SIZE};
 use walk_rules::Privilege;
 
 /// Tells what walks come to from a table on.
@@ -348,12 +347,4 @@ fn step_of(table: &Table, index: usize, entry: Entry, last: usize) -> Step
         asid: table.asid,
         global: table.global || has_global(entry),
     }
-}
-
-/// Whether a PTE has V and G.
-#[tactic(auto, using(crate::proofs::Bits::flags))]
-fn has_global(entry: Entry) -> bool
-    ensures { result ≡ has_global entry }
-{
-    entry.has(EntryFlags::VALID) && entry.has(EntryFlags::GLOBAL)
 }

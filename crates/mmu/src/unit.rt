@@ -1,14 +1,14 @@
 // `Mmu`: a struct, the memory, satp and PMP of a hart with the history of them, and the calls that add an event.
 
 ghost use Rattle.std.specs.Prelude.{◌≡◌, false};
-ghost use Rattle.access_history.specs.Held.{has_global};
 ghost use Rattle.access_judge.specs.Quiet.{HasNoGlobals};
 ghost use Rattle.mmu.specs.Recorded.{IsSound, past_of};
 ghost use Rattle.std.proofs.Props.{props};
 
 use crate::history::History;
+use access_history::has_global;
 use std::alloc::{AllocError, Global};
-use sv39_entry::{Satp, Va};
+use sv39_entry::{Entry, Satp, Va};
 use walk_rules::PmpEntry;
 
 /// A memory, satp and PMP, with what happened to them since the last fence of everything, or from the first.
@@ -19,13 +19,6 @@ pub struct Mmu {
     pub(crate) may_be_global: bool,
     ghost sound: { IsSound history } by { Prim.hlevel props },
     ghost local: { may_be_global ≡ false → HasNoGlobals (past_of history) } by { Prim.hlevel props },
-}
-
-/// Whether a PTE with this word makes what it maps global: V and G.
-fn is_global(word: u64) -> bool
-    ensures { result ≡ has_global word }
-{
-    word % 2 == 1 && word / 32 % 2 == 1
 }
 
 impl Mmu {
@@ -73,7 +66,7 @@ impl Mmu {
         ensures ok { OnOk result (past self.new ≡ happened (event.Store (address / 4096) (address % 4096 / 8) word) (past self.old)) }
         ensures err { OnErr result (past self.new ≡ past self.old) }
     {
-        if is_global(word) {
+        if has_global(Entry::from_word(word)) {
             self.may_be_global = true;
             return self.history.store(address, word);
         }

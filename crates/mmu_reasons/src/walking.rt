@@ -5,9 +5,9 @@ ghost use Rattle.std.specs.Prelude.{◌≤◌};
 
 use crate::recorded::Recorded;
 use crate::ways::{LEVELS, end_of, kind_text, place_at, step_at};
+use access_history::has_global;
 use access_judge::{Log, PastSatp, Step, Told, Way};
-use bitflags::Flags;
-use sv39_entry::{Entry, EntryFlags, Kind, Satp, Va};
+use sv39_entry::{Entry, Kind, Satp, Va};
 use text_builder::Text;
 use walk_lines::Hex;
 use walk_rules::{Extensions, leads_to, pmp_permits_read, reach, top_level};
@@ -37,7 +37,6 @@ fn read(
     if slip != Slip::Pmp && !pmp_permits_read(unit.pmp(), place_at(table, index)) {
         return None;
     }
-    let is_global = entry.has(EntryFlags::VALID) && entry.has(EntryFlags::GLOBAL);
     Some(Step {
         level,
         ppn: table,
@@ -45,7 +44,7 @@ fn read(
         entry,
         last: unit.now(),
         asid: unit.satp().asid(),
-        global: global || is_global,
+        global: global || has_global(entry),
     })
 }
 
