@@ -1,8 +1,9 @@
 // `play`: plays those of some lines that are kept, and then the line behind them.
 
-ghost use Rattle.std.specs.Prelude.{◌≡◌, ⊤, IfOk, MatchOption, slice_get};
-ghost use Rattle.mmu_lines.specs.States.{state_of};
+ghost use Rattle.std.specs.Prelude.{◌≡◌, ⊤, true, IfOk, MatchOption, slice_get};
+ghost use Rattle.mmu_lines.specs.States.{begun, state_of};
 ghost use Rattle.mmu_lines.specs.Playing.{GoesIf, IsDenied, IsLast, denies, is_fine};
+ghost use Rattle.mmu_requests.specs.Profiles.{plain_with};
 
 use crate::line::Line;
 use crate::player::MmuPlayer;
@@ -10,14 +11,14 @@ use mmu_reasons::Answer;
 use std::alloc::{AllocError, Global};
 
 /// Whether an answer is `NOT permitted`.
-pub fn denies(answer: &Answer) -> bool
+fn denies(answer: &Answer) -> bool
     ensures { result ≡ denies answer.now }
 {
     matches!(answer, Answer::NotPermitted { .. })
 }
 
 /// Whether an answer is neither `NOT permitted` nor that to a faulty line.
-pub fn is_fine(answer: Answer) -> bool
+fn is_fine(answer: Answer) -> bool
     ensures { result ≡ is_fine answer }
 {
     !matches!(answer, Answer::NotPermitted { .. } | Answer::Error { .. })
@@ -55,6 +56,27 @@ fn end(player: &mut MmuPlayer, lines: &[Line], n: usize) -> Result<Option<Answer
     }
 }
 
+/// Plays those of the first lines that are kept, and then the line behind them. Returns the answer to that one if it is `NOT permitted` and
+/// each one before it is fine.
+///
+/// # Errors
+/// `AllocError`: the host is out of memory.
+fn play_with(
+    player: &mut MmuPlayer,
+    lines: &[Line],
+    keeps: &[bool],
+) -> Result<Option<Answer>, AllocError>
+    requires { state_of player.old ≡ begun (plain_with true) }
+    ensures { IfOk result (λ answer. MatchOption answer ⊤ (IsDenied lines.now keeps.now)) }
+{
+    'lines: for n in 0..keeps.len() {
+        if keeps[n] && !go(player, lines, n)? {
+            return Ok(None);
+        }
+    }
+    end(player, lines, keeps.len())
+}
+
 /// Plays, with a new player, those of the first lines that are kept, and then the line behind them. Returns the answer to that one if it
 /// is `NOT permitted` and each one before it is fine.
 ///
@@ -63,14 +85,5 @@ fn end(player: &mut MmuPlayer, lines: &[Line], n: usize) -> Result<Option<Answer
 pub fn play(alloc: Global, lines: &[Line], keeps: &[bool]) -> Result<Option<Answer>, AllocError>
     ensures { IfOk result (λ answer. MatchOption answer ⊤ (IsDenied lines.now keeps.now)) }
 {
-    let mut player = MmuPlayer::new(alloc);
-    'lines: for n in 0..keeps.len() {
-        if keeps[n] && !go(&mut player, lines, n)? {
-            return Ok(None);
-        }
-    }
-    match end(&mut player, lines, keeps.len())? {
-        Some(answer) => Ok(Some(answer)),
-        None => Ok(None),
-    }
+    play_with(&mut MmuPlayer::new(alloc), lines, keeps)
 }

@@ -1,5 +1,5 @@
 use Rattle.mmu_lines.specs.States.{state_of}
-use Rattle.mmu_lines.proofs.playing.play.Given as goal
+use Rattle.mmu_lines.proofs.playing.play_with.Given as goal
 use Rattle.mmu_lines.specs.Playing.{IsAfter}
 
 -- those of the first n lines that are kept were played, with fine answers
