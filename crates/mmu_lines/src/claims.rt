@@ -72,6 +72,21 @@ fn is_at_place(update: Update, other: Update) -> bool {
     update.table == other.table && update.index == other.index
 }
 
+/// The memory type of an outcome, in words.
+fn type_text(outcome: Outcome) -> &'static str {
+    match outcome {
+        Outcome::Granted {
+            memory_type: MemoryType::Nc,
+            ..
+        } => "the memory type is nc, by PBMT 1",
+        Outcome::Granted {
+            memory_type: MemoryType::Io,
+            ..
+        } => "the memory type is io, by PBMT 2",
+        _ => "the memory type is pma, by PBMT 0",
+    }
+}
+
 /// Returns in what a permitted outcome of the same end, which is not what a client tells, is another: the PTE that the hart wrote, or the memory type.
 pub(crate) fn difference(told: Option<Update>, outcome: Outcome) -> &'static str {
     let (Outcome::Granted { update, .. } | Outcome::Refused { update, .. }) = outcome;
@@ -86,6 +101,6 @@ pub(crate) fn difference(told: Option<Update>, outcome: Outcome) -> &'static str
         }
         (Some(told), Some(update)) if told.word != update.word =>
             "the hart sets the PTE to another word",
-        _ => "the memory type is another",
+        _ => type_text(outcome),
     }
 }

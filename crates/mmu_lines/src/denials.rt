@@ -4,7 +4,7 @@ ghost use Rattle.std.specs.Prelude.{◌≤◌};
 
 use crate::claims::difference;
 use access_judge::Told;
-use mmu_reasons::{By, Recorded, Telling, Witness, seek_by, seek_refusal};
+use mmu_reasons::{By, Older, Recorded, Telling, Witness, seek_by, seek_refusal};
 use mmu_requests::{Claim, End, Profile};
 use text_builder::Text;
 use walk_lines::Hex;
@@ -80,6 +80,10 @@ impl Denial<'_> {
             self.request,
             word,
         ) {
+            Some(told) if self.claim.is_end(told.outcome) => {
+                out.push_str(difference(self.claim.update, told.outcome));
+                true
+            }
             Some(told) => self.telling.put_by(out, self.claim, &told),
             None => false,
         }
@@ -191,17 +195,9 @@ impl Denial<'_> {
         true
     }
 
-    /// Appends why the outcome is not permitted.
-    pub fn put(&self, out: &mut Text)
-        requires { 1 ≤ self.now.request.width }
-    {
-        if let Some(text) = self.by_address() {
-            return out.push_str(text);
-        }
-        let is_held = self.put_held(out);
-        let older = self
-            .witness
-            .older(self.profile.extensions, self.request, self.claim, is_held);
+    /// Appends what is permitted in place of what the client tells, if no reason was told (`is_held`: one was), or the fence or the ASID that is
+    /// one.
+    fn put_older(&self, out: &mut Text, older: &Older, is_held: bool) {
         if older.is_nothing() {
             if !is_held {
                 self.put_instead(out);
@@ -214,6 +210,21 @@ impl Denial<'_> {
             out.push_str("; or ");
         }
         self.witness
-            .put_older(out, self.profile.extensions, self.request.va, &older)
+            .put_older(out, self.profile.extensions, self.request.va, older)
+    }
+
+    /// Appends why the outcome is not permitted.
+    pub fn put(&self, out: &mut Text)
+        requires { 1 ≤ self.now.request.width }
+    {
+        if let Some(text) = self.by_address() {
+            return out.push_str(text);
+        }
+        let is_held = self.put_held(out);
+        let older = self
+            .witness
+            .older(self.profile.extensions, self.request, self.claim, is_held);
+        self.put_older(out, &older, is_held);
+        older.put_use(out)
     }
 }

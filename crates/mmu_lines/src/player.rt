@@ -327,6 +327,7 @@ impl MmuPlayer {
         let Some(line) = self.told_line(request, claim, outcome)? else {
             return self.deny(request, claim);
         };
+        self.witness.go_by(self.line, request, claim.by)?;
         self.store_update(claim.update)?;
         Ok(Answer::Permitted(line))
     }

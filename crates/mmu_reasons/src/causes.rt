@@ -19,6 +19,15 @@ pub(crate) fn access_text(access: Access) -> &'static str {
     }
 }
 
+/// The letter of a privilege mode.
+pub(crate) fn mode_text(privilege: Privilege) -> &'static str {
+    match privilege {
+        Privilege::User => "U",
+        Privilege::Supervisor => "S",
+        Privilege::Machine => "M",
+    }
+}
+
 impl Telling<'_> {
     /// Whether the access may be refused at a physical address, by PMP as it is or was.
     pub(crate) fn may_fail(&self, pa: u64) -> bool {

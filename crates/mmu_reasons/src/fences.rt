@@ -22,6 +22,8 @@ pub(crate) struct Fence {
     pub asid: Option<u16>,
     /// The ASID as the client wrote it: with bits that the hart has not.
     pub written: Option<u16>,
+    /// The ASID that satp had.
+    pub under: u16,
     /// The line of the last write of a PMP entry before it. 0: there was none.
     pub pmp_line: u64,
 }
@@ -35,8 +37,33 @@ impl Fence {
         }
     }
 
-    /// Appends the fence as the client writes it, for example `the fence of line 7 (sfence 0x4000 3)`.
-    pub fn put(&self, out: &mut Text) {
+    /// Whether it is for an address of another page of 4 KiB.
+    fn is_beside(&self, va: Va) -> bool {
+        match self.va {
+            Some(address) => address.0 / 4096 != va.0 / 4096,
+            None => false,
+        }
+    }
+
+    /// Whether an access, by the number of its line, was before the fence and went by a PTE that it covers: one for an address, of which so many
+    /// bits are an offset, that a walk under an ASID read; `None`: a global one.
+    pub fn is_since(&self, line: u64, va: Va, bits: u32, asid: Option<u16>) -> bool
+        requires { bits ≤ 48 }
+    {
+        let is_in = match self.va {
+            Some(address) => address.0 >> bits == va.0 >> bits,
+            None => true,
+        };
+        let is_for = match asid {
+            Some(asid) => self.is_for(asid),
+            None => self.asid.is_none(),
+        };
+        self.line > line && is_in && is_for
+    }
+
+    /// Appends the fence as the client writes it, for example `the fence of line 7 (sfence 0x4000 3)`; that the address is one of another page than
+    /// this one, of the same superpage; and the ASID that satp had, if it is another than this one.
+    pub fn put(&self, out: &mut Text, va: Va, asid: u16) {
         let line = self.line;
         write!(out, "the fence of line {line} (sfence");
         match (self.va, self.written) {
@@ -49,6 +76,13 @@ impl Fence {
         }
         if let Some(asid) = self.written {
             write!(out, " {asid}");
+        }
+        if self.is_beside(va) {
+            out.push_str(", another page of the superpage");
+        }
+        if self.under != asid {
+            let under = self.under;
+            write!(out, ", under ASID {under}");
         }
         out.push_str(")")
     }

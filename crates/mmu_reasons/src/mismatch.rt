@@ -2,7 +2,7 @@
 
 ghost use Rattle.std.specs.Prelude.{◌≤◌};
 
-use crate::causes::access_text;
+use crate::causes::{access_text, mode_text};
 use crate::reasons::{Why, why_fault};
 use crate::recorded::A_AND_D;
 use crate::telling::Telling;
@@ -146,16 +146,25 @@ impl Telling<'_> {
         (kind.page_fault_cause(), kind.access_fault_cause())
     }
 
-    /// Appends that MPRV gives the access the mode of MPP, if it does; or that it does not, if it is 1.
-    fn put_mprv(&self, out: &mut Text) {
+    /// Whether a leaf would allow the access, as a client tells (`is_granted`) or does not, if MPRV acted in this mode.
+    fn is_by_mprv(&self, step: &Step, is_granted: bool) -> bool {
+        let (status, kind) = (self.request.status, self.request.kind);
+        match status.mpp.translation_mode() {
+            Some(mode) => {
+                status.mprv
+                    && status.allows(mode, kind, step.entry, step.level.min(4)) == is_granted
+            }
+            None => false,
+        }
+    }
+
+    /// Appends that MPRV gives the access the mode of MPP, if it does; or that it does not, if what a client tells would be so if it did.
+    /// `is_granted`: whether that is a grant by a leaf.
+    fn put_mprv(&self, out: &mut Text, step: &Step, is_granted: bool) {
         if self.request.privilege == Privilege::Machine {
-            let mode = match self.privilege() {
-                Privilege::User => "U",
-                Privilege::Supervisor => "S",
-                Privilege::Machine => "M",
-            };
+            let mode = mode_text(self.privilege());
             write!(out, ", as MPRV is 1 and MPP {mode}")
-        } else if self.request.status.mprv {
+        } else if self.is_by_mprv(step, is_granted) {
             out.push_str(", as MPRV acts in M-mode alone")
         }
     }
@@ -171,11 +180,19 @@ impl Telling<'_> {
             Some(Mode::User) => "U is 1, in U-mode",
             _ => "U is 0, in S-mode",
         };
-        write!(out, ": {right} is 1, and {mode}");
-        self.put_mprv(out);
-        if self.request.va.0 >= 1 << 63 {
-            out.push_str(", and the address is canonical")
-        }
+        let canonical = match self.request.va.0 >> 63 {
+            0 => "",
+            _ => "the address is canonical, ",
+        };
+        write!(out, ": {canonical}{right} is 1, and {mode}");
+        self.put_mprv(out, step, false)
+    }
+
+    /// Appends that a leaf grants the access.
+    fn put_grant(&self, out: &mut Text, step: &Step) {
+        put_pte(out, self.extensions, step);
+        let access = access_text(self.request.kind);
+        write!(out, " grants the {access}")
     }
 
     /// Appends by what a leaf grants an access that a client tells to be a page fault, if that is a bit of mstatus or an extension; returns
@@ -184,10 +201,9 @@ impl Telling<'_> {
         let Some(text) = self.overlooked(step) else {
             return false;
         };
-        put_pte(out, self.extensions, step);
-        let access = access_text(self.request.kind);
-        write!(out, " grants the {access}: {text}");
-        self.put_mprv(out);
+        self.put_grant(out, step);
+        write!(out, ": {text}");
+        self.put_mprv(out, step, false);
         true
     }
 
@@ -228,8 +244,10 @@ impl Telling<'_> {
         put_pte(out, self.extensions, &step);
         let text = why.text;
         write!(out, " leads there, but {text}");
-        if why.step == 7 && claim.update.is_some() {
-            out.push_str(", and the profile has Svade")
+        match why.step {
+            5 => self.put_mprv(out, &step, true),
+            7 if claim.update.is_some() => out.push_str(", and the profile has Svade"),
+            _ => {}
         }
         true
     }
@@ -344,16 +362,15 @@ impl Telling<'_> {
     /// Appends that a leaf grants the access, and by what; or that it leads where PMP as it is, or the memory, refuses it.
     fn put_grants(&self, out: &mut Text, step: &Step) {
         let there = leads_to(step.entry, step.level.min(4), self.request.va);
+        if !self.is_refused_at(there) && self.put_overlooked(out, step) {
+            return;
+        }
+        self.put_grant(out, step);
         if self.is_refused_at(there) {
+            out.push_str(", but ");
             self.put_fault_at(out, there);
             return self.put_no_page_fault(out);
         }
-        if self.put_overlooked(out, step) {
-            return;
-        }
-        put_pte(out, self.extensions, step);
-        let access = access_text(self.request.kind);
-        write!(out, " grants the {access}");
         self.put_right(out, step)
     }
 
@@ -418,7 +435,7 @@ impl Telling<'_> {
         put_pte(out, self.extensions, step);
         let text = why.text;
         write!(out, ": {text}");
-        self.put_mprv(out)
+        self.put_mprv(out, step, told.is_none())
     }
 
     /// Appends at which PTE the walk ends, if a client tells that the access is granted at a physical address.
@@ -464,6 +481,10 @@ impl Telling<'_> {
                 self.put_page_fault_at(out, step, why, Some(cause))
             }
             _ => {
+                if has_ad(self.request.kind, step.entry) {
+                    self.put_grant(out, step);
+                    out.push_str(", but ");
+                }
                 self.put_fault_by(out, step, false);
                 self.put_no_page_fault(out)
             }
