@@ -34,11 +34,42 @@ def instead(answer):
     return listed(answer.rpartition(". Permitted: ")[2])
 
 
-def wrong_reason(answer, lines):
-    """What is wrong with the lines that a reason names; None if nothing is."""
-    for number, text in re.findall(r"the fence of line (\d+) \(([^)]*)\)", answer):
-        if text and lines[int(number) - 1].removesuffix(" -") != text:
-            return f"line {number} is {lines[int(number) - 1]!r}"
+def asid_before(lines, got, place):
+    """The ASID of satp before the line at a place, by the answers to the lines before; 0 if there is none since the hart began."""
+    for before in range(place - 1, -1, -1):
+        if lines[before].startswith(("profile", "reset")):
+            return 0
+        if got[before].startswith("satp "):
+            return asid_of(int(got[before].split()[1], 16))
+    return 0
+
+
+def wrong_fenced(number, text, lines, got, place):
+    """What is wrong with what a reason says of a fence that excludes something; None if nothing is."""
+    said, *more = text.split(", ")
+    fence = lines[number - 1]
+    if fence.removesuffix(" -") != said:
+        return f"line {number} is {fence!r}"
+    va = fence.split()[1] if " " in fence else "-"
+    is_beside = va != "-" and int(va, 0) >> 12 != int(lines[place].split()[1], 0) >> 12
+    if is_beside != ("another page of the superpage" in more):
+        return f"the fence is {'' if is_beside else 'not '}for another page"
+    asid, under = asid_before(lines, got, number - 1), [it for it in more if it.startswith("under")]
+    if under not in ([], [f"under ASID {asid}"]):
+        return f"satp had ASID {asid} at line {number}"
+    # a fence of an ASID excludes what was read under that one
+    space = fence.split()[2] if len(fence.split()) > 2 else "-"
+    bits = next((re.findall(r"asid(\d+)", it) for it in reversed(lines[:number]) if it.startswith("profile")), [])
+    is_other = space != "-" and int(space, 0) % (1 << int((bits or ["16"])[0])) != asid
+    return f"satp had ASID {asid} at line {number}, and nothing says so" if is_other and not under else None
+
+
+def wrong_reason(answer, lines, got, place):
+    """What is wrong with the lines that a reason names; None if nothing is. `place`: that of the line that is answered."""
+    for number, text in NAMED.findall(answer):
+        wrong = wrong_fenced(int(number), text, lines, got, place)
+        if wrong:
+            return wrong
     for what, number in re.findall(r"(PTE|satp|PMP)[^,;()]* as before line (\d+)", answer):
         words = {"PTE": STORING, "satp": ("satp",), "PMP": ("pmp",)}[what]
         if int(number) < 1 or not lines[int(number) - 1].startswith(words):
@@ -169,8 +200,9 @@ def wrong_words(wanted, line, answer):
     return wrong or wrong_leaf(seen, line, answer) or wrong_slip(seen, answer)
 
 
-def fault_in(wanted, line, answer, lines):
-    """What is wrong with an answer to a line, in words; None if nothing is."""
+def fault_in(wanted, lines, got, place):
+    """What is wrong with the answer to the line at a place, in words; None if nothing is."""
+    line, answer = lines[place], got[place]
     if wanted.kind == "text":
         return None if answer == wanted.text else f"in place of {wanted.text}"
     if wanted.kind == "outcomes":
@@ -184,7 +216,7 @@ def fault_in(wanted, line, answer, lines):
         return f"must be NOT permitted: none of {sorted(wanted.outcomes)}"
     elif instead(answer) != wanted.outcomes:
         return f"must tell what is permitted: {sorted(wanted.outcomes)}"
-    return wrong_words(wanted, line, answer) or wrong_reason(answer, lines)
+    return wrong_words(wanted, line, answer) or wrong_reason(answer, lines, got, place)
 
 
 def verdict(lines, got, keeps):
@@ -198,7 +230,7 @@ def verdict(lines, got, keeps):
     return talk.answer(lines[-1])
 
 
-NAMED = re.compile(r"the fence of line (\d+) \([^)]*\) excludes (?!older PMP)")
+NAMED = re.compile(r"the fence of line (\d+) \(([^)]*)\) excludes (?!older PMP)")
 # The program looks at the first 32 ways to an outcome, so it may miss the fence of another one.
 WRONG_FENCES = 0.05
 
@@ -228,7 +260,7 @@ def differences(program, scripts):
     found, at, named, fences = [], 0, 0, []
     for script in scripts:
         for number, (line, wanted) in enumerate(zip(script.lines, script.wanted)):
-            wrong = fault_in(wanted, line, got[at + number], lines)
+            wrong = fault_in(wanted, lines, got, at + number)
             if not wrong and wanted.kind == "refused" and NAMED.search(got[at + number]):
                 named += 1
                 fence = wrong_fence(script.lines[: number + 1], got[at : at + number + 1], at + 1)
