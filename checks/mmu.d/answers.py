@@ -45,7 +45,7 @@ def asid_before(lines, got, place):
 
 
 def wrong_fenced(number, text, lines, got, place):
-    """What is wrong with what a reason says of a fence that excludes something; None if nothing is."""
+    """What is wrong with what a reason says of a fence; None if nothing is."""
     said, *more = text.split(", ")
     fence = lines[number - 1]
     if fence.removesuffix(" -") != said:
@@ -66,7 +66,7 @@ def wrong_fenced(number, text, lines, got, place):
 
 def wrong_reason(answer, lines, got, place):
     """What is wrong with the lines that a reason names; None if nothing is. `place`: that of the line that is answered."""
-    for number, text in NAMED.findall(answer):
+    for number, text in re.findall(r"the fence of line (\d+) \(([^)]*)\)", answer):
         wrong = wrong_fenced(int(number), text, lines, got, place)
         if wrong:
             return wrong
@@ -230,7 +230,7 @@ def verdict(lines, got, keeps):
     return talk.answer(lines[-1])
 
 
-NAMED = re.compile(r"the fence of line (\d+) \(([^)]*)\) excludes (?!older PMP)")
+NAMED = re.compile(r"the fence of line (\d+) \([^)]*\) excludes (?!older PMP)")
 # The program looks at the first 32 ways to an outcome, so it may miss the fence of another one.
 WRONG_FENCES = 0.05
 
