@@ -1,5 +1,5 @@
 //! Which outcomes RISC-V permits for a memory access, given the history of a hart: stores, satp and PMP writes, and fences (RISC-V Privileged
-//! Architecture 20211203, "the standard", 3.7, 4.2.1, 4.3 to 4.6). Definitions (specs/) and laws of them; no program asks them yet.
+//! Architecture 20211203, "the standard", 3.7, 4.2.1, 4.3 to 4.6). Definitions (specs/), by which `access_judge` judges, and laws of them.
 #![tactic(auto)]
 
 mod event;

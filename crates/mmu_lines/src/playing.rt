@@ -11,14 +11,14 @@ use mmu_reasons::Answer;
 use std::alloc::{AllocError, Global};
 
 /// Whether an answer is `NOT permitted`.
-fn denies(answer: &Answer) -> bool
+pub(crate) fn denies(answer: &Answer) -> bool
     ensures { result ≡ denies answer.now }
 {
     matches!(answer, Answer::NotPermitted { .. })
 }
 
 /// Whether an answer is neither `NOT permitted` nor that to a faulty line.
-fn is_fine(answer: Answer) -> bool
+pub(crate) fn is_fine(answer: Answer) -> bool
     ensures { result ≡ is_fine answer }
 {
     !matches!(answer, Answer::NotPermitted { .. } | Answer::Error { .. })

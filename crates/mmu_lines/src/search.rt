@@ -5,7 +5,7 @@ ghost use Rattle.mmu_lines.specs.Playing.{IsDenied};
 
 use crate::line::Line;
 use crate::player::MmuPlayer;
-use crate::playing::play;
+use crate::playing::{denies, is_fine, play};
 use line_fields::field_at;
 use mmu_reasons::{Answer, OutcomeLine};
 use std::alloc::{AllocError, Global};
@@ -47,18 +47,13 @@ struct Search {
     played: usize,
 }
 
-/// Whether an answer is fine; `None` if it is `NOT permitted`.
-fn keep_by(answer: Option<Answer>) -> Option<bool> {
-    match answer {
-        Some(Answer::NotPermitted { .. }) => None,
-        Some(Answer::Error { .. }) | None => Some(false),
-        Some(_) => Some(true),
-    }
-}
-
 /// Gives a player a line, and returns whether its answer is fine; `None` if it is `NOT permitted`.
 fn keep_of(player: &mut MmuPlayer, line: &Line) -> Result<Option<bool>, AllocError> {
-    Ok(keep_by(player.line(line.text.as_slice())?))
+    match player.line(line.text.as_slice())? {
+        Some(answer) if denies(&answer) => Ok(None),
+        Some(answer) => Ok(Some(is_fine(answer))),
+        None => Ok(Some(false)),
+    }
 }
 
 /// Appends, of each line before the first that is not permitted, whether it is answered without an error. Returns whether one is not
