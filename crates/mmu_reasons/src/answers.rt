@@ -2,6 +2,7 @@
 
 ghost use Rattle.mmu_reasons.specs.Answers.{IsError};
 
+use crate::numbers::{put_hex, put_number};
 use crate::outcomes::{OutcomeLine, put_outcome};
 use line_fields::Mistake;
 use serde::{Described, Serialize, Serializer};
@@ -103,19 +104,24 @@ fn put_permitted(out: &mut Text, line: &OutcomeLine) {
         Some(as_of) => (as_of.as_str(), ""),
         None => (line.by.text(), line.by.now()),
     };
-    write!(out, "permitted ({text}{now})")
+    out.push_str("permitted (");
+    out.push_str(text);
+    out.push_str(now);
+    out.push_str(")")
 }
 
 /// Appends why an outcome is not permitted, and those that are.
 fn put_denied(out: &mut Text, reason: &str, permitted: &[OutcomeLine]) {
-    write!(out, "NOT permitted: {reason}. Permitted: ");
+    out.push_str("NOT permitted: ");
+    out.push_str(reason);
+    out.push_str(". Permitted: ");
     put_list(out, permitted)
 }
 
 fn put_error(out: &mut Text, column: &Option<usize>, text: &str) {
     out.push_str("error");
     if let Some(column) = column {
-        write!(out, " column {column}");
+        put_number(out, " column ", *column as u64);
     }
     out.push_str(": ");
     out.push_str(text)
@@ -126,7 +132,7 @@ fn put_text(out: &mut Text, answer: &Answer) {
     match answer {
         Answer::Ok | Answer::Locked(Lock::Nothing) => out.push_str("ok"),
         Answer::Version => out.push_str("mmu protocol 2"),
-        Answer::Satp(word) => write!(out, "satp {word}"),
+        Answer::Satp(word) => put_hex(out, "satp ", word.0),
         Answer::Locked(Lock::All) => out.push_str("locked"),
         Answer::Locked(Lock::Address) => out.push_str("address locked"),
         Answer::NoEffect(va) => {

@@ -1,5 +1,6 @@
 // Why an access is refused, in words: methods of `Telling`.
 
+use crate::numbers::{put_hex, put_number};
 use crate::reasons::{Why, why_fault};
 use crate::telling::Telling;
 use crate::ways::{Stop, end_of, last_step, place_at, put_pte, stop_of};
@@ -7,7 +8,6 @@ use access_history::Outcome;
 use access_judge::{Log, Step, Told, Way};
 use sv39_entry::Access;
 use text_builder::Text;
-use walk_lines::Hex;
 use walk_rules::{Privilege, has_ad, leads_to, pmp_permits};
 
 /// The name of an access.
@@ -52,7 +52,9 @@ impl Telling<'_> {
                     (true, Privilege::Machine) => ", with L 1",
                     (true, _) => "",
                 };
-                return write!(out, ", by entry {number} of line {line}{how}");
+                put_number(out, ", by entry ", number as u64);
+                put_number(out, " of line ", line);
+                return out.push_str(how);
             }
             below = entry.address;
         }
@@ -66,13 +68,16 @@ impl Telling<'_> {
 
     /// Appends why the access is refused at a physical address.
     pub(crate) fn put_fault_at(&self, out: &mut Text, pa: u64) {
-        let (hex, access) = (Hex(pa), access_text(self.request.kind));
+        let access = access_text(self.request.kind);
         if self.has_byte(pa) {
-            write!(out, "PMP refuses the {access} at {hex}");
+            out.push_str("PMP refuses the ");
+            out.push_str(access);
+            put_hex(out, " at ", pa);
             let (privilege, width) = (self.privilege(), self.request.width);
             self.put_entry(out, privilege, self.request.kind, pa, width)
         } else {
-            write!(out, "{hex} is outside the memory")
+            put_hex(out, "", pa);
+            out.push_str(" is outside the memory")
         }
     }
 
@@ -89,11 +94,8 @@ impl Telling<'_> {
             return self.put_fault_at(out, pa);
         }
         let (place, level) = (place_at(step.ppn, self.index(step.level)), step.level);
-        let hex = Hex(place);
-        write!(
-            out,
-            "step 7: PMP refuses the store to the PTE at {hex}, level {level}"
-        );
+        put_hex(out, "step 7: PMP refuses the store to the PTE at ", place);
+        put_number(out, ", level ", level.into());
         self.put_entry_at(out, Access::Store, place)
     }
 
@@ -101,18 +103,14 @@ impl Telling<'_> {
     pub(crate) fn put_fault_below(&self, out: &mut Text, level: u32, table: u64) {
         let index = self.index(level);
         let place = place_at(table, index);
-        let hex = Hex(place);
         if self.recorded.unit.word(table, index).is_some() {
-            write!(
-                out,
-                "step 2: PMP refuses to read the PTE at {hex}, level {level}"
-            );
+            put_hex(out, "step 2: PMP refuses to read the PTE at ", place);
+            put_number(out, ", level ", level.into());
             self.put_entry_at(out, Access::Load, place)
         } else {
-            write!(
-                out,
-                "step 2: the PTE at {hex}, level {level}, is outside the memory"
-            )
+            put_hex(out, "step 2: the PTE at ", place);
+            put_number(out, ", level ", level.into());
+            out.push_str(", is outside the memory")
         }
     }
 
@@ -147,14 +145,12 @@ impl Telling<'_> {
             return;
         };
         let level = step.level;
-        let (word, place) = (
-            Hex(step.entry.to_word()),
-            Hex(place_at(step.ppn, self.index(level))),
-        );
-        write!(
-            out,
-            "step {number}: PTE {word} at {place}, level {level}: {text}"
-        )
+        put_number(out, "step ", number.into());
+        put_hex(out, ": PTE ", step.entry.to_word());
+        put_hex(out, " at ", place_at(step.ppn, self.index(level)));
+        put_number(out, ", level ", level.into());
+        out.push_str(": ");
+        out.push_str(text)
     }
 
     /// Appends why an outcome is a refusal; nothing if it is none.
@@ -181,20 +177,18 @@ impl Telling<'_> {
         let Some(now) = self.recorded.unit.word(step.ppn, index) else {
             return out.push_str(why.text);
         };
-        let (now, word) = (Hex(now), Hex(step.entry.to_word()));
-        let at = place_at(step.ppn, index);
-        let place = Hex(at);
+        let (word, place) = (step.entry.to_word(), place_at(step.ppn, index));
         if now == word && !self.may_set(step) {
-            write!(out, "PMP refuses the store to the PTE at {place}");
-            return self.put_entry_at(out, Access::Store, at);
+            put_hex(out, "PMP refuses the store to the PTE at ", place);
+            return self.put_entry_at(out, Access::Store, place);
         }
         if now == word {
             return out.push_str(why.text);
         }
-        write!(
-            out,
-            "memory has {now} at {place}, not {word}: the hart may not set A or D there"
-        )
+        put_hex(out, "memory has ", now);
+        put_hex(out, " at ", place);
+        put_hex(out, ", not ", word);
+        out.push_str(": the hart may not set A or D there")
     }
 
     /// Appends a PTE in words, with the line before which it was there if it is there no more.

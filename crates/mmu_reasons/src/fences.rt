@@ -1,13 +1,11 @@
 // `Fence`: a fence that was executed; `Fences`: those since the history began, which say what each excludes.
 
-ghost use Rattle.std.specs.Prelude.{◌≤◌};
-
+use crate::numbers::{put_hex, put_number};
 use crate::telling::Telling;
-use crate::ways::{LEVELS, step_at};
+use crate::ways::{LEVELS, offset_bits, step_at};
 use access_judge::{Log, PastSatp, Step, Told, Way};
 use sv39_entry::{Entry, Kind, Va};
 use text_builder::Text;
-use walk_lines::Hex;
 
 /// After so many events the history begins anew.
 pub(crate) const MOST_EVENTS: usize = 65536;
@@ -45,44 +43,38 @@ impl Fence {
         }
     }
 
-    /// Whether an access, by the number of its line, was before the fence and went by a PTE that it covers: one for an address, of which so many
-    /// bits are an offset, that a walk under an ASID read; `None`: a global one.
-    pub fn is_since(&self, line: u64, va: Va, bits: u32, asid: Option<u16>) -> bool
-        requires { bits ≤ 48 }
-    {
+    /// Whether it is for an address and for an ASID that a PTE serves, which a walk for an address under an ASID read; `None`: a global one.
+    pub fn reaches(&self, va: Va, step: &Step, asid: Option<u16>) -> bool {
+        let bits = offset_bits(step);
         let is_in = match self.va {
             Some(address) => address.0 >> bits == va.0 >> bits,
             None => true,
         };
-        let is_for = match asid {
-            Some(asid) => self.is_for(asid),
-            None => self.asid.is_none(),
-        };
-        self.line > line && is_in && is_for
+        is_in
+            && match asid {
+                Some(asid) => self.is_for(asid),
+                None => self.asid.is_none(),
+            }
     }
 
-    /// Appends the fence as the client writes it, for example `the fence of line 7 (sfence 0x4000 3)`; that the address is one of another page than
-    /// this one, of the same superpage; and the ASID that satp had, if it is another than this one.
-    pub fn put(&self, out: &mut Text, va: Va, asid: u16) {
-        let line = self.line;
-        write!(out, "the fence of line {line} (sfence");
+    /// Appends the fence as the client writes it, for example `the fence of line 7 (sfence 0x4000 3)`, where `text` comes before its line; that the
+    /// address is one of another page than this one, of the same superpage; and the ASID that satp had, if it is another than this one.
+    pub fn put(&self, out: &mut Text, text: &str, va: Va, asid: u16) {
+        put_number(out, text, self.line);
+        out.push_str(" (sfence");
         match (self.va, self.written) {
             (None, None) => {}
             (None, Some(_)) => out.push_str(" -"),
-            (Some(va), _) => {
-                let va = Hex(va.0);
-                write!(out, " {va}")
-            }
+            (Some(va), _) => put_hex(out, " ", va.0),
         }
         if let Some(asid) = self.written {
-            write!(out, " {asid}");
+            put_number(out, " ", asid.into());
         }
         if self.is_beside(va) {
             out.push_str(", another page of the superpage");
         }
         if self.under != asid {
-            let under = self.under;
-            write!(out, ", under ASID {under}");
+            put_number(out, ", under ASID ", self.under.into());
         }
         out.push_str(")")
     }
@@ -129,24 +121,16 @@ impl Fences<'_> {
 
     /// Whether a fence covers a PTE that a walk under an ASID read before it (RISC-V Privileged Architecture 20211203, 4.2.1).
     fn covers(&self, telling: &Telling<'_>, asid: u16, step: &Step, fence: &Fence) -> bool {
-        if step.level > 4 {
+        let asid = if step.global { None } else { Some(asid) };
+        if step.level > 4 || !fence.reaches(telling.request.va, step, asid) {
             return false;
         }
-        if fence.asid.is_some() && (step.global || !fence.is_for(asid)) {
-            return false;
-        }
-        let Some(address) = fence.va else {
-            return true;
-        };
-        let bits = 12 + 9 * step.level;
-        if address.0 >> bits != telling.request.va.0 >> bits {
-            return false;
-        }
-        match telling.extensions.kind(step.entry, step.level) {
-            Kind::Leaf => true,
-            Kind::Pointer => false,
-            Kind::Invalid => self.became_leaf(telling, step, fence),
-        }
+        fence.va.is_none()
+            || match telling.extensions.kind(step.entry, step.level) {
+                Kind::Leaf => true,
+                Kind::Pointer => false,
+                Kind::Invalid => self.became_leaf(telling, step, fence),
+            }
     }
 
     /// How many fences there were up to a moment.
@@ -203,23 +187,37 @@ impl Fences<'_> {
         }
     }
 
-    /// The first fence that excludes a PTE of a way, or its root, so that the last PTE is not held: each PTE on the way is read as late as can be,
-    /// before a fence excludes what led to it. How many fences there are, if none does.
-    fn excluding(&self, telling: &Telling<'_>, way: &Way, root: &PastSatp) -> (usize, Excluded) {
+    /// The ASID under which walks from a root went, and the last moment at which satp had it.
+    fn asid_of(&self, telling: &Telling<'_>, root: &PastSatp) -> (u16, usize) {
         let last = telling.recorded.last_had(root, None).unwrap_or(root.last);
         let (asid, _) = telling.recorded.space_at(last);
+        (asid, last)
+    }
+
+    /// The first fence that excludes a PTE of a way, or its root, so that without it and those after it the way is possible: each PTE on the way is
+    /// read as late as can be, before a fence excludes what led to it. How many fences there are, if none does.
+    fn excluding(&self, telling: &Telling<'_>, way: &Way, root: &PastSatp) -> (usize, Excluded) {
+        let (asid, last) = self.asid_of(telling, root);
         let (mut number, mut what) = (self.ending(asid, last), Excluded::Root);
+        let mut first = (self.list.len(), Excluded::Root);
         'levels: for n in 0..LEVELS {
             if let Some(step) = step_at(way, LEVELS - 1 - n) {
                 if !self.was_before(telling, &step, number) {
-                    return (number, what);
+                    if number < first.0 {
+                        first = (number, what);
+                    }
+                    number = self.list.len();
                 }
                 let from = number.min(self.count_until(step.last));
                 number = self.covering(telling, asid, &step, from);
                 what = Excluded::Pte(step);
             }
         }
-        (number, what)
+        if number < first.0 {
+            (number, what)
+        } else {
+            first
+        }
     }
 
     /// The last fence of everything between which and the one before it a PMP entry was written; how many fences there are, if there is none.
@@ -253,5 +251,31 @@ impl Fences<'_> {
         } else {
             None
         }
+    }
+
+    /// The first fence after one that is for another page of a superpage that covers the same PTE, and is not; `None` if that is none such.
+    pub fn not_beside(
+        &self,
+        telling: &Telling<'_>,
+        told: &Told,
+        number: usize,
+        what: &Excluded,
+    ) -> Option<Fence> {
+        let (root, va) = (told.way.root?, telling.request.va);
+        let Excluded::Pte(step) = what else {
+            return None;
+        };
+        if !self.list.get(number)?.is_beside(va) {
+            return None;
+        }
+        let (asid, _) = self.asid_of(telling, &root);
+        'fences: for later in number..self.list.len() {
+            if let Some(fence) = self.list.get(later) {
+                if !fence.is_beside(va) && self.covers(telling, asid, step, fence) {
+                    return Some(*fence);
+                }
+            }
+        }
+        None
     }
 }

@@ -5,8 +5,10 @@
 
 mod answers;
 mod causes;
+mod exclusions;
 mod fences;
 mod mismatch;
+mod numbers;
 mod objects;
 mod outcomes;
 mod present;
@@ -14,7 +16,9 @@ mod reasons;
 mod recorded;
 mod seeking;
 mod slips;
+mod spaces;
 mod telling;
+mod uses;
 mod walking;
 mod ways;
 mod witness;

@@ -3,6 +3,7 @@
 ghost use Rattle.std.specs.Prelude.{◌≤◌};
 
 use crate::causes::{access_text, mode_text};
+use crate::numbers::{put_hex, put_number};
 use crate::reasons::{Why, why_fault};
 use crate::recorded::A_AND_D;
 use crate::telling::Telling;
@@ -12,7 +13,6 @@ use access_judge::{Log, Step, Told, Way};
 use mmu_requests::{Claim, End};
 use sv39_entry::{Access, Kind, Mode};
 use text_builder::Text;
-use walk_lines::Hex;
 use walk_rules::{Extensions, MemoryType, Privilege, Status, has_ad, leads_to, reach};
 
 /// The size of a page in which the offset has so many bits.
@@ -41,32 +41,18 @@ impl Telling<'_> {
         .is_some()
     }
 
-    /// By which bit of mstatus a leaf doesn't fault, if by one.
+    /// By which bits of mstatus a leaf doesn't fault, if by some.
     fn by_status(&self, step: &Step, mode: Mode) -> Option<&'static str> {
         let (extensions, status) = (self.extensions, self.request.status);
-        if self.would_fault(
-            extensions,
-            Status {
-                mxr: false,
-                ..status
-            },
-            mode,
-            step,
-        ) {
-            return Some("R is 0, but X and MXR are 1");
+        let (sum, mxr) = (false, false);
+        let by_mxr = self.would_fault(extensions, Status { mxr, ..status }, mode, step);
+        let by_sum = self.would_fault(extensions, Status { sum, ..status }, mode, step);
+        match (by_mxr, by_sum) {
+            (true, true) => Some("R is 0 and U is 1 in S-mode, but X, MXR and SUM are 1"),
+            (true, false) => Some("R is 0, but X and MXR are 1"),
+            (false, true) => Some("U is 1 in S-mode, but SUM is 1"),
+            (false, false) => None,
         }
-        if self.would_fault(
-            extensions,
-            Status {
-                sum: false,
-                ..status
-            },
-            mode,
-            step,
-        ) {
-            return Some("U is 1 in S-mode, but SUM is 1");
-        }
-        None
     }
 
     /// By which extension of the profile a PTE is a leaf, if by one.
@@ -163,7 +149,8 @@ impl Telling<'_> {
     fn put_mprv(&self, out: &mut Text, step: &Step, is_granted: bool) {
         if self.request.privilege == Privilege::Machine {
             let mode = mode_text(self.privilege());
-            write!(out, ", as MPRV is 1 and MPP {mode}")
+            out.push_str(", as MPRV is 1 and MPP ");
+            out.push_str(mode)
         } else if self.is_by_mprv(step, is_granted) {
             out.push_str(", as MPRV acts in M-mode alone")
         }
@@ -184,7 +171,11 @@ impl Telling<'_> {
             0 => "",
             _ => "the address is canonical, ",
         };
-        write!(out, ": {canonical}{right} is 1, and {mode}");
+        out.push_str(": ");
+        out.push_str(canonical);
+        out.push_str(right);
+        out.push_str(" is 1, and ");
+        out.push_str(mode);
         self.put_mprv(out, step, false)
     }
 
@@ -192,7 +183,8 @@ impl Telling<'_> {
     fn put_grant(&self, out: &mut Text, step: &Step) {
         put_pte(out, self.extensions, step);
         let access = access_text(self.request.kind);
-        write!(out, " grants the {access}")
+        out.push_str(" grants the ");
+        out.push_str(access)
     }
 
     /// Appends by what a leaf grants an access that a client tells to be a page fault, if that is a bit of mstatus or an extension; returns
@@ -202,7 +194,8 @@ impl Telling<'_> {
             return false;
         };
         self.put_grant(out, step);
-        write!(out, ": {text}");
+        out.push_str(": ");
+        out.push_str(text);
         self.put_mprv(out, step, false);
         true
     }
@@ -242,8 +235,8 @@ impl Telling<'_> {
             return false;
         }
         put_pte(out, self.extensions, &step);
-        let text = why.text;
-        write!(out, " leads there, but {text}");
+        out.push_str(" leads there, but ");
+        out.push_str(why.text);
         match why.step {
             5 => self.put_mprv(out, &step, true),
             7 if claim.update.is_some() => out.push_str(", and the profile has Svade"),
@@ -275,12 +268,13 @@ impl Telling<'_> {
         {
             return false;
         }
-        let satp = Hex(self.recorded.unit.satp().to_word());
         let lead = match self.request.privilege {
             Privilege::Machine => "MPRV is 1, and ",
             _ => "",
         };
-        write!(out, "the access is translated: {lead}satp is {satp}");
+        out.push_str("the access is translated: ");
+        out.push_str(lead);
+        put_hex(out, "satp is ", self.recorded.unit.satp().to_word());
         true
     }
 
@@ -339,6 +333,10 @@ impl Telling<'_> {
     /// Appends that a PTE has the other fault of the access than the one that a client tells; returns whether that is one of its faults.
     fn put_other_fault(&self, out: &mut Text, told: &Told, step: &Step, cause: u64) -> bool {
         let (page, fault) = self.fault_causes();
+        if cause == page && has_ad(self.request.kind, step.entry) {
+            self.put_refused_grant(out, step);
+            return true;
+        }
         if cause == page {
             self.put_refusal(out, &told.way, &told.outcome);
             self.put_no_page_fault(out);
@@ -351,12 +349,28 @@ impl Telling<'_> {
             return false;
         }
         put_pte(out, self.extensions, step);
-        let text = why.text;
-        write!(
-            out,
-            " gives page fault {page}, not access fault {fault}: {text}"
-        );
+        put_number(out, " gives page fault ", page);
+        put_number(out, ", not access fault ", fault);
+        out.push_str(": ");
+        out.push_str(why.text);
         true
+    }
+
+    /// Appends that a leaf grants the access, in brackets by what, if that is a bit of mstatus or an extension, but that it leads where PMP as it
+    /// is, or the memory, refuses it.
+    fn put_refused_grant(&self, out: &mut Text, step: &Step) {
+        self.put_grant(out, step);
+        if let Some(text) = self.overlooked(step) {
+            out.push_str(" (");
+            out.push_str(text);
+            out.push_str(")")
+        }
+        out.push_str(", but ");
+        self.put_fault_at(
+            out,
+            leads_to(step.entry, step.level.min(4), self.request.va),
+        );
+        self.put_no_page_fault(out)
     }
 
     /// Appends that a leaf grants the access, and by what; or that it leads where PMP as it is, or the memory, refuses it.
@@ -365,12 +379,10 @@ impl Telling<'_> {
         if !self.is_refused_at(there) && self.put_overlooked(out, step) {
             return;
         }
-        self.put_grant(out, step);
         if self.is_refused_at(there) {
-            out.push_str(", but ");
-            self.put_fault_at(out, there);
-            return self.put_no_page_fault(out);
+            return self.put_refused_grant(out, step);
         }
+        self.put_grant(out, step);
         self.put_right(out, step)
     }
 
@@ -378,24 +390,22 @@ impl Telling<'_> {
     fn put_leads(&self, out: &mut Text, step: &Step, pa: Option<u64>) {
         let level = step.level.min(4);
         let there = leads_to(step.entry, level, self.request.va);
-        let hex = Hex(there);
         put_pte(out, self.extensions, step);
         match self.wrong_in(step) {
             Some(why) if why.step == 6 => {
-                let text = why.text;
-                return write!(out, " leads nowhere: {text}");
+                out.push_str(" leads nowhere: ");
+                return out.push_str(why.text);
             }
             _ => {}
         }
-        write!(out, " leads to {hex}");
+        put_hex(out, " leads to ", there);
         let bits = reach(step.entry, level);
         match pa {
             Some(pa) if pa >> bits == there >> bits => {
-                let (size, last) = (page_size(bits), bits.saturating_sub(1));
-                write!(
-                    out,
-                    ": the offset in its page of {size} is bits {last} to 0 of the address"
-                )
+                out.push_str(": the offset in its page of ");
+                out.push_str(page_size(bits));
+                put_number(out, " is bits ", bits.saturating_sub(1).into());
+                out.push_str(" to 0 of the address")
             }
             _ => {}
         }
@@ -404,7 +414,8 @@ impl Telling<'_> {
     /// Appends that an access fault, which was told, is not the page fault that a client tells.
     fn put_no_page_fault(&self, out: &mut Text) {
         let (page, fault) = self.fault_causes();
-        write!(out, ": that is access fault {fault}, not page fault {page}")
+        put_number(out, ": that is access fault ", fault);
+        put_number(out, ", not page fault ", page)
     }
 
     /// Appends at which PTE the walk ends, which is another than the one that a client tells.
@@ -425,16 +436,15 @@ impl Telling<'_> {
     fn put_page_fault_at(&self, out: &mut Text, step: &Step, why: Why, told: Option<u64>) {
         let (page, fault) = self.fault_causes();
         if told == Some(fault) {
-            write!(
-                out,
-                "the walk ends with page fault {page}, not access fault {fault}: "
-            )
+            put_number(out, "the walk ends with page fault ", page);
+            put_number(out, ", not access fault ", fault);
+            out.push_str(": ")
         } else {
             out.push_str("the walk ends with a page fault: ")
         }
         put_pte(out, self.extensions, step);
-        let text = why.text;
-        write!(out, ": {text}");
+        out.push_str(": ");
+        out.push_str(why.text);
         self.put_mprv(out, step, told.is_none())
     }
 
@@ -466,8 +476,8 @@ impl Telling<'_> {
     fn put_no_fault(&self, out: &mut Text, step: &Step, cause: u64) {
         self.put_grants(out, step);
         if cause == self.request.kind.access_fault_cause() {
-            let there = Hex(leads_to(step.entry, step.level.min(4), self.request.va));
-            write!(out, ", and nothing refuses it at {there}")
+            let there = leads_to(step.entry, step.level.min(4), self.request.va);
+            put_hex(out, ", and nothing refuses it at ", there)
         }
     }
 
@@ -482,8 +492,7 @@ impl Telling<'_> {
             }
             _ => {
                 if has_ad(self.request.kind, step.entry) {
-                    self.put_grant(out, step);
-                    out.push_str(", but ");
+                    return self.put_refused_grant(out, step);
                 }
                 self.put_fault_by(out, step, false);
                 self.put_no_page_fault(out)
@@ -509,11 +518,10 @@ impl Telling<'_> {
         if cause == page || cause == fault {
             return false;
         }
-        let access = access_text(self.request.kind);
-        write!(
-            out,
-            "a {access} has page fault {page} and access fault {fault}"
-        );
+        out.push_str("a ");
+        out.push_str(access_text(self.request.kind));
+        put_number(out, " has page fault ", page);
+        put_number(out, " and access fault ", fault);
         true
     }
 
@@ -526,7 +534,10 @@ impl Telling<'_> {
             Privilege::Machine => "it is of M-mode",
             _ => "satp is Bare",
         };
-        write!(out, "the access isn't translated{so}: {why}")
+        out.push_str("the access isn't translated");
+        out.push_str(so);
+        out.push_str(": ");
+        out.push_str(why)
     }
 
     /// Appends what an access that isn't translated comes to in place of a grant at a physical address that a client tells.
@@ -543,8 +554,9 @@ impl Telling<'_> {
         let pa = self.request.va.0;
         if cause == self.request.kind.access_fault_cause() {
             self.put_untranslated(out, "");
-            let (access, hex) = (access_text(self.request.kind), Hex(pa));
-            return write!(out, ", and nothing refuses the {access} at {hex}");
+            out.push_str(", and nothing refuses the ");
+            out.push_str(access_text(self.request.kind));
+            return put_hex(out, " at ", pa);
         }
         if self.is_refused_at(pa) {
             self.put_untranslated(out, "");

@@ -1,5 +1,6 @@
 // `OutcomeLine`: an outcome of an access with what it is by, as text; `By`: an enum, what it is by.
 
+use crate::numbers::{put_hex, put_number};
 use access_history::{Outcome, Update};
 use text_builder::Text;
 use walk_lines::Hex;
@@ -79,8 +80,8 @@ fn put_update(out: &mut Text, update: &Option<Update>) {
     let Some(update) = update else {
         return;
     };
-    let (place, word) = (place_of(update), Hex(update.word));
-    write!(out, " set {place} {word}")
+    put_hex(out, " set ", place_of(update).0);
+    put_hex(out, " ", update.word)
 }
 
 /// Appends what came of an access, for example `pa 0x80010008 level 0` or `fault 13`.
@@ -91,21 +92,27 @@ fn put_end(out: &mut Text, line: &OutcomeLine) {
             memory_type,
             update,
         } => {
-            let pa = Hex(*pa);
-            write!(out, "pa {pa}");
+            put_hex(out, "pa ", *pa);
             if let Some(level) = line.level {
-                write!(out, " level {level}");
+                put_number(out, " level ", level.into());
             }
             if let Some(text) = type_text(*memory_type) {
-                write!(out, " {text}");
+                out.push_str(" ");
+                out.push_str(text);
             }
             put_update(out, update)
         }
         Outcome::Refused { cause, update } => {
-            write!(out, "fault {cause}");
+            put_number(out, "fault ", *cause);
             put_update(out, update)
         }
     }
+}
+
+/// Appends what begins in brackets.
+fn put_bracketed(out: &mut Text, text: &str) {
+    out.push_str(" (");
+    out.push_str(text)
 }
 
 /// Appends an outcome and what it is by, for example `held fault 15 (leaf PTE 0x200040d7 at level 0 as before line 12: step 5: ..)`.
@@ -114,8 +121,13 @@ pub(crate) fn put_outcome(out: &mut Text, line: &OutcomeLine) {
     out.push_str(" ");
     put_end(out, line);
     match (&line.as_of, &line.reason) {
-        (Some(as_of), Some(reason)) => write!(out, " ({as_of}: {reason})"),
-        (Some(text), None) | (None, Some(text)) => write!(out, " ({text})"),
-        (None, None) => {}
+        (Some(as_of), Some(reason)) => {
+            put_bracketed(out, as_of.as_str());
+            out.push_str(": ");
+            out.push_str(reason.as_str());
+        }
+        (Some(text), None) | (None, Some(text)) => put_bracketed(out, text.as_str()),
+        (None, None) => return,
     }
+    out.push_str(")")
 }

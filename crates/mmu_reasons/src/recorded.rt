@@ -5,6 +5,7 @@ ghost use Rattle.access_history.specs.declared.event.Event.TheVariants as event;
 ghost use Rattle.mmu.specs.Pasts.{past};
 ghost use Rattle.mmu.specs.Units.{fenced, fresh, happened, with_run};
 
+use crate::numbers::put_number;
 use crate::ways::{LEVELS, last_step, put_pte, step_at};
 use access_judge::{Log, PastSatp, Step, Told};
 use mmu::Mmu;
@@ -226,10 +227,7 @@ impl Recorded {
     pub(crate) fn put_step(&self, out: &mut Text, extensions: Extensions, step: &Step) {
         put_pte(out, extensions, step);
         match self.unit.next_change(step.ppn, step.index, step.last) {
-            Some(event) => {
-                let line = self.line_of(event);
-                write!(out, " as before line {line}")
-            }
+            Some(event) => { put_number(out, " as before line ", self.line_of(event)) }
             None => out.push_str(" of another PTE of its NAPOT range"),
         }
     }
@@ -245,8 +243,8 @@ impl Recorded {
         let last = self.last_had(&root, None).unwrap_or(root.last);
         'writings: for writing in self.writings.as_slice() {
             if writing.event > last {
-                let line = self.line_of(writing.event);
-                return write!(out, "{lead}satp as before line {line}");
+                out.push_str(lead);
+                return put_number(out, "satp as before line ", self.line_of(writing.event));
             }
         }
     }
@@ -256,8 +254,7 @@ impl Recorded {
         let mut lead = "";
         if let Some(step) = last_step(&told.way) {
             if step.global && step.asid != self.unit.satp().asid() {
-                let asid = step.asid;
-                write!(out, "global, read under ASID {asid}");
+                put_number(out, "global, read under ASID ", step.asid.into());
                 lead = ", ";
             }
         }

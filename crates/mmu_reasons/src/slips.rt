@@ -1,5 +1,6 @@
 // What a hart comes to that leaves out one check of the walk over memory as it is, in words: a method of `Telling`.
 
+use crate::numbers::{put_hex, put_number};
 use crate::reasons::Why;
 use crate::telling::Telling;
 use crate::walking::{Slip, walk_without};
@@ -8,7 +9,6 @@ use access_judge::{Log, Step, Way};
 use mmu_requests::{Claim, End};
 use sv39_entry::{Access, Kind, Satp};
 use text_builder::Text;
-use walk_lines::Hex;
 use walk_rules::{leads_to, pmp_permits_read};
 
 /// The MODEs of satp, from the one of three levels on, with their names.
@@ -61,8 +61,8 @@ impl Telling<'_> {
             if let Some(step) = step_at(way, LEVELS - 1 - n) {
                 let place = place_at(step.ppn, self.index(step.level));
                 if !pmp_permits_read(self.recorded.unit.pmp(), place) {
-                    let (hex, level) = (Hex(place), step.level);
-                    write!(out, "PMP refuses to read the PTE at {hex}, level {level}");
+                    put_hex(out, "PMP refuses to read the PTE at ", place);
+                    put_number(out, ", level ", step.level.into());
                     return self.put_entry_at(out, Access::Load, place);
                 }
             }
@@ -83,8 +83,8 @@ impl Telling<'_> {
             if let Some(step) = step_at(way, LEVELS - 1 - n) {
                 if let Some(why) = self.no_pointer(&step) {
                     put_pte(out, self.extensions, &step);
-                    let text = why.text;
-                    return write!(out, " is on the way there: {text}");
+                    out.push_str(" is on the way there: ");
+                    return out.push_str(why.text);
                 }
             }
         }
@@ -99,11 +99,10 @@ impl Telling<'_> {
             }
             let other = Satp::from_word((mode << 60) + satp.to_word() % (1 << 60));
             if self.slipped(other, Slip::None, claim).is_some() {
-                let present = mode_name(satp);
-                write!(
-                    out,
-                    "it would be so under {name}, but MODE in satp is {present}"
-                );
+                out.push_str("it would be so under ");
+                out.push_str(name);
+                out.push_str(", but MODE in satp is ");
+                out.push_str(mode_name(satp));
                 return true;
             }
         }

@@ -2,6 +2,7 @@
 
 ghost use Rattle.std.specs.Prelude.{◌≡◌, IfOk, IfSome};
 
+use crate::numbers::put_number;
 use crate::outcomes::{By, OutcomeLine};
 use crate::recorded::Recorded;
 use crate::walking::walk_among;
@@ -13,6 +14,9 @@ use sv39_entry::Mode;
 use text_builder::Text;
 use walk_lines::Hex;
 use walk_rules::{Extensions, MemoryType, is_canonical, top_level};
+
+/// Most texts of what is older, and of why an access is refused, have no more bytes.
+const USUAL_BYTES: usize = 80;
 
 /// An access, and the history by which it is judged.
 #[derive(Clone, Copy)]
@@ -113,12 +117,13 @@ impl Telling<'_> {
     /// What is older on the way to an outcome.
     fn as_of(&self, told: &Told) -> Result<String, AllocError> {
         let mut out = Text::new(self.alloc);
+        out.reserve(USUAL_BYTES);
         self.recorded
             .put_whence(&mut out, self.extensions, self.request.va, told);
         if !self.comes_to(&told.way, told.outcome) || !self.may_read(&told.way) {
-            let line = self.recorded.pmp_line();
             let lead = if out.is_empty() { "" } else { ", " };
-            write!(&mut out, "{lead}PMP as before line {line}");
+            out.push_str(lead);
+            put_number(&mut out, "PMP as before line ", self.recorded.pmp_line());
         }
         if out.is_empty() {
             out.push_str("as before");
@@ -128,7 +133,11 @@ impl Telling<'_> {
 
     /// Why an outcome is a refusal; `None` if it is none.
     fn reason(&self, way: &Way, outcome: &Outcome) -> Result<Option<String>, AllocError> {
+        if matches!(outcome, Outcome::Granted { .. }) {
+            return Ok(None);
+        }
         let mut out = Text::new(self.alloc);
+        out.reserve(USUAL_BYTES);
         self.put_refusal(&mut out, way, outcome);
         if out.is_empty() {
             return Ok(None);

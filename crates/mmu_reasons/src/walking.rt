@@ -3,13 +3,13 @@
 
 ghost use Rattle.std.specs.Prelude.{◌≤◌};
 
+use crate::numbers::{put_hex, put_number};
 use crate::recorded::Recorded;
 use crate::ways::{LEVELS, end_of, kind_text, place_at, step_at};
 use access_history::has_global;
 use access_judge::{Log, PastSatp, Step, Told, Way};
 use sv39_entry::{Entry, Kind, Satp, Va};
 use text_builder::Text;
-use walk_lines::Hex;
 use walk_rules::{Extensions, leads_to, pmp_permits_read, reach, top_level};
 
 /// A check that a hart may leave out.
@@ -108,23 +108,26 @@ pub(crate) fn walk_without(
 /// Appends a PTE of a walk with where it is read, and to what it leads.
 fn put_read(out: &mut Text, extensions: Extensions, va: Va, step: &Step) {
     let level = step.level.min(4);
-    let (table, index) = (Hex(place_at(step.ppn, 0)), step.index);
-    let (kind, word) = (kind_text(extensions, step), Hex(step.entry.to_word()));
-    write!(
-        out,
-        "level {level}: at {table} + 8 x {index}, {kind} {word}"
-    );
-    let (number, to) = (Hex(step.entry.ppn()), Hex(place_at(step.entry.ppn(), 0)));
+    put_number(out, "level ", level.into());
+    put_hex(out, ": at ", place_at(step.ppn, 0));
+    put_number(out, " + 8 x ", step.index as u64);
+    out.push_str(", ");
+    out.push_str(kind_text(extensions, step));
+    put_hex(out, " ", step.entry.to_word());
+    let number = step.entry.ppn();
     match extensions.kind(step.entry, level) {
-        Kind::Pointer => write!(out, ": PPN {number}, so the table at {to}"),
+        Kind::Pointer => {
+            put_hex(out, ": PPN ", number);
+            put_hex(out, ", so the table at ", place_at(number, 0))
+        }
         Kind::Leaf => {
-            let (pa, last) = (
-                Hex(leads_to(step.entry, level, va)),
-                reach(step.entry, level).saturating_sub(1),
-            );
-            write!(
+            let last = reach(step.entry, level).saturating_sub(1);
+            put_hex(out, ": PPN ", number);
+            put_number(out, ", and with bits ", last.into());
+            put_hex(
                 out,
-                ": PPN {number}, and with bits {last} to 0 of the address {pa}"
+                " to 0 of the address ",
+                leads_to(step.entry, level, va),
             )
         }
         Kind::Invalid => {}

@@ -3,10 +3,10 @@
 
 ghost use Rattle.std.specs.Prelude.{◌≤◌};
 
+use crate::numbers::{put_hex, put_number};
 use access_judge::{Step, Way};
 use sv39_entry::Kind;
 use text_builder::Text;
-use walk_lines::Hex;
 use walk_rules::{Extensions, top_level};
 
 /// The number of levels of Sv57, at most.
@@ -96,6 +96,13 @@ pub(crate) fn stop_of(extensions: Extensions, way: &Way) -> Option<Stop> {
     }
 }
 
+/// Returns how many bits are an offset in what a PTE maps.
+pub(crate) fn offset_bits(step: &Step) -> u32
+    ensures { result ≤ 48 }
+{
+    12 + 9 * step.level.min(4)
+}
+
 /// Returns what a PTE is, in words.
 pub(crate) fn kind_text(extensions: Extensions, step: &Step) -> &'static str {
     if step.level >= LEVELS {
@@ -113,12 +120,9 @@ pub(crate) fn kind_text(extensions: Extensions, step: &Step) -> &'static str {
 
 /// Appends a PTE in words, as `leaf PTE 0x202000c9 at level 1`.
 pub(crate) fn put_pte(out: &mut Text, extensions: Extensions, step: &Step) {
-    let (kind, word, level) = (
-        kind_text(extensions, step),
-        Hex(step.entry.to_word()),
-        step.level,
-    );
-    write!(out, "{kind} {word} at level {level}")
+    out.push_str(kind_text(extensions, step));
+    put_hex(out, " ", step.entry.to_word());
+    put_number(out, " at level ", step.level.into())
 }
 
 /// Returns the physical address of a PTE.

@@ -56,6 +56,13 @@ impl Text {
         }
     }
 
+    /// Makes room for so many bytes more, if the host has memory for them.
+    pub fn reserve(&mut self, bytes: usize)
+        ensures { Appends self.old self.new [] }
+    {
+        let _ = self.text.reserve(bytes);
+    }
+
     /// Appends a text.
     pub fn push_str(&mut self, text: &str)
         ensures { Appends self.old self.new text.now }
