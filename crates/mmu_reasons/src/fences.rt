@@ -253,7 +253,7 @@ impl Fences<'_> {
         }
     }
 
-    /// The first fence after one that is for another page of a superpage that covers the same PTE, and is not; `None` if that is none such.
+    /// If the fence of a number, which excludes a PTE, is for another page of a superpage, the first later one that covers the PTE and is not.
     pub fn not_beside(
         &self,
         telling: &Telling<'_>,
