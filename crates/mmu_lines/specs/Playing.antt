@@ -2,6 +2,7 @@
 use Rattle.std.specs.Prelude.{◌≡◌, ⊤, ℕ, zero, suc, Bool, List, None, Option, Some, false, true, length, slice_get}
 use Rattle.mmu_lines.specs.Requests.{IsAnswer}
 use Rattle.mmu_lines.specs.States.{State, begun}
+use Rattle.mmu_reasons.specs.Answers.{is_amiss}
 use Rattle.mmu_reasons.specs.declared.answers.Answer.{Answer}
 use Rattle.mmu_reasons.specs.declared.answers.Answer.TheVariants as answer
 use Rattle.mmu_requests.specs.Profiles.{plain_with}
@@ -20,28 +21,21 @@ denies (answer.NoEffect va) = false
 denies (answer.Outcomes found) = false
 denies (answer.Permitted line) = false
 
--- an answer is neither `NOT permitted` nor that to a faulty line
-abbrev pub is_fine : Answer → Bool
-is_fine (answer.NotPermitted reason permitted) = false
-is_fine (answer.Error column text) = false
-is_fine answer.Ok = true
-is_fine answer.Version = true
-is_fine (answer.Satp word) = true
-is_fine (answer.Locked l) = true
-is_fine (answer.NoEffect va) = true
-is_fine (answer.Outcomes found) = true
-is_fine (answer.Permitted line) = true
-
--- what a line does: with a fine answer if it is kept, nothing if it is not
+-- what a line does: what is not amiss if it is kept, nothing if it is not
 abbrev pub IsStep : Option Bool → Option Line → State → State → Type 0
-IsStep (Some true) (Some line) old new = (a : Answer) × (is_fine a ≡ true) × IsAnswer (fields_of line.text.items) old new a
+IsStep (Some true) (Some line) old new = (a : Answer) × (is_amiss a ≡ false) × IsAnswer (fields_of line.text.items) old new a
 IsStep (Some true) None old new = ⊥
 IsStep (Some false) line old new = new ≡ old
 IsStep None line old new = new ≡ old
 
-abbrev pub GoesIf : Bool → Option Line → State → State → Type 0
-GoesIf true line old new = IsStep (Some true) line old new
-GoesIf false line old new = ⊤
+abbrev pub GoesIf : Bool → Option Bool → Option Line → State → State → Type 0
+GoesIf true keep line old new = IsStep keep line old new
+GoesIf false keep line old new = ⊤
+
+-- there is an answer, and nothing is amiss with it
+abbrev pub IfFine : Option Answer → Type 0
+IfFine (Some a) = is_amiss a ≡ false
+IfFine None = ⊥
 
 -- the state of an MMU that from the start was given those of the first n lines that are kept
 abbrev pub IsAfter : List Line → List Bool → ℕ → State → Type 0

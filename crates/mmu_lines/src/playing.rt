@@ -1,8 +1,8 @@
 // `play`: plays those of some lines that are kept, and then the line behind them.
 
-ghost use Rattle.std.specs.Prelude.{◌≡◌, ⊤, true, IfOk, MatchOption, slice_get};
+ghost use Rattle.std.specs.Prelude.{◌≡◌, ⊤, true, IfOk, IsTrue, MatchOption, slice_get};
 ghost use Rattle.mmu_lines.specs.States.{begun, state_of};
-ghost use Rattle.mmu_lines.specs.Playing.{GoesIf, IsDenied, IsLast, denies, is_fine};
+ghost use Rattle.mmu_lines.specs.Playing.{GoesIf, IfFine, IsDenied, IsLast, denies};
 ghost use Rattle.mmu_requests.specs.Profiles.{plain_with};
 
 use crate::line::Line;
@@ -17,25 +17,28 @@ pub(crate) fn denies(answer: &Answer) -> bool
     matches!(answer, Answer::NotPermitted { .. })
 }
 
-/// Whether an answer is neither `NOT permitted` nor that to a faulty line.
-pub(crate) fn is_fine(answer: Answer) -> bool
-    ensures { result ≡ is_fine answer }
+/// Whether there is an answer, and nothing is amiss with it.
+fn is_fine(answer: Option<Answer>) -> bool
+    ensures { IsTrue result → IfFine answer }
 {
-    !matches!(answer, Answer::NotPermitted { .. } | Answer::Error { .. })
+    match answer {
+        Some(answer) => !answer.is_amiss(),
+        None => false,
+    }
 }
 
-/// Gives a player the line of a number, and returns whether its answer is fine.
+/// Gives a player the line of a number, if it is kept, and returns whether nothing is amiss with its answer.
 ///
 /// # Errors
 /// `AllocError`: the host is out of memory.
-fn go(player: &mut MmuPlayer, lines: &[Line], n: usize) -> Result<bool, AllocError>
-    ensures { IfOk result (λ fine. GoesIf fine (slice_get lines.now n) (state_of player.old) (state_of player.new)) }
+fn go(player: &mut MmuPlayer, lines: &[Line], keeps: &[bool], n: usize) -> Result<bool, AllocError>
+    ensures { IfOk result (λ fine. GoesIf fine (slice_get keeps.now n) (slice_get lines.now n) (state_of player.old) (state_of player.new)) }
 {
-    let Some(line) = lines.get(n) else {
-        return Ok(false);
-    };
-    match player.line(line.text.as_slice())? {
-        Some(answer) => { if is_fine(answer) { Ok(true) } else { Ok(false) } }
+    if keeps.get(n) != Some(&true) {
+        return Ok(true);
+    }
+    match lines.get(n) {
+        Some(line) => Ok(is_fine(player.line(line.text.as_slice())?)),
         None => Ok(false),
     }
 }
@@ -57,7 +60,7 @@ fn end(player: &mut MmuPlayer, lines: &[Line], n: usize) -> Result<Option<Answer
 }
 
 /// Plays those of the first lines that are kept, and then the line behind them. Returns the answer to that one if it is `NOT permitted` and
-/// each one before it is fine.
+/// none before it is amiss.
 ///
 /// # Errors
 /// `AllocError`: the host is out of memory.
@@ -70,7 +73,7 @@ fn play_with(
     ensures { IfOk result (λ answer. MatchOption answer ⊤ (IsDenied lines.now keeps.now)) }
 {
     'lines: for n in 0..keeps.len() {
-        if keeps[n] && !go(player, lines, n)? {
+        if !go(player, lines, keeps, n)? {
             return Ok(None);
         }
     }
@@ -78,7 +81,7 @@ fn play_with(
 }
 
 /// Plays, with a new player, those of the first lines that are kept, and then the line behind them. Returns the answer to that one if it
-/// is `NOT permitted` and each one before it is fine.
+/// is `NOT permitted` and none before it is amiss.
 ///
 /// # Errors
 /// `AllocError`: the host is out of memory.

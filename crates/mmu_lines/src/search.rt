@@ -5,7 +5,7 @@ ghost use Rattle.mmu_lines.specs.Playing.{IsDenied};
 
 use crate::line::Line;
 use crate::player::MmuPlayer;
-use crate::playing::{denies, is_fine, play};
+use crate::playing::{denies, play};
 use line_fields::field_at;
 use mmu_reasons::{Answer, OutcomeLine};
 use std::alloc::{AllocError, Global};
@@ -47,11 +47,19 @@ struct Search {
     played: usize,
 }
 
-/// Gives a player a line, and returns whether its answer is fine; `None` if it is `NOT permitted`.
+/// Whether an answer is without an error; `None` if it is `NOT permitted`.
+fn keep_by(answer: &Answer) -> Option<bool> {
+    if denies(answer) {
+        None
+    } else {
+        Some(!answer.is_amiss())
+    }
+}
+
+/// Gives a player a line, and returns whether it is answered without an error; `None` if the answer is `NOT permitted`.
 fn keep_of(player: &mut MmuPlayer, line: &Line) -> Result<Option<bool>, AllocError> {
     match player.line(line.text.as_slice())? {
-        Some(answer) if denies(&answer) => Ok(None),
-        Some(answer) => Ok(Some(is_fine(answer))),
+        Some(answer) => Ok(keep_by(&answer)),
         None => Ok(Some(false)),
     }
 }
@@ -87,11 +95,16 @@ fn begins_with(line: &Line, word: &[u8]) -> bool {
     }
 }
 
+/// Whether a line is kept, by its number, and its first word is this one.
+fn is_kept_with(keeps: &[bool], n: usize, line: &Line, word: &[u8]) -> bool {
+    keeps.get(n) == Some(&true) && begins_with(line, word)
+}
+
 /// The last line that has this first word, of those that are kept.
 fn last_with(lines: &[Line], keeps: &[bool], word: &[u8]) -> Option<usize> {
     let mut last = None;
     'lines: for (n, line) in lines.iter().enumerate() {
-        if keeps.get(n) == Some(&true) && begins_with(line, word) {
+        if is_kept_with(keeps, n, line, word) {
             last = Some(n);
         }
     }
@@ -149,15 +162,20 @@ fn places_of(alloc: Global, lines: &[Line], keeps: &[bool]) -> Result<Vec<usize>
     Ok(places)
 }
 
+/// Whether a word is another one, or both are numbers of lines.
+fn is_same_word(one: &str, other: Option<&str>, are_numbers: bool) -> bool {
+    match other {
+        Some(other) => are_numbers || one == other,
+        None => false,
+    }
+}
+
 /// Whether two texts differ at most in numbers of lines: in words after `line`.
 fn is_same_text(one: &str, other: &str) -> bool {
     let mut others = other.split(' ');
     let mut is_number = false;
     'words: for word in one.split(' ') {
-        let Some(other) = others.next() else {
-            return false;
-        };
-        if !is_number && word != other {
+        if !is_same_word(word, others.next(), is_number) {
             return false;
         }
         is_number = word == "line";
@@ -194,16 +212,45 @@ fn is_same(one: &Answer, other: &Answer) -> bool {
     }
 }
 
+/// Returns what is left with these lines alone, if the answer is the same.
+fn left(
+    alloc: Global,
+    lines: &[Line],
+    keeps: Vec<bool>,
+    same: &Answer,
+) -> Result<Option<Shrunk>, AllocError>
+    ensures { IfOk result (λ found. MatchOption found ⊤ (λ s. IsDenied lines.now s.keeps.items s.answer)) }
+{
+    match play(alloc, lines, keeps.as_slice())? {
+        Some(answer) if is_same(same, &answer) => Ok(Some(Shrunk {
+            keeps,
+            answer,
+            is_cut: false,
+        })),
+        _ => Ok(None),
+    }
+}
+
+/// Notes that the line of a number is not kept.
+fn leave_out(keeps: &mut Vec<bool>, n: usize) {
+    if let Some(keep) = keeps.get_mut(n) {
+        *keep = false;
+    }
+}
+
 impl Search {
     /// Which lines are kept without those from `at` up to `end`.
     fn without(&self, alloc: Global, end: usize) -> Result<Vec<bool>, AllocError> {
         let mut keeps = Vec::from_slice(alloc, self.found.keeps.as_slice())?;
         'places: for place in self.places.get(self.at..end).unwrap_or(&[]) {
-            if let Some(keep) = keeps.get_mut(*place) {
-                *keep = false;
-            }
+            leave_out(&mut keeps, *place);
         }
         Ok(keeps)
+    }
+
+    /// Whether no removal is left to try, once the last lines were tried.
+    fn is_exhausted(&self) -> bool {
+        self.places.is_empty() || self.size <= 1 && !self.has_removed
     }
 
     /// Goes on to the next lines that are to be tried.
@@ -214,7 +261,7 @@ impl Search {
             return;
         }
         self.at = 0;
-        self.is_done = self.places.is_empty() || self.size <= 1 && !self.has_removed;
+        self.is_done = self.is_exhausted();
         self.size -= self.size / 2;
         self.has_removed = false;
     }
@@ -229,14 +276,7 @@ impl Search {
         ensures { IfOk result (λ found. MatchOption found ⊤ (λ s. IsDenied lines.now s.keeps.items s.answer)) }
     {
         let keeps = self.without(alloc, end)?;
-        match play(alloc, lines, keeps.as_slice())? {
-            Some(answer) if is_same(&self.found.answer, &answer) => Ok(Some(Shrunk {
-                keeps,
-                answer,
-                is_cut: false,
-            })),
-            _ => Ok(None),
-        }
+        left(alloc, lines, keeps, &self.found.answer)
     }
 
     /// Goes on from what was found.
@@ -276,13 +316,9 @@ fn fewer(
     requires { IsDenied lines.now found.keeps.items found.answer }
     ensures { IfOk result (λ s. IsDenied lines.now s.keeps.items s.answer) }
 {
-    match play(alloc, lines, keeps.as_slice())? {
-        Some(answer) if is_same(&found.answer, &answer) => Ok(Shrunk {
-            keeps,
-            answer,
-            is_cut: false,
-        }),
-        _ => Ok(found),
+    match left(alloc, lines, keeps, &found.answer)? {
+        Some(fewer) => Ok(fewer),
+        None => Ok(found),
     }
 }
 

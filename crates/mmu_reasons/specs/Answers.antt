@@ -1,5 +1,5 @@
--- Which answer is that to a faulty line (`IsError`).
-use Rattle.std.specs.Prelude.{⊤}
+-- Which answer is that to a faulty line (`IsError`), or denies what a client tells too (`is_amiss`).
+use Rattle.std.specs.Prelude.{⊤, Bool, false, true}
 use Rattle.mmu_reasons.specs.declared.answers.Answer.{Answer}
 use Rattle.mmu_reasons.specs.declared.answers.Answer.TheVariants as answer
 
@@ -13,3 +13,15 @@ IsError (answer.NoEffect va) = ⊥
 IsError (answer.Outcomes found) = ⊥
 IsError (answer.Permitted line) = ⊥
 IsError (answer.NotPermitted reason permitted) = ⊥
+
+-- an answer is that to a faulty line, or `NOT permitted`
+abbrev pub is_amiss : Answer → Bool
+is_amiss (answer.Error column text) = true
+is_amiss (answer.NotPermitted reason permitted) = true
+is_amiss answer.Ok = false
+is_amiss answer.Version = false
+is_amiss (answer.Satp word) = false
+is_amiss (answer.Locked l) = false
+is_amiss (answer.NoEffect va) = false
+is_amiss (answer.Outcomes found) = false
+is_amiss (answer.Permitted line) = false

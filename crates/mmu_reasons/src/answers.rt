@@ -1,6 +1,7 @@
 // `Answer`: an enum, what is answered to a line; and `put_answer`: an answer as a line of text.
 
-ghost use Rattle.mmu_reasons.specs.Answers.{IsError};
+ghost use Rattle.std.specs.Prelude.{◌≡◌};
+ghost use Rattle.mmu_reasons.specs.Answers.{IsError, is_amiss};
 
 use crate::numbers::{put_hex, put_number};
 use crate::outcomes::{OutcomeLine, put_outcome};
@@ -61,7 +62,9 @@ impl Answer {
     }
 
     /// Whether the line is faulty, or the outcome that a client tells is not permitted.
-    pub fn is_amiss(&self) -> bool {
+    pub fn is_amiss(&self) -> bool
+        ensures { result ≡ is_amiss self.now }
+    {
         matches!(self, Answer::Error { .. } | Answer::NotPermitted { .. })
     }
 }

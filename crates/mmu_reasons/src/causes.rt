@@ -31,39 +31,59 @@ pub(crate) fn mode_text(privilege: Privilege) -> &'static str {
 impl Telling<'_> {
     /// Whether the access may be refused at a physical address, by PMP as it is or was.
     pub(crate) fn may_fail(&self, pa: u64) -> bool {
-        let unit = &self.recorded.unit;
-        let (kind, width) = (self.request.kind, self.request.width);
-        !self.has_byte(pa) || unit.may_fail(unit.now(), self.privilege(), kind, pa, width)
+        if !self.has_byte(pa) {
+            return true;
+        }
+        let (unit, privilege) = (&self.recorded.unit, self.privilege());
+        unit.may_fail(
+            unit.now(),
+            privilege,
+            self.request.kind,
+            pa,
+            self.request.width,
+        )
+    }
+
+    /// The lowest of the PMP entries that match one of some bytes, by its number, and whether it matches all of them.
+    fn matching(&self, pa: u64, width: u64) -> Option<(usize, bool)> {
+        let mut below = 0;
+        'entries: for (number, entry) in self.recorded.unit.pmp().iter().enumerate() {
+            let region = entry.region(below);
+            if region.overlaps(pa, width) {
+                return Some((number, region.contains(pa, width)));
+            }
+            below = entry.address;
+        }
+        None
     }
 
     /// Appends by which PMP entry an access is refused, if the entries as they are refuse it: the lowest that matches one of its bytes.
     fn put_entry(&self, out: &mut Text, privilege: Privilege, access: Access, pa: u64, width: u64) {
-        let entries = self.recorded.unit.pmp();
-        if pmp_permits(entries, privilege, access, pa, width) {
+        if pmp_permits(self.recorded.unit.pmp(), privilege, access, pa, width) {
             return;
         }
-        let mut below = 0;
-        'entries: for (number, entry) in entries.iter().enumerate() {
-            let region = entry.region(below);
-            if region.overlaps(pa, width) {
-                let line = self.recorded.entry_line(number);
-                let how = match (region.contains(pa, width), privilege) {
-                    (false, _) => ", which matches a part of it",
-                    (true, Privilege::Machine) => ", with L 1",
-                    (true, _) => "",
-                };
-                put_number(out, ", by entry ", number as u64);
-                put_number(out, " of line ", line);
-                return out.push_str(how);
-            }
-            below = entry.address;
+        let Some((number, is_whole)) = self.matching(pa, width) else {
+            return out.push_str(", as no entry matches it");
+        };
+        put_number(out, ", by entry ", number as u64);
+        put_number(out, " of line ", self.recorded.entry_line(number));
+        match (is_whole, privilege) {
+            (false, _) => out.push_str(", which matches a part of it"),
+            (true, Privilege::Machine) => out.push_str(", with L 1"),
+            (true, _) => {}
         }
-        out.push_str(", as no entry matches it")
     }
 
-    /// Appends by which PMP entry a walk's access to a PTE is refused.
-    pub(crate) fn put_entry_at(&self, out: &mut Text, access: Access, place: u64) {
-        self.put_entry(out, Privilege::Supervisor, access, place, 8)
+    /// Appends that PMP refuses to read a PTE at a place, and by which entry.
+    pub(crate) fn put_refused_read(&self, out: &mut Text, place: u64, level: u32) {
+        put_hex(out, "PMP refuses to read the PTE at ", place);
+        put_number(out, ", level ", level.into());
+        self.put_entry(out, Privilege::Supervisor, Access::Load, place, 8)
+    }
+
+    /// Appends by which PMP entry a store to a PTE is refused.
+    fn put_entry_at(&self, out: &mut Text, place: u64) {
+        self.put_entry(out, Privilege::Supervisor, Access::Store, place, 8)
     }
 
     /// Appends why the access is refused at a physical address.
@@ -96,7 +116,7 @@ impl Telling<'_> {
         let (place, level) = (place_at(step.ppn, self.index(step.level)), step.level);
         put_hex(out, "step 7: PMP refuses the store to the PTE at ", place);
         put_number(out, ", level ", level.into());
-        self.put_entry_at(out, Access::Store, place)
+        self.put_entry_at(out, place)
     }
 
     /// Appends why a table's PTE is not read.
@@ -104,9 +124,8 @@ impl Telling<'_> {
         let index = self.index(level);
         let place = place_at(table, index);
         if self.recorded.unit.word(table, index).is_some() {
-            put_hex(out, "step 2: PMP refuses to read the PTE at ", place);
-            put_number(out, ", level ", level.into());
-            self.put_entry_at(out, Access::Load, place)
+            out.push_str("step 2: ");
+            self.put_refused_read(out, place, level)
         } else {
             put_hex(out, "step 2: the PTE at ", place);
             put_number(out, ", level ", level.into());
@@ -165,30 +184,34 @@ impl Telling<'_> {
         }
     }
 
+    /// Appends why a hart that sets A and D may not set them in a PTE that lacks them.
+    fn put_unset(&self, out: &mut Text, step: &Step, why: Why) {
+        let index = self.index(step.level);
+        let (word, place) = (step.entry.to_word(), place_at(step.ppn, index));
+        match self.recorded.unit.word(step.ppn, index) {
+            Some(now) if now != word => {
+                put_hex(out, "memory has ", now);
+                put_hex(out, " at ", place);
+                put_hex(out, ", not ", word);
+                out.push_str(": the hart may not set A or D there")
+            }
+            Some(_) if !self.may_set(step) => {
+                put_hex(out, "PMP refuses the store to the PTE at ", place);
+                self.put_entry_at(out, place)
+            }
+            _ => out.push_str(why.text),
+        }
+    }
+
     /// Appends what a leaf lacks by which the access is refused: a right, or that memory has its word where the hart would set A or D.
     fn put_lack_of(&self, out: &mut Text, way: &Way, step: &Step) {
-        let Some(why) = self.wrong_in(step) else {
-            return self.put_access_fault(out, way, true);
-        };
-        if why.step != 7 || !self.extensions.ad.may_update() {
-            return out.push_str(why.text);
+        match self.wrong_in(step) {
+            None => self.put_access_fault(out, way, true),
+            Some(why) if why.step == 7 && self.extensions.ad.may_update() => {
+                self.put_unset(out, step, why)
+            }
+            Some(why) => out.push_str(why.text),
         }
-        let index = self.index(step.level);
-        let Some(now) = self.recorded.unit.word(step.ppn, index) else {
-            return out.push_str(why.text);
-        };
-        let (word, place) = (step.entry.to_word(), place_at(step.ppn, index));
-        if now == word && !self.may_set(step) {
-            put_hex(out, "PMP refuses the store to the PTE at ", place);
-            return self.put_entry_at(out, Access::Store, place);
-        }
-        if now == word {
-            return out.push_str(why.text);
-        }
-        put_hex(out, "memory has ", now);
-        put_hex(out, " at ", place);
-        put_hex(out, ", not ", word);
-        out.push_str(": the hart may not set A or D there")
     }
 
     /// Appends a PTE in words, with the line before which it was there if it is there no more.

@@ -35,6 +35,16 @@ struct Rank {
     moment: usize,
 }
 
+/// How well something fits, of 3, by two conditions, the first of which counts more.
+pub(crate) fn fit_of(first: bool, second: bool) -> u8 {
+    match (first, second) {
+        (true, true) => 3,
+        (true, false) => 2,
+        (false, true) => 1,
+        (false, false) => 0,
+    }
+}
+
 impl Rank {
     fn is_above(&self, other: &Rank) -> bool {
         if self.number != other.number {
@@ -63,12 +73,7 @@ impl Exclusion {
             Some(used) => self.is_of(used.under),
             None => false,
         };
-        match (is_used, &self.what) {
-            (true, Excluded::Pte(_) | Excluded::Pmp) => 3,
-            (true, Excluded::Root) => 2,
-            (false, Excluded::Pte(_) | Excluded::Pmp) => 1,
-            (false, Excluded::Root) => 0,
-        }
+        fit_of(is_used, !matches!(self.what, Excluded::Root))
     }
 
     fn rank(&self, used: &Option<Use>) -> Rank {
@@ -92,13 +97,19 @@ impl Witness {
         false
     }
 
+    /// Whether the PTE of a way at a level, if there is one, was there when addresses were translated.
+    fn was_walked_at(&self, way: &Way, level: u32) -> bool {
+        match step_at(way, level) {
+            Some(step) => self.unfenced.was_walked(&step),
+            None => true,
+        }
+    }
+
     /// Whether each PTE of a way was there when addresses were translated.
     fn was_walked(&self, way: &Way) -> bool {
         'levels: for level in 0..LEVELS {
-            if let Some(step) = step_at(way, level) {
-                if !self.unfenced.was_walked(&step) {
-                    return false;
-                }
+            if !self.was_walked_at(way, level) {
+                return false;
             }
         }
         true

@@ -188,7 +188,7 @@ impl Fences<'_> {
     }
 
     /// The ASID under which walks from a root went, and the last moment at which satp had it.
-    fn asid_of(&self, telling: &Telling<'_>, root: &PastSatp) -> (u16, usize) {
+    fn space_of(&self, telling: &Telling<'_>, root: &PastSatp) -> (u16, usize) {
         let last = telling.recorded.last_had(root, None).unwrap_or(root.last);
         let (asid, _) = telling.recorded.space_at(last);
         (asid, last)
@@ -197,7 +197,7 @@ impl Fences<'_> {
     /// The first fence that excludes a PTE of a way, or its root, so that without it and those after it the way is possible: each PTE on the way is
     /// read as late as can be, before a fence excludes what led to it. How many fences there are, if none does.
     fn excluding(&self, telling: &Telling<'_>, way: &Way, root: &PastSatp) -> (usize, Excluded) {
-        let (asid, last) = self.asid_of(telling, root);
+        let (asid, last) = self.space_of(telling, root);
         let (mut number, mut what) = (self.ending(asid, last), Excluded::Root);
         let mut first = (self.list.len(), Excluded::Root);
         'levels: for n in 0..LEVELS {
@@ -268,7 +268,7 @@ impl Fences<'_> {
         if !self.list.get(number)?.is_beside(va) {
             return None;
         }
-        let (asid, _) = self.asid_of(telling, &root);
+        let (asid, _) = self.space_of(telling, &root);
         'fences: for later in number..self.list.len() {
             if let Some(fence) = self.list.get(later) {
                 if !fence.is_beside(va) && self.covers(telling, asid, step, fence) {

@@ -259,13 +259,14 @@ impl Telling<'_> {
         true
     }
 
+    /// Whether a client tells the virtual address as the physical one, by no PTE.
+    fn is_told_bare(&self, claim: Claim, pa: u64) -> bool {
+        pa == self.request.va.0 && claim.by.is_none() && claim.update.is_none()
+    }
+
     /// Appends that the access is translated, if a client tells the virtual address as the physical one, by no PTE; returns whether it does.
     fn put_translated(&self, out: &mut Text, claim: Claim, pa: u64) -> bool {
-        if self.walk().is_none()
-            || pa != self.request.va.0
-            || claim.by.is_some()
-            || claim.update.is_some()
-        {
+        if self.walk().is_none() || !self.is_told_bare(claim, pa) {
             return false;
         }
         let lead = match self.request.privilege {

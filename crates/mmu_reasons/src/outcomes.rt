@@ -43,7 +43,7 @@ impl By {
 }
 
 /// An outcome of an access, and what it is by.
-#[derive(PartialEq, Eq, Drop)]
+#[derive(Drop)]
 pub struct OutcomeLine {
     pub by: By,
     pub outcome: Outcome,

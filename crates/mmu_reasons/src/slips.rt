@@ -1,13 +1,12 @@
 // What a hart comes to that leaves out one check of the walk over memory as it is, in words: a method of `Telling`.
 
-use crate::numbers::{put_hex, put_number};
 use crate::reasons::Why;
 use crate::telling::Telling;
 use crate::walking::{Slip, walk_without};
 use crate::ways::{LEVELS, end_of, place_at, put_pte, step_at};
 use access_judge::{Log, Step, Way};
 use mmu_requests::{Claim, End};
-use sv39_entry::{Access, Kind, Satp};
+use sv39_entry::{Kind, Satp};
 use text_builder::Text;
 use walk_rules::{leads_to, pmp_permits_read};
 
@@ -55,16 +54,21 @@ impl Telling<'_> {
         }
     }
 
+    /// The level and the place of the PTE of a way at a level, if there is one and PMP refuses to read it.
+    fn unread_at(&self, way: &Way, level: u32) -> Option<(u32, u64)> {
+        let step = step_at(way, level)?;
+        let place = place_at(step.ppn, self.index(step.level));
+        if pmp_permits_read(self.recorded.unit.pmp(), place) {
+            return None;
+        }
+        Some((step.level, place))
+    }
+
     /// Appends which PTE of a way PMP refuses to read.
     fn put_unread(&self, out: &mut Text, way: &Way) {
         'levels: for n in 0..LEVELS {
-            if let Some(step) = step_at(way, LEVELS - 1 - n) {
-                let place = place_at(step.ppn, self.index(step.level));
-                if !pmp_permits_read(self.recorded.unit.pmp(), place) {
-                    put_hex(out, "PMP refuses to read the PTE at ", place);
-                    put_number(out, ", level ", step.level.into());
-                    return self.put_entry_at(out, Access::Load, place);
-                }
+            if let Some((level, place)) = self.unread_at(way, LEVELS - 1 - n) {
+                return self.put_refused_read(out, place, level);
             }
         }
     }

@@ -3,7 +3,7 @@
 ghost use Rattle.std.specs.Prelude.{◌≤◌};
 
 use crate::causes::mode_text;
-use crate::exclusions::Exclusion;
+use crate::exclusions::{Exclusion, fit_of};
 use crate::numbers::{put_hex, put_number};
 use crate::seeking::seek_by;
 use crate::ways::{end_of, offset_bits};
@@ -106,15 +106,10 @@ impl Witness {
         };
         let (mut found, mut best) = (None, 0);
         'uses: for used in self.uses.as_slice() {
-            let fit = match (
+            let fit = fit_of(
                 used.line < exclusion.fence.line,
                 exclusion.is_of(used.under),
-            ) {
-                (true, true) => 3,
-                (true, false) => 2,
-                (false, true) => 1,
-                (false, false) => 0,
-            };
+            );
             if used.is_by(va, step) && fit >= best {
                 found = Some(*used);
                 best = fit;
@@ -146,10 +141,7 @@ impl Witness {
     ) -> Option<Step>
         requires { 1 ≤ request.width }
     {
-        let Some(word) = by else {
-            return None;
-        };
-        match seek_by(&self.unspaced.unit, extensions, request, word) {
+        match seek_by(&self.unspaced.unit, extensions, request, by?) {
             Some(told) => end_of(extensions, &told.way),
             None => None,
         }

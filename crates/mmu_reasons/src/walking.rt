@@ -13,7 +13,7 @@ use text_builder::Text;
 use walk_rules::{Extensions, leads_to, pmp_permits_read, reach, top_level};
 
 /// A check that a hart may leave out.
-#[derive(Clone, Copy, PartialEq, Eq)]
+#[derive(Clone, Copy)]
 pub(crate) enum Slip {
     /// None is left out.
     None,
@@ -21,6 +21,16 @@ pub(crate) enum Slip {
     Pmp,
     /// Which bits a pointer must not have.
     Pointer,
+}
+
+/// Whether PMP as it is lets a walk read a PTE, or the check is left out.
+fn is_readable(recorded: &Recorded, table: u64, index: usize, slip: Slip) -> bool {
+    match slip {
+        Slip::Pmp => true,
+        Slip::None | Slip::Pointer => {
+            pmp_permits_read(recorded.unit.pmp(), place_at(table, index))
+        }
+    }
 }
 
 /// Reads the PTE for an address in a table, to which a global pointer led or not; `None`: it is outside the memory, or PMP refuses.
@@ -34,7 +44,7 @@ fn read(
 ) -> Option<Step> {
     let (unit, index) = (&recorded.unit, va.page().index(level));
     let entry = Entry::from_word(unit.word(table, index)?);
-    if slip != Slip::Pmp && !pmp_permits_read(unit.pmp(), place_at(table, index)) {
+    if !is_readable(recorded, table, index, slip) {
         return None;
     }
     Some(Step {
@@ -48,9 +58,14 @@ fn read(
     })
 }
 
-/// Whether a PTE has none of R, W and X.
-fn has_no_right(entry: Entry) -> bool {
-    entry.to_word() % 16 < 2
+/// Whether a walk goes on below a PTE: a pointer, or what has none of R, W and X, if the check of a pointer is left out.
+fn is_passed(extensions: Extensions, entry: Entry, level: u32, slip: Slip) -> bool
+    requires { level ≤ 4 }
+{
+    match slip {
+        Slip::Pointer if entry.to_word() % 16 < 2 => true,
+        _ => extensions.kind(entry, level) == Kind::Pointer,
+    }
 }
 
 /// The PTEs, by level, that a walk reads from the root's table on, whose PTEs have level `top`.
@@ -70,11 +85,10 @@ fn steps_now(
         let Some(step) = read(recorded, va, table, level, global, slip) else {
             return steps;
         };
-        let is_pointer = extensions.kind(step.entry, level) == Kind::Pointer
-            || (slip == Slip::Pointer && has_no_right(step.entry));
+        let goes_on = is_passed(extensions, step.entry, level, slip);
         (table, global) = (step.entry.ppn(), step.global);
         steps[level as usize] = Some(step);
-        if !is_pointer {
+        if !goes_on {
             return steps;
         }
     }
@@ -148,12 +162,15 @@ pub fn put_walk_steps(out: &mut Text, recorded: &Recorded, extensions: Extension
     }
 }
 
-/// Whether a PTE is the one that the walk for an address reads in its table.
-fn is_read(recorded: &Recorded, va: Va, step: &Step) -> bool {
-    let unit = &recorded.unit;
-    step.last == unit.now()
-        && step.index == va.page().index(step.level)
-        && pmp_permits_read(unit.pmp(), place_at(step.ppn, step.index))
+/// Whether the PTE of a way at a level, if there is one, is the one that the walk for an address reads in its table.
+fn is_read(recorded: &Recorded, va: Va, way: &Way, level: u32) -> bool {
+    let Some(step) = step_at(way, level) else {
+        return true;
+    };
+    if step.last != recorded.unit.now() || step.index != va.page().index(step.level) {
+        return false;
+    }
+    is_readable(recorded, step.ppn, step.index, Slip::None)
 }
 
 /// Whether a way to a PTE at which a walk stops is the walk for an address over memory, satp and PMP as they are.
@@ -166,10 +183,8 @@ fn is_walk(recorded: &Recorded, extensions: Extensions, va: Va, way: &Way) -> bo
         return false;
     }
     'levels: for level in 0..LEVELS {
-        if let Some(step) = step_at(way, level) {
-            if !is_read(recorded, va, &step) {
-                return false;
-            }
+        if !is_read(recorded, va, way, level) {
+            return false;
         }
     }
     true

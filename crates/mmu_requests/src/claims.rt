@@ -36,16 +36,15 @@ impl<'a> Fields<'a> {
         ensures value { IsTypeAt (fields_of self.now.line.now) n result.0 result.1 }
         ensures few { result.1 ≤ n + 1 }
     {
-        if self.has_text(n, b"pma") {
-            return (Some(MemoryType::Pma), n + 1);
+        let Some(place) = field_at(self.line, n) else {
+            return (None, n);
+        };
+        match place.bytes {
+            b"pma" => (Some(MemoryType::Pma), n + 1),
+            b"nc" => (Some(MemoryType::Nc), n + 1),
+            b"io" => (Some(MemoryType::Io), n + 1),
+            _ => (None, n),
         }
-        if self.has_text(n, b"nc") {
-            return (Some(MemoryType::Nc), n + 1);
-        }
-        if self.has_text(n, b"io") {
-            return (Some(MemoryType::Io), n + 1);
-        }
-        (None, n)
     }
 
     /// What came of the access, from field 5 on, and the number of the field after it.
@@ -104,6 +103,13 @@ impl<'a> Fields<'a> {
         ensures faulty { IfErr result (λ e. IfMistake e ((c : Claim) → IsClaim (fields_of self.now.line.now) (Some c) → ⊥)) }
     {
         let (end, after) = self.end()?;
+        if field_at(self.line, after).is_none() {
+            return Ok(Claim {
+                end,
+                update: None,
+                by: None,
+            });
+        }
         let (update, after) = self.update(after)?;
         let (by, after) = self.by(after)?;
         if field_at(self.line, after).is_some() {
@@ -117,12 +123,12 @@ impl<'a> Fields<'a> {
         ensures ok { IfOk result (IsClaim (fields_of self.now.line.now)) }
         ensures faulty { IfErr result (λ e. IfMistake e ((c : Option Claim) → IsClaim (fields_of self.now.line.now) c → ⊥)) }
     {
-        if field_at(self.line, 4).is_none() {
+        let Some(place) = field_at(self.line, 4) else {
             return Ok(None);
+        };
+        match place.bytes {
+            b"=>" => Ok(Some(self.told()?)),
+            _ => Err(self.wrong(4, "after MODE comes nothing, or \"=>\" and an outcome")),
         }
-        if !self.has_text(4, b"=>") {
-            return Err(self.wrong(4, "after MODE comes nothing, or \"=>\" and an outcome"));
-        }
-        Ok(Some(self.told()?))
     }
 }

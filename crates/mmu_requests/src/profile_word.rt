@@ -34,12 +34,7 @@ fn of_asid(text: &[u8]) -> Option<ProfileWord>
     ensures text { IfSome result (λ w. IsTextOf w text.now) }
     ensures none { IfNone result ((bits : ℕ) → IsTextOf (words.Asid bits) text.now → ⊥) }
 {
-    let Some((name, digits)) = text.split_at_checked(4) else {
-        return None;
-    };
-    if name != b"asid".as_slice() {
-        return None;
-    }
+    let digits = text.strip_prefix(b"asid".as_slice())?;
     match number(digits) {
         Some(bits) if bits <= 16 => Some(ProfileWord::Asid(bits as u32)),
         _ => None,

@@ -15,11 +15,15 @@ use std::alloc::{AllocError, Global};
 const NO_FILL: &str =
     "no line of protocol 2 says when a hart caches a PTE, or has one cached: an access lists all that the hart may hold. To have an entry of yours judged, end the access with \"=> pa 0x.. by WORD\", WORD being the PTE that the entry holds";
 
+/// Whether a word is one of the first protocol that is gone.
+fn is_gone(word: &[u8]) -> bool {
+    word == b"fill".as_slice() || word == b"lookup".as_slice()
+}
+
 /// The mistake of a first field that is no word.
 fn unknown_word(alloc: Global, place: Place<'_>) -> Result<Mistake, AllocError> {
     let quote = quoted(alloc, place.bytes)?;
-    let is_gone = place.bytes == b"fill".as_slice() || place.bytes == b"lookup".as_slice();
-    let text = if is_gone {
+    let text = if is_gone(place.bytes) {
         format!(in alloc; "{quote} is gone: {NO_FILL}")?
     } else {
         format!(in alloc; "no line begins with {quote}: the words are {ALL}")?
