@@ -6,7 +6,8 @@ ghost use Rattle.line_player.specs.PlayedLines.{Played};
 
 use crate::usertest::difference;
 use grade_reports::{Reason, put_reason as put_wrong, reason_of_text, word_of};
-use lab_host::{Fault, is_among, plain_line};
+use handouts::plain_line;
+use lab_host::{Fault, is_among};
 use line_player::LinePlayer;
 use line_traces::{Ledger, put_trace, trace_line};
 use mmu_lines::{Answer, MmuPlayer, put_answer};

@@ -5,8 +5,8 @@ ghost use Rattle.line_player.specs.Answers.{HasPlayed};
 ghost use Rattle.line_player.specs.PlayedLines.{Played};
 
 use grade_reports::Visible;
-use handouts::{Answer, Asked, Line, blank_count, lines_of};
-use lab_host::{Fault, Place, Printout, plain_line, played, put_lossy, tell_end};
+use handouts::{Answer, Asked, Line, blank_count, lines_of, plain_line};
+use lab_host::{Fault, Place, Printout, played, put_lossy, tell_end};
 use line_player::{LinePlayer, LineReply};
 use std::alloc::AllocError;
 use text_builder::Text;

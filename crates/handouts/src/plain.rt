@@ -1,7 +1,7 @@
 // `plain_line`: a line as `xv6vm` takes it, of one as people write it: without the comment behind it, with numbers for `PROT_READ` and
 // its kin, and bytes without `0x`.
 
-use handouts::without_comment;
+use crate::lines::without_comment;
 use memchr::{memchr, memmem, memrchr};
 use script_language::FieldKind;
 use script_reader::{Row, first_field};
