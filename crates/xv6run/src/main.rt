@@ -1,6 +1,6 @@
-//! The program `xv6run`: plays a script of standard input as `xv6lab run` does. It prints each line with its answer, and below one that
-//! is not the answer which the line expects (`=> ANSWER`) that one. It is small, so that its sources run within a minute; all else that
-//! is asked of a script is a word of `xv6lab`.
+//! The program `xv6run`: plays a script of standard input as `xv6lab run` does. It prints each line with its answer, and below that the
+//! answer that the line expects (`=> ANSWER`), if it is another. The status is 1 if one is, or the script is refused. It is small, so that
+//! its sources run within a minute; all else that is asked of a script is a word of `xv6lab`.
 #![tactic(auto)]
 
 ghost use Rattle.std.specs.Prelude.{IfOk};
@@ -164,6 +164,10 @@ fn run(rt: &HostRuntime) -> io::Result<bool> {
     rt.reader()
         .take(LONGEST_SCRIPT as u64 + 1)
         .read_to_end(&mut script)?;
+    if script.len() > LONGEST_SCRIPT {
+        eprintln!(rt; "-: a script has at most {LONGEST_SCRIPT} bytes")?;
+        return Ok(false);
+    }
     let mut player = LinePlayer::new(rt.alloc())?;
     let ended = play_lines(rt, &mut player, script.as_slice())?;
     match ended.outcome {
